@@ -1,0 +1,63 @@
+//! What opens sources and makes sinks.
+
+ghost use Rattle.std.specs.Prelude.{◌≡◌, ℕ, ◌≤◌, List, [], Option, Some, IfOk, IfSome, IsErrOf};
+ghost use Rattle.ebr_outside.specs.Faults.{Rises};
+ghost use Rattle.ebr_outside.specs.declared.host.HostErr.TheVariants as variants;
+
+use crate::sink::Sink;
+use crate::source::Source;
+use ebr_base::{Bytes, NoMemory};
+use thiserror::Error;
+
+/// Why a host opened nothing.
+#[derive(Clone, Copy, Debug, PartialEq, Eq, Error)]
+pub enum HostErr {
+    /// The call failed; the host counted it.
+    #[error("the host failed")]
+    Failed,
+    /// The allocator had no memory.
+    #[error("out of memory")]
+    NoMemory,
+}
+
+impl From<NoMemory> for HostErr {
+    ghost from_gives = { λ _ error. error ≡ variants.NoMemory };
+
+    fn from(_: NoMemory) -> HostErr {
+        HostErr::NoMemory
+    }
+}
+
+/// Gives what the words of a command line name.
+pub trait Host {
+    type Source: Source;
+
+    type Report: Sink;
+
+    /// The bytes behind a word, where the host tells them.
+    ghost bytes: { Self → List ℕ → Option (List ℕ) };
+
+    /// How many of the host's own calls have failed. It never falls, and stands still at its end,
+    /// 2^64 - 1.
+    ghost faults: { Self → ℕ };
+
+    /// Opens the source that a word names, at its first byte.
+    ///
+    /// `Failed` comes only where the host's count of faults rose in this call, or stands at its
+    /// end.
+    fn source(&mut self, word: &Bytes) -> Result<Self::Source, HostErr>
+        ensures told { IfOk result (λ s.
+            IfSome (bytes self.old word.now) (λ b. Self.Source.left s ≡ Some b)) }
+        ensures fresh { IfOk result (λ s. Self.Source.faults s ≡ 0) }
+        ensures same { (w : List ℕ) → bytes self.new w ≡ bytes self.old w }
+        ensures counted { faults self.old ≤ faults self.new }
+        ensures failed { IsErrOf result HostErr.Failed
+            → Rises (faults self.old) (faults self.new) };
+
+    /// Makes the sink for the report, with no bytes in it.
+    fn report(&mut self) -> Self::Report
+        ensures empty { IfSome (Self.Report.held result) (λ h. h ≡ []) }
+        ensures fresh { Self.Report.faults result ≡ 0 }
+        ensures same { (w : List ℕ) → bytes self.new w ≡ bytes self.old w }
+        ensures counted { faults self.old ≤ faults self.new };
+}

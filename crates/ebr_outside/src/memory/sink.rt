@@ -1,0 +1,73 @@
+//! A sink in memory.
+
+ghost use Rattle.std.specs.Prelude.{◌≡◌, [], ◌++◌, ◌<◌, length, IsTrue, IsErr, IfOk, OnOk, OnErr, Some};
+
+use crate::memory::fail::{Calls, Fail};
+use crate::sink::Sink;
+use crate::source::Failed;
+use ebr_base::{Bytes, List};
+use std::alloc::Global;
+use std::marker::Model;
+
+/// A sink that keeps its bytes and tells them.
+#[derive(Debug, Drop)]
+pub struct MemSink {
+    bytes: Bytes,
+    calls: Calls,
+}
+
+impl Model for MemSink {
+    ghost use Rattle.ebr_outside.specs.Memory.{SinkState};
+
+    ghost Value = { SinkState };
+
+    ghost view = { λ s. record { held = s.bytes; calls = s.calls } };
+}
+
+impl MemSink {
+    ghost use Rattle.ebr_outside.specs.Calls.{none_made};
+
+    /// An empty sink. The writes that `failing` names fail.
+    pub fn new(alloc: Global, failing: List<Fail>) -> MemSink
+        ensures { result ≡ record { held = []; calls = none_made failing } }
+    {
+        MemSink {
+            bytes: Bytes::new(alloc),
+            calls: Calls::new(failing),
+        }
+    }
+
+    /// The bytes that were written.
+    pub fn held(&self) -> &[u8]
+        ensures { result.now ≡ self.now.held }
+    {
+        self.bytes.as_slice()
+    }
+}
+
+impl Sink for MemSink {
+    ghost use Rattle.ebr_outside.specs.Calls.{fails_next, after_call, after_fault};
+
+    ghost held = { λ s. Some s.held };
+
+    ghost faults = { λ s. s.calls.faults };
+
+    /// Takes the whole piece. It fails where this write is named, and where there is no memory for
+    /// the piece.
+    fn write(&mut self, piece: &[u8]) -> Result<usize, Failed>
+        requires { 0 < length piece.now }
+        ensures fails { IsTrue (fails_next self.old.calls) → IsErr result }
+        ensures whole { IfOk result (λ n. n ≡ length piece.now) }
+        ensures grown { OnOk result (self.new.held ≡ self.old.held ++ piece.now) }
+        ensures ok { OnOk result (self.new.calls ≡ after_call self.old.calls) }
+        ensures err { OnErr result
+            (self.new ≡ record self.old { calls = after_fault self.old.calls }) }
+    {
+        self.calls.begin()?;
+        if self.bytes.extend(piece).is_err() {
+            self.calls.count_fault();
+            return Err(Failed);
+        }
+        Ok(piece.len())
+    }
+}

@@ -1,0 +1,29 @@
+//! What bytes are written to.
+
+ghost use Rattle.std.specs.Prelude.{◌≡◌, ℕ, ◌<◌, ◌≤◌, List, Option, length, take, IfOk, OnErr};
+ghost use Rattle.ebr_outside.specs.Faults.{Rises};
+ghost use Rattle.ebr_outside.specs.Sink.{appended};
+
+use crate::source::Failed;
+
+/// Takes bytes in order.
+pub trait Sink: Drop {
+    /// The bytes that were written, where the sink tells them.
+    ghost held: { Self → Option (List ℕ) };
+
+    /// How many calls have failed. It never falls, and stands still at its end, 2^64 - 1.
+    ghost faults: { Self → ℕ };
+
+    /// Takes the first bytes of a piece that isn't empty, at least one, and says how many.
+    ///
+    /// `Failed` comes only where the count of faults rose in this call, or stands at its end; then
+    /// no byte was taken.
+    fn write(&mut self, piece: &[u8]) -> Result<usize, Failed>
+        requires { 0 < length piece.now }
+        ensures some { IfOk result (λ n. (0 < n) × (n ≤ length piece.now)) }
+        ensures grown { IfOk result (λ n.
+            held self.new ≡ appended (held self.old) (take n piece.now)) }
+        ensures kept { OnErr result (held self.new ≡ held self.old) }
+        ensures counted { faults self.old ≤ faults self.new }
+        ensures failed { OnErr result (Rises (faults self.old) (faults self.new)) };
+}
