@@ -1,0 +1,4 @@
+mod Rows
+pub mod TokensLemmas
+pub mod FormsLemmas
+pub mod PiecesLemmas

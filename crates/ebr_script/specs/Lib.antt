@@ -1,0 +1,4 @@
+pub mod Tokens
+pub mod Keywords
+pub mod Forms
+pub mod Pieces
