@@ -1,0 +1,14 @@
+pub mod InOrder
+pub mod Puts
+pub mod Lookups
+pub mod Entries
+pub mod Records
+pub mod Replies
+pub mod Histories
+pub mod Reading
+pub mod Offering
+pub mod Standing
+pub mod Steps
+pub mod Pieces
+pub mod Ends
+pub mod Trying

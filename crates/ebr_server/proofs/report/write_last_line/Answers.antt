@@ -1,0 +1,10 @@
+use Rattle.ebr_server.proofs.report.write_last_line.Goals as goal
+
+pub returns-in-HostFault-clause-part : goal.returns-in-HostFault-clause-part
+returns-in-HostFault-clause-part g c = rw (c.in-HostFault.is, ← c.word_at.ensures) c.write_line-in-HostFault.ensures.part
+
+pub returns-in-HostFault-clause-whole : goal.returns-in-HostFault-clause-whole
+returns-in-HostFault-clause-whole g c = rw (c.in-HostFault.is, ← c.word_at.ensures) c.write_line-in-HostFault.ensures.whole
+
+pub returns-in-NoMemory-clause-whole : goal.returns-in-NoMemory-clause-whole
+returns-in-NoMemory-clause-whole g c = rw c.in-NoMemory.is c.write_line-in-NoMemory.ensures.whole

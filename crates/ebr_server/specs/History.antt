@@ -1,0 +1,67 @@
+-- Histories: the asks of all sessions in one order, with their answers.
+use Rattle.std.specs.Prelude.{◌≡◌, ◌==◌, Bool, IsSome, List, [], ◌∷◌, map, filter}
+use Rattle.ebr_base.specs.declared.numbers.SessionId.{SessionId}
+use Rattle.ebr_server.specs.declared.ask.Ask.{Ask}
+use Rattle.ebr_server.specs.declared.ask.Ask.TheVariants.{Leave}
+use Rattle.ebr_server.specs.declared.ask.Answer.{Answer}
+use Rattle.ebr_server.specs.declared.ask.Answer.TheVariants.{NoMemory, Stopped}
+use Rattle.ebr_server.specs.declared.ask.Entry.{Entry}
+use Rattle.ebr_server.specs.declared.ask.Exchange.{Exchange}
+use Rattle.ebr_server.specs.Machine.{Database, Reply, session_edition}
+
+-- the database after one entry's ask
+abbrev pub next : Database → Entry → Database
+next db x = (Reply db x.session x.ask).database
+
+-- the database that the asks of a history leave
+abbrev pub After : Database → List Entry → Database
+After db [] = db
+After db (x ∷ history) = After (next db x) history
+
+abbrev pub IsLive : Database → SessionId → Type 0
+IsLive db s = IsSome (session_edition db s)
+
+-- After want of memory every ask is answered Stopped, and its entry holds Leave.
+abbrev pub AllStopped : Database → List Entry → Type 0
+AllStopped db [] = Unit {0}
+AllStopped db (x ∷ history) = IsLive db x.session × (x.ask ≡ Leave) × (x.answer ≡ Stopped) × AllStopped (next db x) history
+
+-- an answer after which the session goes on
+abbrev pub GoesOn : Answer → Type 0
+GoesOn NoMemory = ⊥
+GoesOn Stopped = ⊥
+GoesOn answer = Unit {0}
+
+-- an answer after which the session has ended
+abbrev pub EndsRun : Answer → Type 0
+EndsRun NoMemory = Unit {0}
+EndsRun Stopped = Unit {0}
+EndsRun answer = ⊥
+
+-- An answer is the machine's reply, and then the history goes on; or it is want of memory.
+abbrev pub Answered : Answer → Answer → Type 0 → Type 0 → Type 0
+Answered NoMemory reply on stopped = stopped
+Answered answer reply on stopped = (answer ≡ reply) × on
+
+-- Each entry's session is live where it stands, and its answer is the reply in the database that the entries before
+-- it leave. One entry may be answered NoMemory instead, and then all entries after it are Stopped.
+abbrev pub Legal : Database → List Entry → Type 0
+Legal db [] = Unit {0}
+Legal db (x ∷ history) =
+    IsLive db x.session × Answered x.answer (Reply db x.session x.ask).answer (Legal (next db x) history) (AllStopped (next db x) history)
+
+abbrev pub is_of : SessionId → Entry → Bool
+is_of s x = x.session.0 == s.0
+
+abbrev pub exchange : Entry → Exchange
+exchange x = record { ask = x.ask; answer = x.answer }
+
+-- what one session sees of a history
+abbrev pub Mine : List Entry → SessionId → List Exchange
+Mine history s = map exchange (filter (is_of s) history)
+
+abbrev pub asks : List Exchange → List Ask
+asks = map (λ x. x.ask)
+
+abbrev pub answers : List Exchange → List Answer
+answers = map (λ x. x.answer)

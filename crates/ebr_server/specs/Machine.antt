@@ -1,0 +1,82 @@
+-- The edition machine: what the database is, and what it replies to each ask.
+use Rattle.std.specs.Prelude.{ℕ, zero, suc, ◌-◌, List, [], ◌∷◌, ◌++◌, Option, Some, None, slice_get, slice_set, replicate}
+use Rattle.ebr_base.specs.declared.numbers.EditionNo.{EditionNo}
+use Rattle.ebr_base.specs.declared.numbers.SessionId.{SessionId}
+use Rattle.ebr_base.specs.declared.code.Code.{Code}
+use Rattle.ebr_base.specs.declared.code.Code.TheVariants.{Ora, Ebr}
+use Rattle.ebr_script.specs.declared.piece.FirstForm.{FirstForm}
+use Rattle.ebr_script.specs.declared.piece.FirstForm.TheVariants.{CreateProcedure}
+use Rattle.ebr_server.specs.declared.ask.Ask.{Ask}
+use Rattle.ebr_server.specs.declared.ask.Ask.TheVariants.{Begin, Ddl, EndCall, Leave}
+use Rattle.ebr_server.specs.declared.ask.Answer.{Answer}
+use Rattle.ebr_server.specs.declared.ask.Answer.TheVariants.{View, Done, Refused}
+use Rattle.ebr_server.specs.declared.ask.Procedure.{Procedure}
+use Rattle.ebr_server.specs.Catalogue.{Record, Object, Catalogue, catalogue_of, Visible, unit_key}
+use Rattle.ebr_server.specs.Catalogue as catalogue
+
+-- A session that has left has no edition.
+pub record Session : Type 0 where
+  pub edition : Option EditionNo
+
+-- All that the machine knows is read off the records; the sessions are numbered from 1.
+pub record Database : Type 0 where
+  pub records : List Record
+  pub sessions : List Session
+
+-- the database of these records with n sessions in the default edition
+abbrev pub Build : List Record → ℕ → Database
+Build records n = record { records = records; sessions = replicate n (record { edition = Some (catalogue_of records).default }) }
+
+-- The new database, the answer, and the records that were made.
+pub record Replied : Type 0 where
+  pub database : Database
+  pub answer : Answer
+  pub records : List Record
+
+abbrev pub edition_of : Option Session → Option EditionNo
+edition_of None = None
+edition_of (Some x) = x.edition
+
+-- the session of a number; none has the number 0
+abbrev pub session_at : List Session → ℕ → Option Session
+session_at sessions zero = None
+session_at sessions (suc n) = slice_get sessions n
+
+-- the edition of a live session
+abbrev pub session_edition : Database → SessionId → Option EditionNo
+session_edition db s = edition_of (session_at db.sessions s.0)
+
+abbrev pub unchanged : Database → Answer → Replied
+unchanged db a = record { database = db; answer = a; records = [] }
+
+abbrev pub refused : Database → Code → Replied
+refused db code = unchanged db (Refused code 0 [])
+
+abbrev pub recorded : Database → Record → Replied
+recorded db r = record { database = record db { records = db.records ++ r ∷ [] }; answer = Done; records = r ∷ [] }
+
+abbrev pub created : Option Procedure → Database → EditionNo → List ℕ → Replied
+created (Some p) db e text = refused db (Ora 955)
+created None db e text = recorded db (Object e text)
+
+-- A procedure is made where none of its name is visible.
+abbrev pub defined : Database → EditionNo → FirstForm → List ℕ → Replied
+defined db e (CreateProcedure name line) text = created (Visible (catalogue_of db.records) e (unit_key name)) db e text
+defined db e form text = refused db (Ebr 1)
+
+abbrev pub left : Database → SessionId → Replied
+left db s = unchanged (record db { sessions = slice_set db.sessions (s.0 - 1) (record { edition = None }) }) Done
+
+abbrev pub reply_in : Database → SessionId → EditionNo → Ask → Replied
+reply_in db s e Begin = unchanged db (View (catalogue.View (catalogue_of db.records) e))
+reply_in db s e (Ddl what text) = defined db e what text
+reply_in db s e (EndCall failed) = unchanged db Done
+reply_in db s e Leave = left db s
+
+abbrev pub reply_of : Option EditionNo → Database → SessionId → Ask → Replied
+reply_of None db s ask = refused db (Ebr 15)
+reply_of (Some e) db s ask = reply_in db s e ask
+
+-- One ask of one session is one step of the machine.
+abbrev pub Reply : Database → SessionId → Ask → Replied
+Reply db s ask = reply_of (session_edition db s) db s ask

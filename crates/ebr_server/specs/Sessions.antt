@@ -1,0 +1,126 @@
+-- What a session asks and prints, by its script and the answers that it is given.
+use Rattle.std.specs.Prelude.{ℕ, zero, suc, true, false, List, [], ◌∷◌, ◌++◌, codes, Option, Some, None, find}
+use Rattle.std.specs.Str.{bytes_eq}
+use Rattle.ebr_base.specs.declared.code.Code.TheVariants.{Ora, Ebr}
+use Rattle.ebr_base.specs.Code.{code_text}
+use Rattle.ebr_script.specs.declared.piece.FirstForm.{FirstForm}
+use Rattle.ebr_script.specs.declared.piece.FirstForm.TheVariants.{CreateProcedure, Call, Other}
+use Rattle.ebr_script.specs.declared.piece.FirstPiece.{FirstPiece}
+use Rattle.ebr_script.specs.Pieces.{cut, text_of}
+use Rattle.ebr_server.specs.declared.ask.Ask.{Ask}
+use Rattle.ebr_server.specs.declared.ask.Ask.TheVariants.{Begin, Ddl, EndCall, Leave}
+use Rattle.ebr_server.specs.declared.ask.Answer.{Answer}
+use Rattle.ebr_server.specs.declared.ask.Answer.TheVariants.{View, Done, Refused, NoMemory, Stopped}
+use Rattle.ebr_server.specs.declared.ask.Procedure.{Procedure}
+
+-- Where a session stands: the asks it made, what it printed, the answers still to come, and after how many of them it
+-- quits, if it does.
+pub record State : Type 0 where
+  pub asks : List Ask
+  pub printed : List ℕ
+  pub given : List Answer
+  pub quit : Option ℕ
+
+-- Waiting: an ask is out that was given no answer.
+pub data Flow : Type 0 where
+  Normal : Flow
+  Ended : Flow
+  Waiting : Flow
+
+pub record Outcome : Type 0 where
+  pub state : State
+  pub flow : Flow
+
+abbrev pub Step : Type 0
+Step = State → Outcome
+
+abbrev pub ended : State → Flow → Outcome
+ended σ f = record { state = σ; flow = f }
+
+abbrev pub go_on : Flow → Outcome → Step → Outcome
+go_on Normal o k = k o.state
+go_on f o k = o
+
+-- the second where the first ends normally
+abbrev pub then_run : Outcome → Step → Outcome
+then_run o k = go_on o.flow o k
+
+abbrev pub one_less : Option ℕ → Option ℕ
+one_less None = None
+one_less (Some zero) = Some zero
+one_less (Some (suc n)) = Some n
+
+abbrev pub with_ask : Ask → State → State
+with_ask a σ = record σ { asks = σ.asks ++ a ∷ [] }
+
+abbrev pub next_answer : List Answer → State → (Answer → Step) → Outcome
+next_answer [] σ k = ended σ Waiting
+next_answer (x ∷ given) σ k = k x (record σ { given = given; quit = one_less σ.quit })
+
+-- The answer to Leave ends the session.
+abbrev pub leaving : Step
+leaving σ = next_answer σ.given (with_ask Leave σ) (λ x σ'. ended σ' Ended)
+
+-- Want of memory and what comes after it end the session, and nothing more is printed.
+abbrev pub on_answer : Answer → (Answer → Step) → Step
+on_answer NoMemory k σ = ended σ Ended
+on_answer Stopped k σ = ended σ Ended
+on_answer x k σ = k x σ
+
+abbrev pub asked_unless : Option ℕ → Ask → (Answer → Step) → Step
+asked_unless (Some zero) a k σ = leaving σ
+asked_unless q a k σ = next_answer σ.given (with_ask a σ) (λ x. on_answer x k)
+
+-- An ask, and what is done with its answer; a session that quits asks Leave in its place.
+abbrev pub asked : Ask → (Answer → Step) → Step
+asked a k σ = asked_unless σ.quit a k σ
+
+abbrev pub line_of : List ℕ → List ℕ
+line_of text = text ++ 10 ∷ []
+
+abbrev pub printing : List ℕ → Step
+printing text σ = ended (record σ { printed = σ.printed ++ text }) Normal
+
+-- the line that tells how a request ended
+abbrev pub result_line : List ℕ → Answer → List ℕ
+result_line text Done = line_of text
+result_line text (Refused code steps lines) = line_of (code_text code)
+result_line text x = []
+
+abbrev pub printing_result : List ℕ → Answer → Step
+printing_result text x = printing (result_line text x)
+
+abbrev pub look_up : List ℕ → List Procedure → Option Procedure
+look_up n procedures = find (λ p. bytes_eq n p.name) procedures
+
+-- A block that calls what isn't visible fails its checks and runs nothing.
+abbrev pub run_call : Option Procedure → Step
+run_call None σ = asked (EndCall true) (printing_result (code_text (Ora 6550))) σ
+run_call (Some p) σ = then_run (printing (line_of p.line) σ) (asked (EndCall false) (printing_result (codes "OK")))
+
+abbrev pub begun : List ℕ → Answer → Step
+begun name (View procedures) = run_call (look_up name procedures)
+begun name (Refused code steps lines) = printing (line_of (code_text code))
+begun name x = printing []
+
+-- what a piece asks and prints, by its form and its text
+abbrev pub run_piece : FirstForm → List ℕ → Step
+run_piece (CreateProcedure name line) text = asked (Ddl (CreateProcedure name line) text) (printing_result (codes "OK"))
+run_piece (Call name) text = asked Begin (begun name)
+run_piece Other text = printing (line_of (code_text (Ebr 1)))
+
+-- After the last piece comes Leave.
+abbrev pub run_pieces : List ℕ → List FirstPiece → Step
+run_pieces script [] σ = leaving σ
+run_pieces script (p ∷ pieces) σ = then_run (run_piece p.what (text_of script p) σ) (run_pieces script pieces)
+
+abbrev pub beginning : List Answer → Option ℕ → State
+beginning given quit = record { asks = []; printed = []; given = given; quit = quit }
+
+-- The run of a script with the answers that it is given; with `quit` the session quits after so many of them.
+abbrev pub SessionRun : List ℕ → List Answer → Option ℕ → Outcome
+SessionRun script given quit = run_pieces script (cut script) (beginning given quit)
+
+-- what a script prints against the answers that it is given
+abbrev pub Printed : List ℕ → List Answer → List ℕ
+Printed script given = (SessionRun script given None).state.printed

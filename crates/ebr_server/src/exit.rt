@@ -1,0 +1,38 @@
+//! How a run ends.
+
+ghost use Rattle.std.specs.Prelude.{◌≡◌};
+
+/// How a run ended. A `word` is a place among the words of the command line, counted from 0.
+#[derive(Clone, Copy, Debug, PartialEq, Eq)]
+pub enum ExitCode {
+    /// The script was read to its end and every piece has its reply.
+    Done,
+    /// The words are no form of a command.
+    Usage,
+    /// The host did not open the word, or its source failed.
+    HostFault { word: u32 },
+    /// The report could not be written.
+    SinkFault,
+    /// There was no memory.
+    NoMemory,
+    /// The script of that word has more than `MAX_SCRIPT` bytes.
+    TooLong { word: u32 },
+}
+
+impl ExitCode {
+    ghost use Rattle.ebr_server.specs.Exit.{status_of};
+
+    /// The exit status of the program.
+    pub fn status(&self) -> u8
+        ensures { result ≡ status_of self.now }
+    {
+        match self {
+            ExitCode::Done => 0,
+            ExitCode::Usage => 2,
+            ExitCode::HostFault { .. } => 3,
+            ExitCode::SinkFault => 5,
+            ExitCode::NoMemory => 8,
+            ExitCode::TooLong { .. } => 10,
+        }
+    }
+}
