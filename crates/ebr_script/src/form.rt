@@ -1,7 +1,7 @@
 //! The forms that a piece may have, as tables of parts, and the test whether tokens have a form.
 
 ghost use Rattle.std.specs.Prelude.{◌≡◌, ◌≢◌, ◌<◌, length, None, IfOk};
-ghost use Rattle.ebr_script.specs.Forms.{nothing_found, fitted, filled, create_procedure, call, form_of, stored};
+ghost use Rattle.ebr_script.specs.Forms.{nothing_found, fitted, filled, create_procedure, replace_procedure, create_edition, set_edition, call, form_of, stored};
 
 use crate::keyword::{Keyword, is_key};
 use crate::piece::FirstForm;
@@ -39,6 +39,43 @@ pub const CREATE_PROCEDURE: [Part; 14] = [
     Part::Symbol(b';'),
 ];
 
+/// `CREATE OR REPLACE PROCEDURE name IS BEGIN DBMS_OUTPUT.PUT_LINE('text'); END;`
+pub const REPLACE_PROCEDURE: [Part; 16] = [
+    Part::Key(Keyword::Create),
+    Part::Key(Keyword::Or),
+    Part::Key(Keyword::Replace),
+    Part::Key(Keyword::Procedure),
+    Part::Name,
+    Part::Key(Keyword::Is),
+    Part::Key(Keyword::Begin),
+    Part::Key(Keyword::DbmsOutput),
+    Part::Symbol(b'.'),
+    Part::Key(Keyword::PutLine),
+    Part::Symbol(b'('),
+    Part::Text,
+    Part::Symbol(b')'),
+    Part::Symbol(b';'),
+    Part::Key(Keyword::End),
+    Part::Symbol(b';'),
+];
+
+/// `CREATE EDITION name`
+pub const CREATE_EDITION: [Part; 3] = [
+    Part::Key(Keyword::Create),
+    Part::Key(Keyword::Edition),
+    Part::Name,
+];
+
+/// `ALTER SESSION SET EDITION = name`
+pub const SET_EDITION: [Part; 6] = [
+    Part::Key(Keyword::Alter),
+    Part::Key(Keyword::Session),
+    Part::Key(Keyword::Set),
+    Part::Key(Keyword::Edition),
+    Part::Symbol(b'='),
+    Part::Name,
+];
+
 /// `CALL name()`
 pub const CALL: [Part; 4] = [
     Part::Key(Keyword::Call),
@@ -72,7 +109,16 @@ fn form_of(alloc: Global, tokens: &[Token]) -> Result<FirstForm, NoMemory>
     if let Some(form) = filled(alloc, &CREATE_PROCEDURE, tokens)?.and_then(create_procedure) {
         return Ok(form);
     }
+    if let Some(form) = filled(alloc, &REPLACE_PROCEDURE, tokens)?.and_then(replace_procedure) {
+        return Ok(form);
+    }
     if let Some(form) = filled(alloc, &CALL, tokens)?.and_then(call) {
+        return Ok(form);
+    }
+    if let Some(form) = filled(alloc, &CREATE_EDITION, tokens)?.and_then(create_edition) {
+        return Ok(form);
+    }
+    if let Some(form) = filled(alloc, &SET_EDITION, tokens)?.and_then(set_edition) {
         return Ok(form);
     }
     Ok(FirstForm::Other)
@@ -83,9 +129,33 @@ fn create_procedure(found: Found) -> Option<FirstForm>
 {
     let Found { name, text } = found;
     Some(FirstForm::CreateProcedure {
+        replace: false,
         name: name?,
         line: text?,
     })
+}
+
+fn replace_procedure(found: Found) -> Option<FirstForm>
+    ensures { result ≡ replace_procedure found }
+{
+    let Found { name, text } = found;
+    Some(FirstForm::CreateProcedure {
+        replace: true,
+        name: name?,
+        line: text?,
+    })
+}
+
+fn create_edition(found: Found) -> Option<FirstForm>
+    ensures { result ≡ create_edition found }
+{
+    Some(FirstForm::CreateEdition(found.name?))
+}
+
+fn set_edition(found: Found) -> Option<FirstForm>
+    ensures { result ≡ set_edition found }
+{
+    Some(FirstForm::SetEdition(found.name?))
 }
 
 fn call(found: Found) -> Option<FirstForm>

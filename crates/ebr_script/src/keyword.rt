@@ -8,11 +8,13 @@ use crate::token::Token;
 /// A word of the lexis that a form or the begin of a unit has.
 #[derive(Clone, Copy, Debug, PartialEq, Eq)]
 pub enum Keyword {
+    Alter,
     Begin,
     Call,
     Create,
     DbmsOutput,
     Declare,
+    Edition,
     Editionable,
     End,
     Function,
@@ -22,6 +24,8 @@ pub enum Keyword {
     Procedure,
     PutLine,
     Replace,
+    Session,
+    Set,
     Trigger,
 }
 
@@ -40,11 +44,13 @@ fn keyword_text(key: Keyword) -> &'static [u8]
     ensures { result.now ≡ keyword_text key }
 {
     match key {
+        Keyword::Alter => b"ALTER",
         Keyword::Begin => b"BEGIN",
         Keyword::Call => b"CALL",
         Keyword::Create => b"CREATE",
         Keyword::DbmsOutput => b"DBMS_OUTPUT",
         Keyword::Declare => b"DECLARE",
+        Keyword::Edition => b"EDITION",
         Keyword::Editionable => b"EDITIONABLE",
         Keyword::End => b"END",
         Keyword::Function => b"FUNCTION",
@@ -54,6 +60,8 @@ fn keyword_text(key: Keyword) -> &'static [u8]
         Keyword::Procedure => b"PROCEDURE",
         Keyword::PutLine => b"PUT_LINE",
         Keyword::Replace => b"REPLACE",
+        Keyword::Session => b"SESSION",
+        Keyword::Set => b"SET",
         Keyword::Trigger => b"TRIGGER",
     }
 }

@@ -6,8 +6,16 @@ use std::alloc::Global;
 /// What a piece asks for.
 #[derive(Debug, Drop)]
 pub enum FirstForm {
-    /// `CREATE PROCEDURE name IS BEGIN DBMS_OUTPUT.PUT_LINE('line'); END;`
-    CreateProcedure { name: Name, line: Bytes },
+    /// `CREATE EDITION name`
+    CreateEdition(Name),
+    /// `ALTER SESSION SET EDITION = name`
+    SetEdition(Name),
+    /// `CREATE [OR REPLACE] PROCEDURE name IS BEGIN DBMS_OUTPUT.PUT_LINE('line'); END;`
+    CreateProcedure {
+        replace: bool,
+        name: Name,
+        line: Bytes,
+    },
     /// `CALL name()`
     Call(Name),
     /// Anything else.
@@ -25,7 +33,14 @@ pub struct FirstPiece {
 impl CloneIn for FirstForm {
     fn clone_in(&self, alloc: Global) -> Result<FirstForm, NoMemory> {
         match self {
-            FirstForm::CreateProcedure { name, line } => Ok(FirstForm::CreateProcedure {
+            FirstForm::CreateEdition(name) => Ok(FirstForm::CreateEdition(name.clone_in(alloc)?)),
+            FirstForm::SetEdition(name) => Ok(FirstForm::SetEdition(name.clone_in(alloc)?)),
+            FirstForm::CreateProcedure {
+                replace,
+                name,
+                line,
+            } => Ok(FirstForm::CreateProcedure {
+                replace: *replace,
                 name: name.clone_in(alloc)?,
                 line: line.clone_in(alloc)?,
             }),

@@ -9,16 +9,34 @@ use std::test::Fail;
 /// The form that is expected, and what it holds.
 #[derive(Clone, Copy)]
 enum Form {
+    CreateEdition(&'static [u8]),
+    SetEdition(&'static [u8]),
     CreateProcedure(&'static [u8], &'static [u8]),
+    ReplaceProcedure(&'static [u8], &'static [u8]),
     Call(&'static [u8]),
     Other,
 }
 
 fn is_form(found: &FirstForm, form: Form) -> bool {
     match (found, form) {
-        (FirstForm::CreateProcedure { name, line }, Form::CreateProcedure(n, l)) => {
-            name.as_slice() == n && line.as_slice() == l
-        }
+        (FirstForm::CreateEdition(name), Form::CreateEdition(n))
+        | (FirstForm::SetEdition(name), Form::SetEdition(n)) => name.as_slice() == n,
+        (
+            FirstForm::CreateProcedure {
+                replace: false,
+                name,
+                line,
+            },
+            Form::CreateProcedure(n, l),
+        )
+        | (
+            FirstForm::CreateProcedure {
+                replace: true,
+                name,
+                line,
+            },
+            Form::ReplaceProcedure(n, l),
+        ) => name.as_slice() == n && line.as_slice() == l,
         (FirstForm::Call(name), Form::Call(n)) => name.as_slice() == n,
         (FirstForm::Other, Form::Other) => true,
         _ => false,
@@ -136,6 +154,52 @@ fn forms_are_told(rt: HostRuntime) -> Result<(), Fail> {
         alloc,
         b"create procedure p is begin dbms_output . put_line ( ' b;\xFF' ); end;",
         &[(0, 67, Form::CreateProcedure(b"P", b" b;\xFF"))],
+    )?;
+    Ok(())
+}
+
+#[test]
+fn forms_of_editions_are_told(rt: HostRuntime) -> Result<(), Fail> {
+    let alloc = rt.alloc();
+    check(
+        &rt,
+        alloc,
+        b"create edition V2;alter session set edition=ora$base",
+        &[
+            (0, 17, Form::CreateEdition(b"V2")),
+            (18, 52, Form::SetEdition(b"ORA$BASE")),
+        ],
+    )?;
+    check(
+        &rt,
+        alloc,
+        b"CREATE OR REPLACE PROCEDURE a IS BEGIN DBMS_OUTPUT.PUT_LINE('b'); END;\n/\nCALL a()",
+        &[
+            (0, 71, Form::ReplaceProcedure(b"A", b"b")),
+            (73, 81, Form::Call(b"A")),
+        ],
+    )?;
+    // A unit may begin with `OR REPLACE` that goes on as no form does.
+    check(
+        &rt,
+        alloc,
+        b"CREATE OR PROCEDURE a;CREATE OR REPLACE EDITION b;",
+        &[(0, 21, Form::Other), (22, 49, Form::Other)],
+    )?;
+    // A name is needed, and nothing may follow it.
+    check(&rt, alloc, b"CREATE EDITION;", &[(0, 14, Form::Other)])?;
+    check(&rt, alloc, b"CREATE EDITION set;", &[(0, 18, Form::Other)])?;
+    check(
+        &rt,
+        alloc,
+        b"ALTER SESSION SET EDITION v2;",
+        &[(0, 28, Form::Other)],
+    )?;
+    check(
+        &rt,
+        alloc,
+        b"ALTER SESSION SET EDITION = v2 v3;",
+        &[(0, 33, Form::Other)],
     )?;
     Ok(())
 }

@@ -1,6 +1,6 @@
 -- The entries of a catalogue, and what an edition sees of them.
 use Rattle.std.proofs.Common.{◌≡◌, ℕ, Bool, true, false, List, [], ◌∷◌, ◌++◌, refl, sym, ap, ◌∙◌, subst}
-use Rattle.std.specs.Prelude.{Option, Some, None, if◌then◌else◌}
+use Rattle.std.specs.Prelude.{Option, Some, None, fold, if◌then◌else◌}
 use Rattle.std.specs.List.{list_any}
 use Rattle.std.specs.Str.{bytes_eq}
 use Rattle.std.proofs.lemmas.Bool.{and_parts, both_ways}
@@ -8,11 +8,12 @@ use Rattle.std.proofs.lemmas.Option.{none-some}
 use Rattle.std.proofs.lemmas.Grind.{fold-append}
 use Rattle.std.proofs.lemmas.Slice.Eq.{bytes_eq-Decides}
 use Rattle.ebr_base.specs.declared.numbers.EditionNo.{EditionNo}
+use Rattle.ebr_base.specs.declared.numbers.Stamp.{Stamp}
 use Rattle.ebr_base.specs.declared.object.ObjectKey.{ObjectKey}
 use Rattle.ebr_server.specs.declared.ask.Procedure.{Procedure}
 use Rattle.ebr_server.specs.Catalogue.{ObjectEntry, last_entry, is_entry_of, is_edition, same_class, same_key, unit_key, names_of, with_name, entry_or, visible_along}
 use Rattle.ebr_server.proofs.InOrder.{IsAscending, IsAscending-with_name}
-use Rattle.ebr_server.proofs.Lookups.{none_among-with_name, AreNames}
+use Rattle.ebr_server.proofs.Lookups.{none_among-with_name, AreNames, IsAmong, among-with_name, among-itself}
 
 pub last_entry-append : (entries : List ObjectEntry) (x : ObjectEntry) (e : EditionNo) (key : ObjectKey)
     → last_entry (entries ++ x ∷ []) e key ≡ (if is_entry_of e key x then Some x else last_entry entries e key)
@@ -76,3 +77,32 @@ module _ (entries : List ObjectEntry) (h : AreRegular entries) where
 
   pub visible_names : (es : List EditionNo) → AreNames (names_of entries) (λ m. visible_along entries es (unit_key m))
   visible_names es = record { named = λ m. named_along es (unit_key m); all = none_along es }
+
+-- the entry that a definition makes
+abbrev pub made : EditionNo → Procedure → Stamp → ObjectEntry
+made e p stamp = record { edition = e; key = unit_key p.name; object = Some p; stamp = stamp }
+
+abbrev pub AreMade : List ObjectEntry → Type 0
+AreMade [] = Unit {0}
+AreMade (x ∷ xs) = ((p : Procedure) × (x ≡ made x.edition p x.stamp)) × AreMade xs
+
+pub AreMade-append : (xs : List ObjectEntry) (e : EditionNo) (p : Procedure) (stamp : Stamp) → AreMade xs → AreMade (xs ++ made e p stamp ∷ [])
+AreMade-append [] e p stamp h = ((p, refl), tt)
+AreMade-append (x ∷ xs) e p stamp h = (h.0, AreMade-append xs e p stamp h.1)
+
+-- the names of these entries are among others
+abbrev pub AreAmong : List ObjectEntry → List (List ℕ) → Type 0
+AreAmong [] names = Unit {0}
+AreAmong (x ∷ xs) names = IsAmong x.key.name names × AreAmong xs names
+
+among-fold : (m : List ℕ) (xs : List ObjectEntry) (names : List (List ℕ)) → IsAmong m names → IsAmong m (fold (λ ns x. with_name ns x.key.name) names xs)
+among-fold m [] names at = at
+among-fold m (x ∷ xs) names at = among-fold m xs (with_name names x.key.name) (among-with_name m x.key.name names at)
+
+all_among-fold : (xs : List ObjectEntry) (names : List (List ℕ)) → AreAmong xs (fold (λ ns x. with_name ns x.key.name) names xs)
+all_among-fold [] names = tt
+all_among-fold (x ∷ xs) names =
+    (among-fold x.key.name xs (with_name names x.key.name) (among-itself x.key.name names), all_among-fold xs (with_name names x.key.name))
+
+pub all_among : (entries : List ObjectEntry) → AreAmong entries (names_of entries)
+all_among entries = all_among-fold entries []

@@ -1,20 +1,21 @@
 -- Histories with one more entry.
-use Rattle.std.proofs.Common.{◌≡◌, ◌≢◌, List, [], ◌∷◌, ◌++◌, refl, sym, ap, ◌∙◌, subst, subst₂, append_assoc, append-nil, ◌<◌}
+use Rattle.std.proofs.Common.{ℕ, Bool, true, false, ◌≡◌, ◌≢◌, List, [], ◌∷◌, ◌++◌, refl, sym, ap, ◌∙◌, subst, subst₂, append_assoc, append-nil, ◌<◌}
 use Rattle.std.specs.Prelude.{Option, Some, None, IsSome, vec_len, vec_capacity}
-use Rattle.ebr_script.specs.declared.piece.FirstForm.TheVariants.{CreateProcedure}
+use Rattle.ebr_script.specs.declared.piece.FirstForm.TheVariants.{CreateEdition, CreateProcedure}
 use Rattle.ebr_server.specs.declared.ask.Ask.{Ask}
-use Rattle.ebr_server.specs.declared.ask.Ask.TheVariants.{Begin, Ddl, EndCall, Leave}
+use Rattle.ebr_server.specs.declared.ask.Ask.TheVariants.{Begin, Ddl, SetEdition, EndCall, Leave}
 use Rattle.ebr_server.specs.declared.ask.Procedure.{Procedure}
 use Rattle.ebr_server.specs.Sessions.{look_up}
+use Rattle.ebr_server.specs.Procedures.{number_of}
 use Rattle.ebr_server.specs.declared.ask.Answer.{Answer}
 use Rattle.ebr_server.specs.declared.ask.Answer.TheVariants.{Done, NoMemory}
 use Rattle.ebr_server.specs.declared.ask.Entry.{Entry}
 use Rattle.ebr_server.specs.declared.engine.Engine.{Engine}
+use Rattle.ebr_server.specs.declared.engine.Editions.{Editions}
 use Rattle.ebr_server.specs.Machine.{Database, Reply}
 use Rattle.ebr_server.specs.History.{After, Legal, Answered, IsLive, next}
-use Rattle.ebr_server.specs.Engine.{IsOpen, Answers, IsSpelled, entries, entry_of, session, start, answer_in, answer_to_create, procedures_after}
-use Rattle.ebr_server.proofs.Records.{plain}
-use Rattle.ebr_server.proofs.Replies.{Sees, finds, answer-Reply, Sees-Reply}
+use Rattle.ebr_server.specs.Engine.{IsOpen, Answers, IsSpelled, entries, entry_of, session, start, answer_in, Keeps, answer_to_create, answer_to_create_edition, answer_to_set_edition, editions_after}
+use Rattle.ebr_server.proofs.Replies.{answer-Reply, Keeps-Reply}
 
 pub After-append : (db : Database) (h : List Entry) (x : Entry) → After db (h ++ x ∷ []) ≡ next (After db h) x
 After-append db [] x = refl
@@ -34,57 +35,60 @@ GoesOn-append h x legal live memory same more goes =
     let later : Legal (next (After start h) x) more = subst (λ db. Legal db more) (After-append start h x) goes in
     subst (Legal start) (sym (append_assoc h (x ∷ []) more)) (legal (x ∷ more) (live, answered x.answer _ _ _ memory same later))
 
-answer_to_create-memory : (o : Option Procedure) → answer_to_create o ≢ NoMemory
-answer_to_create-memory None e = cc
-answer_to_create-memory (Some p) e = cc
+answer_to_create-memory : (replace : Bool) (o : Option Procedure) → answer_to_create replace o ≢ NoMemory
+answer_to_create-memory false (Some p) e = cc
+answer_to_create-memory false None e = cc
+answer_to_create-memory true (Some p) e = cc
+answer_to_create-memory true None e = cc
+
+answer_to_create_edition-memory : (o : Option ℕ) → answer_to_create_edition o ≢ NoMemory
+answer_to_create_edition-memory (Some n) e = cc
+answer_to_create_edition-memory None e = cc
+
+answer_to_set_edition-memory : (o : Option ℕ) → answer_to_set_edition o ≢ NoMemory
+answer_to_set_edition-memory (Some n) e = cc
+answer_to_set_edition-memory None e = cc
 
 -- the engine's own answers take no memory
-answer_in-memory : (procedures : List Procedure) (ask : Ask) → answer_in procedures ask ≢ NoMemory
-answer_in-memory procedures Begin e = cc
-answer_in-memory procedures (Ddl (CreateProcedure name line) text) e = answer_to_create-memory (look_up name procedures) e
-answer_in-memory procedures (Ddl form text) e = cc
-answer_in-memory procedures (EndCall failed) e = cc
-answer_in-memory procedures Leave e = cc
+answer_in-memory : (editions : Editions) (ask : Ask) → answer_in editions ask ≢ NoMemory
+answer_in-memory editions Begin e = cc
+answer_in-memory editions (Ddl (CreateProcedure replace name line) text) e = answer_to_create-memory replace (look_up name editions.procedures) e
+answer_in-memory editions (Ddl (CreateEdition name) text) e = answer_to_create_edition-memory (number_of name editions.names) e
+answer_in-memory editions (Ddl form text) e = cc
+answer_in-memory editions (SetEdition name) e = answer_to_set_edition-memory (number_of name editions.names) e
+answer_in-memory editions (EndCall failed) e = cc
+answer_in-memory editions Leave e = cc
 
 -- What the engine has done where it answered without want of memory.
 pub record HasReplied (old new : Engine) (ask : Ask) (answer : Answer) : Type 0 where
   pub entry : entries new ≡ entries old ++ entry_of ask answer ∷ []
-  pub reply : answer ≡ answer_in old.procedures ask
-  pub after : new.procedures ≡ procedures_after old.procedures ask
+  pub reply : answer ≡ answer_in old.editions ask
+  pub after : new.editions ≡ editions_after old.editions ask
   pub room : ask ≢ Leave → vec_len new.history < vec_capacity new.history
 
 module _ (old new : Engine) (ask : Ask) (answer : Answer) (h : IsOpen old) (spelled : IsSpelled ask) (r : HasReplied old new ask answer) where
   abbrev db : Database
   db = After start (entries old)
 
-  sees : Sees db old.procedures
-  sees = record { edition = h.edition; all = h.shows }
-
   memory : answer ≢ NoMemory
-  memory e = answer_in-memory old.procedures ask (sym r.reply ∙ e)
+  memory e = answer_in-memory old.editions ask (sym r.reply ∙ e)
 
   same : answer ≡ (Reply db session ask).answer
-  same = r.reply ∙ sym (answer-Reply db old.procedures sees ask)
+  same = r.reply ∙ sym (answer-Reply db old.editions h.keeps ask)
 
   goes_on : GoesOn (entries new)
-  goes_on = subst GoesOn (sym r.entry) (GoesOn-append (entries old) (entry_of ask answer) h.legal (subst IsSome (sym h.edition) refl) memory same)
+  goes_on = subst GoesOn (sym r.entry) (GoesOn-append (entries old) (entry_of ask answer) h.legal (subst IsSome (sym h.keeps.current) refl) memory same)
 
   leaves : ask ≡ Leave → answer ≡ Done
-  leaves e = r.reply ∙ ap (answer_in old.procedures) e
+  leaves e = r.reply ∙ ap (answer_in old.editions) e
 
   after : After start (entries new) ≡ (Reply db session ask).database
   after = ap (After start) r.entry ∙ After-append start (entries old) (entry_of ask answer)
 
-  sees_after : ask ≢ Leave → Sees (After start (entries new)) new.procedures
-  sees_after stays = subst₂ Sees (sym after) (sym r.after) (Sees-Reply db old.procedures sees ask stays spelled)
-
   stays_open : ask ≢ Leave → IsOpen new
   stays_open stays = record {
     legal = goes_on;
-    edition = (sees_after stays).edition;
-    one_edition = (plain (After start (entries new)).records).one_edition;
-    shows = (sees_after stays).all;
-    finds = finds (After start (entries new)) new.procedures (sees_after stays);
+    keeps = subst₂ Keeps (sym r.after) (sym after) (Keeps-Reply db old.editions h.keeps ask stays spelled);
     room = r.room stays;
   }
 

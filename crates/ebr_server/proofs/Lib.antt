@@ -2,6 +2,8 @@ pub mod InOrder
 pub mod Puts
 pub mod Lookups
 pub mod Entries
+pub mod Lines
+pub mod Views
 pub mod Records
 pub mod Replies
 pub mod Histories

@@ -1,66 +1,163 @@
--- One step of the machine, by the procedures that are visible before it.
-use Rattle.std.proofs.Common.{◌≡◌, ◌≢◌, ℕ, List, [], ◌∷◌, ◌++◌, refl, sym, ap, ◌∙◌, subst}
-use Rattle.std.specs.Prelude.{Option, Some, None}
-use Rattle.ebr_script.specs.declared.piece.FirstForm.TheVariants.{CreateProcedure}
+-- One step of the machine, by the engine's editions before it.
+use Rattle.std.proofs.Common.{◌≡◌, ◌≢◌, ◌<◌, ℕ, suc, Bool, true, false, List, [], ◌∷◌, ◌++◌, length, refl, sym, ap, ◌∙◌, subst, arith, length-append}
+use Rattle.std.specs.Prelude.{Option, Some, None, option_map, fold, slice_set}
+use Rattle.std.specs.List.{filter_map}
+use Rattle.std.proofs.lemmas.List.Elements.{filter_map-append}
+use Rattle.std.proofs.lemmas.Option.{none-some}
+use Rattle.ebr_base.specs.declared.numbers.EditionNo.{EditionNo}
+use Rattle.ebr_script.specs.declared.piece.FirstForm.TheVariants.{CreateEdition, CreateProcedure}
 use Rattle.ebr_script.specs.Forms.{stored}
 use Rattle.ebr_server.specs.declared.ask.Ask.{Ask}
-use Rattle.ebr_server.specs.declared.ask.Ask.TheVariants.{Begin, Ddl, EndCall, Leave}
+use Rattle.ebr_server.specs.declared.ask.Ask.TheVariants.{Begin, Ddl, SetEdition, EndCall, Leave}
 use Rattle.ebr_server.specs.declared.ask.Answer.TheVariants as answer
 use Rattle.ebr_server.specs.declared.ask.Procedure.{Procedure}
-use Rattle.ebr_server.specs.Procedures.{put}
+use Rattle.ebr_server.specs.declared.engine.Editions.{Editions}
+use Rattle.ebr_server.specs.Procedures.{put, number_of, seen_in}
 use Rattle.ebr_server.specs.Sessions.{look_up}
-use Rattle.ebr_server.specs.Catalogue.{Object, catalogue_of, first_edition, with_object, unit_key, Visible, View}
-use Rattle.ebr_server.specs.Machine.{Database, Reply, created, reply_in, reply_of, session_edition}
-use Rattle.ebr_server.specs.Engine.{session, answer_in, answer_to_create, procedures_after, procedures_after_create, IsSpelled}
-use Rattle.ebr_server.proofs.Records.{catalogue_of-append, plain, look_up-View, View-with_procedure, with_procedure}
+use Rattle.ebr_server.specs.Catalogue.{Edition, Object, Catalogue, EditionEntry, catalogue_of, first_edition, with_object, with_entry, with_edition, leaf, edition_named, unit_key, Visible, View}
+use Rattle.ebr_server.specs.Machine.{Database, Session, Reply, created, recorded, edition_created, edition_set, reply_in, reply_of, session_at, edition_of}
+use Rattle.ebr_server.specs.Engine.{session, Keeps, answer_in, answer_to_create, answer_to_create_edition, answer_to_set_edition, editions_after, editions_after_create, editions_after_create_edition, editions_after_set_edition, with_procedure, definition_of, numbered, IsSpelled}
+use Rattle.ebr_server.proofs.Lines.{edition, edition_entry, zero-add, length-numbered, numbered-append, leaf-numbered, named-numbered, number_of-within}
+use Rattle.ebr_server.proofs.Views.{seen_in-here}
+use Rattle.ebr_server.proofs.Records.{catalogue_of-append, look_up-View, View-numbered}
 
--- The one session is live in the first edition, which sees these procedures.
-pub record Sees (db : Database) (procedures : List Procedure) : Type 0 where
-  pub edition : session_edition db session ≡ Some first_edition
-  pub all : procedures ≡ View (catalogue_of db.records) first_edition
+answer-created : (replace : Bool) (o : Option Procedure) (db : Database) (e : EditionNo) (text : List ℕ) → (created replace o db e text).answer ≡ answer_to_create replace o
+answer-created false (Some p) db e text = refl
+answer-created false None db e text = refl
+answer-created true (Some p) db e text = refl
+answer-created true None db e text = refl
 
-answer-created : (o : Option Procedure) (db : Database) (text : List ℕ) → (created o db first_edition text).answer ≡ answer_to_create o
-answer-created None db text = refl
-answer-created (Some p) db text = refl
+answer-edition_created : (o : Option ℕ) (db : Database) (name : List ℕ) → (edition_created (option_map edition o) db name).answer ≡ answer_to_create_edition o
+answer-edition_created (Some n) db name = refl
+answer-edition_created None db name = refl
 
-module _ (db : Database) (procedures : List Procedure) (h : Sees db procedures) where
-  pub finds : (n : List ℕ) → look_up n procedures ≡ Visible (catalogue_of db.records) first_edition (unit_key n)
-  finds n = ap (look_up n) h.all ∙ look_up-View db.records first_edition n
+answer-edition_set : (o : Option ℕ) (db : Database) → (edition_set (option_map edition o) db session).answer ≡ answer_to_set_edition o
+answer-edition_set (Some n) db = refl
+answer-edition_set None db = refl
 
-  answer-reply_in : (ask : Ask) → (reply_in db session first_edition ask).answer ≡ answer_in procedures ask
-  answer-reply_in Begin = ap answer.View (sym h.all)
-  answer-reply_in (Ddl (CreateProcedure name line) text) = answer-created _ db text ∙ ap answer_to_create (sym (finds name))
+-- an edition with this many before it
+abbrev youngest : ℕ → List ℕ → Option EditionNo → EditionEntry
+youngest n name parent = record { number = edition (suc n); name = name; parent = parent }
+
+abbrev last_of : List EditionEntry → EditionNo
+last_of es = fold (λ e (x : EditionEntry). x.number) first_edition es
+
+-- the first session's edition, once it is set
+edition_of-set : (sessions : List Session) (e d : EditionNo) → edition_of (session_at sessions 1) ≡ Some e
+    → edition_of (session_at (slice_set sessions 0 (record { edition = Some d })) 1) ≡ Some d
+edition_of-set [] e d live = absurd (none-some e live)
+edition_of-set (x ∷ sessions) e d live = refl
+
+module _ (db : Database) (editions : Editions) (h : Keeps editions db) where
+  shows : editions.procedures ≡ View (catalogue_of db.records) (edition editions.current)
+  shows =
+      h.procedures
+      ∙ ap (λ ds. seen_in ds editions.current) (sym h.definitions)
+      ∙ sym (View-numbered db.records editions.names editions.current h.names h.exists)
+
+  finds : (n : List ℕ) → look_up n editions.procedures ≡ Visible (catalogue_of db.records) (edition editions.current) (unit_key n)
+  finds n = ap (look_up n) shows ∙ look_up-View db.records (edition editions.current) n
+
+  numbers : (name : List ℕ) → edition_named (catalogue_of db.records) name ≡ option_map edition (number_of name editions.names)
+  numbers name = ap (λ es. edition_named (record { editions = es; entries = []; default = edition 1 }) name) h.names ∙ named-numbered name editions.names
+
+  answer-reply_in : (ask : Ask) → (reply_in db session (edition editions.current) ask).answer ≡ answer_in editions ask
+  answer-reply_in Begin = ap answer.View (sym shows)
+  answer-reply_in (Ddl (CreateProcedure replace name line) text) = answer-created replace _ db _ text ∙ ap (answer_to_create replace) (sym (finds name))
+  answer-reply_in (Ddl (CreateEdition name) text) =
+      ap (λ o. (edition_created o db name).answer) (numbers name) ∙ answer-edition_created (number_of name editions.names) db name
   answer-reply_in (Ddl form text) = refl
+  answer-reply_in (SetEdition name) = ap (λ o. (edition_set o db session).answer) (numbers name) ∙ answer-edition_set (number_of name editions.names) db
   answer-reply_in (EndCall failed) = refl
   answer-reply_in Leave = refl
 
   -- the machine's answer
-  pub answer-Reply : (ask : Ask) → (Reply db session ask).answer ≡ answer_in procedures ask
-  answer-Reply ask = ap (λ e. (reply_of e db session ask).answer) h.edition ∙ answer-reply_in ask
+  pub answer-Reply : (ask : Ask) → (Reply db session ask).answer ≡ answer_in editions ask
+  answer-Reply ask = ap (λ e. (reply_of e db session ask).answer) h.current ∙ answer-reply_in ask
 
-  Sees-created : (name line text : List ℕ) → stored text ≡ CreateProcedure name line → (o : Option Procedure)
-      → Sees (created o db first_edition text).database (procedures_after_create o (record { name = name; line = line }) procedures)
-  Sees-created name line text spelled (Some q) = h
-  Sees-created name line text spelled None = record {
-    edition = h.edition;
-    all =
-        let c = catalogue_of db.records in
-        let p : Procedure = record { name = name; line = line } in
-        let after : catalogue_of (db.records ++ Object first_edition text ∷ []) ≡ with_procedure c p =
-        catalogue_of-append db.records (Object first_edition text) ∙ ap (with_object c first_edition) spelled in
-        ap (put p) h.all ∙ sym (View-with_procedure c (plain db.records) p) ∙ ap (λ d. View d first_edition) (sym after);
+  -- a procedure is made in the session's edition
+  Keeps-procedure : (replace : Bool) (name line text : List ℕ) → stored text ≡ CreateProcedure replace name line
+      → Keeps (with_procedure (record { name = name; line = line }) editions) (recorded db (Object (edition editions.current) text)).database
+  Keeps-procedure replace name line text spelled =
+      let c = catalogue_of db.records in
+      let p : Procedure = record { name = name; line = line } in
+      let after : catalogue_of (db.records ++ Object (edition editions.current) text ∷ []) ≡ with_entry c (edition editions.current) (unit_key name) (Some p) =
+      catalogue_of-append db.records (Object (edition editions.current) text) ∙ ap (with_object c (edition editions.current)) spelled in
+      record {
+        current = h.current;
+        counted = h.counted;
+        exists = h.exists;
+        names = ap (λ (d : Catalogue). d.editions) after ∙ h.names;
+        definitions =
+            ap (λ (d : Catalogue). filter_map definition_of d.entries) after
+            ∙ filter_map-append definition_of c.entries _
+            ∙ ap (λ ds. ds ++ record { edition = editions.current; procedure = p } ∷ []) h.definitions;
+        procedures = ap (put p) h.procedures ∙ sym (seen_in-here editions.definitions p editions.current h.counted);
+      }
+
+  Keeps-created : (replace : Bool) (name line text : List ℕ) → stored text ≡ CreateProcedure replace name line → (replaces : Bool) (o : Option Procedure)
+      → Keeps (editions_after_create replaces o (record { name = name; line = line }) editions) (created replaces o db (edition editions.current) text).database
+  Keeps-created replace name line text spelled false (Some p) = h
+  Keeps-created replace name line text spelled false None = Keeps-procedure replace name line text spelled
+  Keeps-created replace name line text spelled true (Some p) = Keeps-procedure replace name line text spelled
+  Keeps-created replace name line text spelled true None = Keeps-procedure replace name line text spelled
+
+  -- an edition is made
+  Keeps-edition : (name : List ℕ) → Keeps (record editions { names = editions.names ++ name ∷ [] }) (recorded db (Edition name (leaf (catalogue_of db.records)))).database
+  Keeps-edition name =
+      let c = catalogue_of db.records in
+      let names = editions.names in
+      let some : 0 < length names = omega (arith, h.counted, h.exists) in
+      let after : catalogue_of (db.records ++ Edition name (leaf c) ∷ []) ≡ with_edition c name (leaf c) = catalogue_of-append db.records (Edition name (leaf c)) in
+      record {
+        current = h.current;
+        counted = h.counted;
+        exists = let e = length-append names (name ∷ []) in omega (arith, h.exists, e);
+        names =
+            ap (λ (d : Catalogue). d.editions) after
+            ∙ ap (λ es. es ++ youngest (length es) name (Some (last_of es)) ∷ []) h.names
+            ∙ ap (λ k. numbered 0 names ++ youngest k name (Some (last_of (numbered 0 names))) ∷ []) (length-numbered 0 names)
+            ∙ ap (λ o. numbered 0 names ++ youngest (length names) name o ∷ []) (leaf-numbered names some)
+            ∙ ap (λ k. numbered 0 names ++ edition_entry k name ∷ []) (sym (zero-add (length names)))
+            ∙ sym (numbered-append 0 names name);
+        definitions = ap (λ (d : Catalogue). filter_map definition_of d.entries) after ∙ h.definitions;
+        procedures = h.procedures;
+      }
+
+  Keeps-edition_created : (name : List ℕ) (o : Option ℕ) → Keeps (editions_after_create_edition o name editions) (edition_created (option_map edition o) db name).database
+  Keeps-edition_created name (Some n) = h
+  Keeps-edition_created name None = Keeps-edition name
+
+  -- the session's edition is another one
+  Keeps-edition_set : (name : List ℕ) (o : Option ℕ) → number_of name editions.names ≡ o
+      → Keeps (editions_after_set_edition o editions) (edition_set (option_map edition o) db session).database
+  Keeps-edition_set name None is = h
+  Keeps-edition_set name (Some n) is = let within = number_of-within name editions.names n is in record {
+    current = edition_of-set db.sessions (edition editions.current) (edition n) h.current;
+    counted = within.0;
+    exists = within.1;
+    names = h.names;
+    definitions = h.definitions;
+    procedures = refl;
   }
 
-  Sees-reply_in : (ask : Ask) → ask ≢ Leave → IsSpelled ask → Sees (reply_in db session first_edition ask).database (procedures_after procedures ask)
-  Sees-reply_in Begin stays spelled = h
-  Sees-reply_in (Ddl (CreateProcedure name line) text) stays spelled =
+  Keeps-reply_in : (ask : Ask) → ask ≢ Leave → IsSpelled ask → Keeps (editions_after editions ask) (reply_in db session (edition editions.current) ask).database
+  Keeps-reply_in Begin stays spelled = h
+  Keeps-reply_in (Ddl (CreateProcedure replace name line) text) stays spelled =
       let made : Procedure = record { name = name; line = line } in
-      let found = Visible (catalogue_of db.records) first_edition (unit_key name) in
-      subst (λ o. Sees (created found db first_edition text).database (procedures_after_create o made procedures)) (sym (finds name)) (Sees-created name line text spelled found)
-  Sees-reply_in (Ddl form text) stays spelled = h
-  Sees-reply_in (EndCall failed) stays spelled = h
-  Sees-reply_in Leave stays spelled = absurd (stays refl)
+      let found = Visible (catalogue_of db.records) (edition editions.current) (unit_key name) in
+      subst (λ o. Keeps (editions_after_create replace o made editions) (created replace found db (edition editions.current) text).database)
+      (sym (finds name)) (Keeps-created replace name line text spelled replace found)
+  Keeps-reply_in (Ddl (CreateEdition name) text) stays spelled =
+      subst (λ o. Keeps (editions_after_create_edition (number_of name editions.names) name editions) (edition_created o db name).database)
+      (sym (numbers name)) (Keeps-edition_created name (number_of name editions.names))
+  Keeps-reply_in (Ddl form text) stays spelled = h
+  Keeps-reply_in (SetEdition name) stays spelled =
+      subst (λ o. Keeps (editions_after_set_edition (number_of name editions.names) editions) (edition_set o db session).database)
+      (sym (numbers name)) (Keeps-edition_set name (number_of name editions.names) refl)
+  Keeps-reply_in (EndCall failed) stays spelled = h
+  Keeps-reply_in Leave stays spelled = absurd (stays refl)
 
-  -- the procedures that are visible afterwards
-  pub Sees-Reply : (ask : Ask) → ask ≢ Leave → IsSpelled ask → Sees (Reply db session ask).database (procedures_after procedures ask)
-  Sees-Reply ask stays spelled = subst (λ e. Sees (reply_of e db session ask).database (procedures_after procedures ask)) (sym h.edition) (Sees-reply_in ask stays spelled)
+  -- the editions afterwards
+  pub Keeps-Reply : (ask : Ask) → ask ≢ Leave → IsSpelled ask → Keeps (editions_after editions ask) (Reply db session ask).database
+  Keeps-Reply ask stays spelled = subst (λ e. Keeps (editions_after editions ask) (reply_of e db session ask).database) (sym h.current) (Keeps-reply_in ask stays spelled)

@@ -4,7 +4,7 @@ use Rattle.std.specs.Prelude.{map, filter}
 use Rattle.ebr_script.specs.Pieces.{cut, text_of}
 use Rattle.ebr_script.specs.declared.piece.FirstPiece.{FirstPiece}
 use Rattle.ebr_script.specs.declared.piece.FirstForm.{FirstForm}
-use Rattle.ebr_script.specs.declared.piece.FirstForm.TheVariants.{CreateProcedure, Call, Other}
+use Rattle.ebr_script.specs.declared.piece.FirstForm.TheVariants.{CreateEdition, SetEdition, CreateProcedure, Call, Other}
 use Rattle.ebr_server.specs.declared.ask.Ask.{Ask}
 use Rattle.ebr_server.specs.declared.ask.Ask.TheVariants.{Leave}
 use Rattle.ebr_server.specs.declared.ask.Answer.{Answer}
@@ -122,7 +122,9 @@ IsQuiet-printing t rest q = record {
 }
 
 IsQuiet-piece : (what : FirstForm) (text : List ℕ) (rest : Step) → IsQuiet rest → IsQuiet (λ σ. then_run (run_piece what text σ) rest)
-IsQuiet-piece (CreateProcedure name line) text rest q = IsQuiet-asked _ _ rest
+IsQuiet-piece (CreateEdition name) text rest q = IsQuiet-asked _ _ rest
+IsQuiet-piece (SetEdition name) text rest q = IsQuiet-asked _ _ rest
+IsQuiet-piece (CreateProcedure replace name line) text rest q = IsQuiet-asked _ _ rest
 IsQuiet-piece (Call name) text rest q = IsQuiet-asked _ _ rest
 IsQuiet-piece Other text rest q = IsQuiet-printing _ rest q
 

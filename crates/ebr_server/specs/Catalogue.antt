@@ -1,6 +1,6 @@
 -- The catalogue, read off the records of the database, and what an edition sees of it.
 -- Oracle Database Development Guide 19c, Using Edition-Based Redefinition.
-use Rattle.std.specs.Prelude.{ℕ, suc, Bool, true, false, ◌&&◌, if◌then◌else◌, ◌==◌, List, [], ◌∷◌, ◌++◌, Option, Some, None, codes, count_by, fold, reverse}
+use Rattle.std.specs.Prelude.{ℕ, suc, Bool, true, false, ◌&&◌, if◌then◌else◌, ◌==◌, List, [], ◌∷◌, ◌++◌, Option, Some, None, option_map, find, length, codes, count_by, fold, reverse}
 use Rattle.std.specs.Ordering.{nat_cmp}
 use Rattle.std.specs.Cmp.Lexicographic.{slice_cmp}
 use Rattle.std.specs.Str.{bytes_eq}
@@ -16,12 +16,14 @@ use Rattle.ebr_script.specs.declared.piece.FirstForm.TheVariants.{CreateProcedur
 use Rattle.ebr_script.specs.Forms.{stored}
 use Rattle.ebr_server.specs.declared.ask.Procedure.{Procedure}
 
--- What a definition leaves for ever: an object, by the edition it was made in and its stored text.
+-- What a definition leaves for ever: an edition, by its name and its parent; an object, by the edition that it was made
+-- in and its stored text.
 pub data Record : Type 0 where
+  Edition : List ℕ → EditionNo → Record
   Object : EditionNo → List ℕ → Record
 
 -- An edition; the first has no parent, and every other is the child of an earlier one.
-pub record Edition : Type 0 where
+pub record EditionEntry : Type 0 where
   pub number : EditionNo
   pub name : List ℕ
   pub parent : Option EditionNo
@@ -34,7 +36,7 @@ pub record ObjectEntry : Type 0 where
   pub stamp : Stamp
 
 pub record Catalogue : Type 0 where
-  pub editions : List Edition
+  pub editions : List EditionEntry
   pub entries : List ObjectEntry
   pub default : EditionNo
 
@@ -62,17 +64,31 @@ abbrev pub with_entry : Catalogue → EditionNo → ObjectKey → Option Procedu
 with_entry c e key object =
     record c { entries = c.entries ++ record { edition = e; key = key; object = object; stamp = next_stamp c.entries e } ∷ [] }
 
+-- Editions are numbered in the order in which they are made.
+abbrev pub with_edition : Catalogue → List ℕ → EditionNo → Catalogue
+with_edition c name parent =
+    record c { editions = c.editions ++ record { number = record { 0 = suc (length c.editions) }; name = name; parent = Some parent } ∷ [] }
+
 -- what a definition with this text adds
 abbrev pub with_object : Catalogue → EditionNo → FirstForm → Catalogue
-with_object c e (CreateProcedure name line) = with_entry c e (unit_key name) (Some (record { name = name; line = line }))
+with_object c e (CreateProcedure replace name line) = with_entry c e (unit_key name) (Some (record { name = name; line = line }))
 with_object c e form = c
 
 abbrev pub with_record : Catalogue → Record → Catalogue
+with_record c (Edition name parent) = with_edition c name parent
 with_record c (Object e text) = with_object c e (stored text)
 
 -- the catalogue of a database, by its records in order
 abbrev pub catalogue_of : List Record → Catalogue
 catalogue_of records = fold with_record first_catalogue records
+
+-- The edition of a name.
+abbrev pub edition_named : Catalogue → List ℕ → Option EditionNo
+edition_named c name = option_map (λ (x : EditionEntry). x.number) (find (λ (x : EditionEntry). bytes_eq x.name name) c.editions)
+
+-- The last of the line: the edition that was made last.
+abbrev pub leaf : Catalogue → EditionNo
+leaf c = fold (λ e (x : EditionEntry). x.number) first_edition c.editions
 
 abbrev pub same_class : Class → Class → Bool
 same_class class.Unit class.Unit = true
@@ -91,7 +107,7 @@ abbrev pub last_entry : List ObjectEntry → EditionNo → ObjectKey → Option 
 last_entry entries e key = fold (λ found x. if is_entry_of e key x then Some x else found) None entries
 
 -- An edition, its parent, and so on up the line. The editions are listed from the newest to the oldest.
-abbrev pub line_among : List Edition → Option EditionNo → List EditionNo
+abbrev pub line_among : List EditionEntry → Option EditionNo → List EditionNo
 line_among [] e = []
 line_among (x ∷ older) None = []
 line_among (x ∷ older) (Some e) = elim (is_edition x.number e) [ true ↦ e ∷ line_among older x.parent | false ↦ line_among older (Some e) ]

@@ -1,17 +1,17 @@
 -- The edition machine: what the database is, and what it replies to each ask.
-use Rattle.std.specs.Prelude.{ℕ, zero, suc, ◌-◌, List, [], ◌∷◌, ◌++◌, Option, Some, None, slice_get, slice_set, replicate}
+use Rattle.std.specs.Prelude.{ℕ, zero, suc, ◌-◌, Bool, false, List, [], ◌∷◌, ◌++◌, Option, Some, None, slice_get, slice_set, replicate}
 use Rattle.ebr_base.specs.declared.numbers.EditionNo.{EditionNo}
 use Rattle.ebr_base.specs.declared.numbers.SessionId.{SessionId}
 use Rattle.ebr_base.specs.declared.code.Code.{Code}
 use Rattle.ebr_base.specs.declared.code.Code.TheVariants.{Ora, Ebr}
 use Rattle.ebr_script.specs.declared.piece.FirstForm.{FirstForm}
-use Rattle.ebr_script.specs.declared.piece.FirstForm.TheVariants.{CreateProcedure}
+use Rattle.ebr_script.specs.declared.piece.FirstForm.TheVariants.{CreateEdition, CreateProcedure}
 use Rattle.ebr_server.specs.declared.ask.Ask.{Ask}
-use Rattle.ebr_server.specs.declared.ask.Ask.TheVariants.{Begin, Ddl, EndCall, Leave}
+use Rattle.ebr_server.specs.declared.ask.Ask.TheVariants.{Begin, Ddl, SetEdition, EndCall, Leave}
 use Rattle.ebr_server.specs.declared.ask.Answer.{Answer}
 use Rattle.ebr_server.specs.declared.ask.Answer.TheVariants.{View, Done, Refused}
 use Rattle.ebr_server.specs.declared.ask.Procedure.{Procedure}
-use Rattle.ebr_server.specs.Catalogue.{Record, Object, Catalogue, catalogue_of, Visible, unit_key}
+use Rattle.ebr_server.specs.Catalogue.{Record, Edition, Object, catalogue_of, Visible, unit_key, edition_named, leaf}
 use Rattle.ebr_server.specs.Catalogue as catalogue
 
 -- A session that has left has no edition.
@@ -55,21 +55,36 @@ refused db code = unchanged db (Refused code 0 [])
 abbrev pub recorded : Database → Record → Replied
 recorded db r = record { database = record db { records = db.records ++ r ∷ [] }; answer = Done; records = r ∷ [] }
 
-abbrev pub created : Option Procedure → Database → EditionNo → List ℕ → Replied
-created (Some p) db e text = refused db (Ora 955)
-created None db e text = recorded db (Object e text)
+abbrev pub created : Bool → Option Procedure → Database → EditionNo → List ℕ → Replied
+created false (Some p) db e text = refused db (Ora 955)
+created replace found db e text = recorded db (Object e text)
 
--- A procedure is made where none of its name is visible.
+abbrev pub edition_created : Option EditionNo → Database → List ℕ → Replied
+edition_created (Some e) db name = refused db (Ebr 31)
+edition_created None db name = recorded db (Edition name (leaf (catalogue_of db.records)))
+
+-- A procedure is made in the session's edition where none of its name is visible there, or in its place. An edition is
+-- made where none has its name; it is the child of the leaf.
 abbrev pub defined : Database → EditionNo → FirstForm → List ℕ → Replied
-defined db e (CreateProcedure name line) text = created (Visible (catalogue_of db.records) e (unit_key name)) db e text
+defined db e (CreateProcedure replace name line) text = created replace (Visible (catalogue_of db.records) e (unit_key name)) db e text
+defined db e (CreateEdition name) text = edition_created (edition_named (catalogue_of db.records) name) db name
 defined db e form text = refused db (Ebr 1)
 
+abbrev pub with_session : Database → SessionId → Session → Database
+with_session db s x = record db { sessions = slice_set db.sessions (s.0 - 1) x }
+
+-- The session's edition is another one from now on.
+abbrev pub edition_set : Option EditionNo → Database → SessionId → Replied
+edition_set None db s = refused db (Ora 38802)
+edition_set (Some e) db s = unchanged (with_session db s (record { edition = Some e })) Done
+
 abbrev pub left : Database → SessionId → Replied
-left db s = unchanged (record db { sessions = slice_set db.sessions (s.0 - 1) (record { edition = None }) }) Done
+left db s = unchanged (with_session db s (record { edition = None })) Done
 
 abbrev pub reply_in : Database → SessionId → EditionNo → Ask → Replied
 reply_in db s e Begin = unchanged db (View (catalogue.View (catalogue_of db.records) e))
 reply_in db s e (Ddl what text) = defined db e what text
+reply_in db s e (SetEdition name) = edition_set (edition_named (catalogue_of db.records) name) db s
 reply_in db s e (EndCall failed) = unchanged db Done
 reply_in db s e Leave = left db s
 

@@ -4,11 +4,12 @@ use Rattle.std.specs.Str.{bytes_eq}
 use Rattle.ebr_base.specs.declared.code.Code.TheVariants.{Ora, Ebr}
 use Rattle.ebr_base.specs.Code.{code_text}
 use Rattle.ebr_script.specs.declared.piece.FirstForm.{FirstForm}
-use Rattle.ebr_script.specs.declared.piece.FirstForm.TheVariants.{CreateProcedure, Call, Other}
+use Rattle.ebr_script.specs.declared.piece.FirstForm.TheVariants.{CreateEdition, SetEdition, CreateProcedure, Call, Other}
 use Rattle.ebr_script.specs.declared.piece.FirstPiece.{FirstPiece}
 use Rattle.ebr_script.specs.Pieces.{cut, text_of}
 use Rattle.ebr_server.specs.declared.ask.Ask.{Ask}
 use Rattle.ebr_server.specs.declared.ask.Ask.TheVariants.{Begin, Ddl, EndCall, Leave}
+use Rattle.ebr_server.specs.declared.ask.Ask.TheVariants as ask
 use Rattle.ebr_server.specs.declared.ask.Answer.{Answer}
 use Rattle.ebr_server.specs.declared.ask.Answer.TheVariants.{View, Done, Refused, NoMemory, Stopped}
 use Rattle.ebr_server.specs.declared.ask.Procedure.{Procedure}
@@ -105,7 +106,9 @@ begun name x = printing []
 
 -- what a piece asks and prints, by its form and its text
 abbrev pub run_piece : FirstForm → List ℕ → Step
-run_piece (CreateProcedure name line) text = asked (Ddl (CreateProcedure name line) text) (printing_result (codes "OK"))
+run_piece (CreateEdition name) text = asked (Ddl (CreateEdition name) []) (printing_result (codes "OK"))
+run_piece (SetEdition name) text = asked (ask.SetEdition name) (printing_result (codes "OK"))
+run_piece (CreateProcedure replace name line) text = asked (Ddl (CreateProcedure replace name line) text) (printing_result (codes "OK"))
 run_piece (Call name) text = asked Begin (begun name)
 run_piece Other text = printing (line_of (code_text (Ebr 1)))
 

@@ -105,7 +105,7 @@ pub record Wrote (held : Option (List ℕ)) (written : ℕ) (printed : List ℕ)
 
 -- the text of a definition spells it
 abbrev pub IsText : FirstForm → List ℕ → Type 0
-IsText (CreateProcedure name line) text = stored text ≡ CreateProcedure name line
+IsText (CreateProcedure replace name line) text = stored text ≡ CreateProcedure replace name line
 IsText form text = Unit {0}
 
 -- The engine made one entry for the ask, and the session goes on.

@@ -8,8 +8,10 @@ use ebr_script::FirstForm;
 pub enum Ask {
     /// A call begins.
     Begin,
-    /// A definition; `text` is the stored text of the object that it creates.
+    /// A definition; `text` is the stored text of the object that it creates, and empty where it creates none.
     Ddl { what: FirstForm, text: Bytes },
+    /// The session's edition is to be this one.
+    SetEdition(Name),
     /// The call ends.
     EndCall { failed: bool },
     /// The session ends.

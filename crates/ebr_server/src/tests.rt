@@ -10,6 +10,8 @@ use std::alloc::Global;
 use std::process::Abort;
 use std::test::Fail as TestFail;
 
+mod editions;
+
 type MemOutcome = Outcome<MemSource, MemSink>;
 
 /// Makes a procedure, calls it, and calls one that isn't there.
@@ -17,6 +19,20 @@ const FIRST_CALLS: &[u8] =
     b"CREATE PROCEDURE a IS BEGIN DBMS_OUTPUT.PUT_LINE('a'); END;\n/\nCALL a();\nCALL b();\n";
 
 const FIRST_REPLIES: &[u8] = b"OK\na\nOK\nORA-06550\n";
+
+/// Replaces a procedure in a child edition, and calls it there and in the first one.
+const UPGRADE: &[u8] = b"CREATE PROCEDURE a IS BEGIN DBMS_OUTPUT.PUT_LINE('a'); END;
+/
+CREATE EDITION v2;
+ALTER SESSION SET EDITION = v2;
+CREATE OR REPLACE PROCEDURE a IS BEGIN DBMS_OUTPUT.PUT_LINE('b'); END;
+/
+CALL a();
+ALTER SESSION SET EDITION = ora$base;
+CALL a();
+";
+
+const UPGRADE_REPLIES: &[u8] = b"OK\nOK\nOK\nOK\nb\nOK\nOK\na\nOK\n";
 
 /// The call of this number fails.
 fn at(call: u32) -> Fail {
@@ -85,6 +101,7 @@ fn expect(rt: &impl Abort, outcome: &MemOutcome, code: ExitCode, report: &[u8]) 
 fn definitions_alone_give_the_replies()
     ensures nothing { replies_alone [] ≡ [] }
     ensures calls { replies_alone FIRST_CALLS.now ≡ FIRST_REPLIES.now }
+    ensures upgrade { replies_alone UPGRADE.now ≡ UPGRADE_REPLIES.now }
 {}
 
 #[test]
@@ -115,7 +132,7 @@ fn procedure_is_made_and_called(rt: HostRuntime) -> Result<(), TestFail> {
 
 #[test]
 fn each_piece_has_its_reply(rt: HostRuntime) -> Result<(), TestFail> {
-    let table: [(&[u8], &[u8]); 9] = [
+    let table: [(&[u8], &[u8]); 8] = [
         // a name that is taken, in another case
         (
             b"create procedure A is begin dbms_output.put_line('1'); end;\n/\nCREATE PROCEDURE a IS BEGIN DBMS_OUTPUT.PUT_LINE('2'); END;\n/\ncall a();",
@@ -133,16 +150,11 @@ fn each_piece_has_its_reply(rt: HostRuntime) -> Result<(), TestFail> {
         ),
         // other statements, of which each is refused by itself
         (
-            b"SELECT 1 FROM dual;\nCREATE EDITION v2;\nALTER SESSION SET EDITION = v2;\n;CALL a(1);",
+            b"SELECT 1 FROM dual;\nCREATE EDITION v2 AS CHILD OF ora$base;\nDROP EDITION v2;\n;CALL a(1);",
             b"EBR-0001\nEBR-0001\nEBR-0001\nEBR-0001\nEBR-0001\n",
         ),
         // a reserved word is no name
         (b"CALL begin();CALL procedure();", b"EBR-0001\nEBR-0001\n"),
-        // OR REPLACE isn't there yet
-        (
-            b"CREATE OR REPLACE PROCEDURE a IS BEGIN DBMS_OUTPUT.PUT_LINE('a'); END;\n/\nCALL a();",
-            b"EBR-0001\nORA-06550\n",
-        ),
         // a unit ends with the script
         (
             b"CREATE PROCEDURE z IS BEGIN DBMS_OUTPUT.PUT_LINE('z'); END;",

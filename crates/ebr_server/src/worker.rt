@@ -203,6 +203,42 @@ impl<S: Sink> Worker<S> {
         self.request(engine, Ask::Ddl { what, text }, b"OK")
     }
 
+    /// Makes an edition.
+    fn create_edition(
+        &mut self,
+        alloc: Global,
+        engine: &mut Engine,
+        name: &Name,
+    ) -> Result<(), Halt>
+        requires open { IsOpen engine.old }
+        requires wrote { Wrote (S.held self.old.sink) self.old.written self.old.printed }
+        ensures wrote { Wrote (S.held self.new.sink) self.new.written self.new.printed }
+        ensures does { Does result (asked (Ask.Ddl (FirstForm.CreateEdition name.now) []) (printing_result (codes "OK"))) (entries engine.old) self.old.printed (entries engine.new) self.new.printed }
+        ensures leaves { Leaves result engine.new }
+        ensures counted { S.faults self.old.sink ≤ S.faults self.new.sink }
+        ensures failed { result ≡ Err Halt.SinkFault → Rises (S.faults self.old.sink) (S.faults self.new.sink) }
+        ensures flushed { result ≡ Err Halt.Answered → self.new.written ≡ length self.new.printed }
+    {
+        let what = FirstForm::CreateEdition(name.clone_in(alloc)?);
+        let text = Bytes::new(alloc);
+        self.request(engine, Ask::Ddl { what, text }, b"OK")
+    }
+
+    /// Makes another edition the session's.
+    fn set_edition(&mut self, alloc: Global, engine: &mut Engine, name: &Name) -> Result<(), Halt>
+        requires open { IsOpen engine.old }
+        requires wrote { Wrote (S.held self.old.sink) self.old.written self.old.printed }
+        ensures wrote { Wrote (S.held self.new.sink) self.new.written self.new.printed }
+        ensures does { Does result (asked (Ask.SetEdition name.now) (printing_result (codes "OK"))) (entries engine.old) self.old.printed (entries engine.new) self.new.printed }
+        ensures leaves { Leaves result engine.new }
+        ensures counted { S.faults self.old.sink ≤ S.faults self.new.sink }
+        ensures failed { result ≡ Err Halt.SinkFault → Rises (S.faults self.old.sink) (S.faults self.new.sink) }
+        ensures flushed { result ≡ Err Halt.Answered → self.new.written ≡ length self.new.printed }
+    {
+        let name = name.clone_in(alloc)?;
+        self.request(engine, Ask::SetEdition(name), b"OK")
+    }
+
     /// Calls a procedure: the line that it prints, and how the call ended.
     fn call(&mut self, engine: &mut Engine, name: &Name) -> Result<(), Halt>
         requires open { IsOpen engine.old }
@@ -247,6 +283,8 @@ impl<S: Sink> Worker<S> {
         match what {
             FirstForm::CreateProcedure { .. } => self.create(alloc, engine, what, text),
             FirstForm::Call(name) => self.call(engine, name),
+            FirstForm::CreateEdition(name) => self.create_edition(alloc, engine, name),
+            FirstForm::SetEdition(name) => self.set_edition(alloc, engine, name),
             FirstForm::Other => self.print_code(Code::Ebr(1)),
         }
     }

@@ -12,3 +12,7 @@ returns-clause-nothing c = refl
 pub returns-clause-calls : goal.returns-clause-calls
 unfolding is_letter is_word_byte is_white is_reserved first_tokens cut_within play
 returns-clause-calls c = refl
+
+pub returns-clause-upgrade : goal.returns-clause-upgrade
+unfolding is_letter is_word_byte is_white is_reserved first_tokens cut_within play
+returns-clause-upgrade c = refl

@@ -6,6 +6,6 @@ pub returns-in-Ok : goal.returns-in-Ok
 returns-in-Ok c = answers _ _ _ c.in-Ok.answer c.requires.open c.requires.spelled (record {
   entry = cc;
   reply = c.in-Ok.ensures.answer;
-  after = c.add_entry.ensures.procedures ∙ c.in-Ok.ensures.after;
+  after = c.add_entry.ensures.editions ∙ c.in-Ok.ensures.after;
   room = λ stays. omega (arith, c.in-Ok.ensures.room stays);
 })
