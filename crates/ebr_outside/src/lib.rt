@@ -1,6 +1,9 @@
-//! The outside: what the server reads from and writes to, as traits, and their forms in memory.
+//! The outside: what the server reads from and writes to, as traits, their forms in memory, and those
+//! that are files and the standard output.
 #![tactic(auto)]
 
+mod count;
+mod files;
 mod host;
 mod memory;
 mod sink;
@@ -8,6 +11,7 @@ mod source;
 #[cfg(test)]
 mod tests;
 
+pub use files::{FileHost, FileSource, OutSink};
 pub use host::{Host, HostErr};
 pub use memory::{Fail, MemFile, MemHost, MemSink, MemSource};
 pub use sink::Sink;

@@ -120,3 +120,32 @@ fn a_refusal_of_a_host_is_printed_by_its_cause(rt: HostRuntime) -> Result<(), st
     assert_eq!(rt; text.as_str(), "the host failed, out of memory");
     Ok(())
 }
+
+#[test]
+fn files_that_cannot_be_read_are_faults(rt: HostRuntime) -> Result<(), std::test::Fail> {
+    let alloc = rt.alloc();
+    let mut host = FileHost::new(rt);
+    let rows: [(&[u8], Option<&[u8]>); 6] = [
+        (b"/dev/zero", Some(b"\0\0\0\0")),
+        (b"/dev/null", Some(b"")),
+        (b"/", None),
+        (b"/dev/null/missing", None),
+        (b"/dev/nul\0l", None),
+        (b"\xff", None),
+    ];
+    for (word, want) in rows {
+        let got = first_bytes(alloc, &mut host, word);
+        match want {
+            Some(bytes) => assert_eq!(rt; got?.as_slice(), bytes),
+            None => assert_eq!(rt; got.err(), Some(HostErr::Failed)),
+        }
+    }
+    Ok(())
+}
+
+#[test]
+fn standard_output_takes_bytes(rt: HostRuntime) -> Result<(), std::test::Fail> {
+    let mut report = FileHost::new(rt).report();
+    assert_eq!(rt; report.write(b"\n"), Ok(1));
+    Ok(())
+}

@@ -4,6 +4,7 @@ ghost use Rattle.std.specs.Prelude.{◌≡◌, ◌↔◌, IsTrue, IsErr, OnOk, O
 ghost use Rattle.ebr_outside.specs.Faults.{one_more};
 ghost use Rattle.ebr_outside.specs.Calls.{names, is_named, fails_next, after_call, after_fault, none_made};
 
+use crate::count::one_more;
 use crate::source::Failed;
 use ebr_base::{CloneIn, List, NoMemory};
 use std::alloc::Global;
@@ -86,11 +87,4 @@ fn is_named(failing: &[Fail], call: u64) -> bool
     ensures { result ≡ is_named failing.now call }
 {
     failing.iter().any(|fail| fail.names(call))
-}
-
-/// One more, or the same where the count stands at its end.
-fn one_more(count: u64) -> u64
-    ensures { result ≡ one_more count }
-{
-    count.saturating_add(1)
 }

@@ -1,0 +1,15 @@
+-- The outside of the system, of which a contract sees the faults alone.
+use Rattle.std.specs.Prelude.{ℕ}
+use Rattle.ebr_outside.specs.Faults.{one_more}
+
+-- a file, the standard output, or what opens them: how many of its calls have failed
+pub record FileState : Type 0 where
+  pub faults : ℕ
+
+-- before the first call
+abbrev pub no_faults : FileState
+no_faults = record { faults = 0 }
+
+-- after one more call that failed
+abbrev pub one_fault_more : FileState → FileState
+one_fault_more state = record { faults = one_more state.faults }

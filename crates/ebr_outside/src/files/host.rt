@@ -1,0 +1,85 @@
+//! The host of a process.
+
+ghost use Rattle.std.specs.Prelude.{◌≡◌, IfOk, OnOk, IsErrOf, None};
+
+use crate::count::one_more;
+use crate::files::sink::OutSink;
+use crate::files::source::FileSource;
+use crate::host::{Host, HostErr};
+use ebr_base::Bytes;
+use std::fs::File;
+use std::io::{self, ErrorKind};
+use std::marker::Model;
+
+/// Opens the files of the system, and reports to the standard output. It tells no bytes: what files
+/// there are, and what they hold, is not claimed.
+#[derive(Drop)]
+pub struct FileHost {
+    rt: HostRuntime,
+    faults: u64,
+}
+
+impl Model for FileHost {
+    ghost use Rattle.ebr_outside.specs.Files.{FileState};
+
+    ghost Value = { FileState };
+
+    ghost view = { λ h. record { faults = h.faults } };
+}
+
+impl FileHost {
+    ghost use Rattle.ebr_outside.specs.Files.{no_faults};
+
+    /// The host of this process.
+    pub fn new(rt: HostRuntime) -> FileHost
+        ensures { result ≡ no_faults }
+    {
+        FileHost { rt, faults: 0 }
+    }
+}
+
+impl Host for FileHost {
+    type Source = FileSource;
+
+    type Report = OutSink;
+
+    ghost use Rattle.ebr_outside.specs.Files.{no_faults, one_fault_more};
+
+    ghost bytes = { λ h w. None };
+
+    ghost faults = { λ h. h.faults };
+
+    /// Opens the file whose path the word is, from the current folder on. A word that isn't UTF-8
+    /// is a fault, and so is each error of the system but want of memory.
+    fn source(&mut self, word: &Bytes) -> Result<FileSource, HostErr>
+        ensures fresh { IfOk result (λ s. s ≡ no_faults) }
+        ensures ok { OnOk result (self.new ≡ self.old) }
+        ensures failed { IsErrOf result HostErr.Failed → self.new ≡ one_fault_more self.old }
+        ensures no_memory { IsErrOf result HostErr.NoMemory → self.new ≡ self.old }
+    {
+        match open(&self.rt, word.as_slice()) {
+            Ok(file) => Ok(FileSource::new(file)),
+            Err(error) if error.kind() == ErrorKind::OutOfMemory => Err(HostErr::NoMemory),
+            Err(_) => {
+                self.faults = one_more(self.faults);
+                Err(HostErr::Failed)
+            }
+        }
+    }
+
+    /// The standard output.
+    fn report(&mut self) -> OutSink
+        ensures fresh { result ≡ no_faults }
+        ensures same { self.new ≡ self.old }
+    {
+        OutSink::new(self.rt)
+    }
+}
+
+/// Opens a file for reading.
+fn open(rt: &HostRuntime, path: &[u8]) -> io::Result<File> {
+    let Ok(path) = str::from_utf8(path) else {
+        return Err(ErrorKind::InvalidFilename.into());
+    };
+    File::open(rt, path)
+}
