@@ -8,6 +8,8 @@ use std::alloc::Global;
 use std::process::Abort;
 use std::test::Fail;
 
+mod scripts;
+
 /// The kind of token that is expected, and what it holds.
 #[derive(Clone, Copy)]
 enum Kind {
