@@ -5,7 +5,6 @@ ghost use Rattle.ebr_lexer.specs.Lexis.{is_quote};
 ghost use Rattle.ebr_lexer.specs.Reading.{string_length, undoubled, content_front, text_front, Gives};
 
 use crate::token::{Front, Stop, TokenKind};
-use crate::word::with_room;
 use ebr_base::{Bytes, Code, NoMemory};
 use std::alloc::Global;
 
@@ -86,7 +85,7 @@ fn content_length(spelled: &[u8]) -> usize
 fn undoubled(alloc: Global, spelled: &[u8]) -> Result<Bytes, NoMemory>
     ensures { IfOk result (λ content. content ≡ undoubled false spelled.now) }
 {
-    let mut content = with_room(alloc, spelled)?;
+    let mut content = Bytes::with_room(alloc, spelled.len())?;
     let mut pending = false;
     for byte in spelled {
         if is_quote(*byte) && !pending {

@@ -1,13 +1,13 @@
 //! Words.
 
-ghost use Rattle.std.specs.Prelude.{◌≡◌, ◌≤◌, ◌<◌, length, true, map, [], IfOk};
+ghost use Rattle.std.specs.Prelude.{◌≡◌, ◌≤◌, ◌<◌, length, true, IfOk};
 ghost use Rattle.std.specs.List.{prefix_len};
-ghost use Rattle.ebr_base.specs.Word.{is_letter, is_word_byte, upper};
+ghost use Rattle.ebr_base.specs.Word.{is_letter, is_word_byte};
 ghost use Rattle.ebr_lexer.specs.Lexis.{first_is};
 ghost use Rattle.ebr_lexer.specs.Reading.{word_front, Gives};
 
 use crate::token::{Front, Stop, TokenKind};
-use ebr_base::{Bytes, Code, NoMemory, is_word_byte};
+use ebr_base::{Code, is_word_byte, to_upper_case};
 use std::alloc::Global;
 
 /// The most bytes that a word has.
@@ -25,7 +25,7 @@ pub fn word_front(alloc: Global, bytes: &[u8]) -> Result<Front, Stop>
     if length > MAX_WORD {
         return Err(Stop::Fault(Code::Ebr(23)));
     }
-    let word = upper(alloc, &bytes[..length])?;
+    let word = to_upper_case(alloc, &bytes[..length])?;
     Ok(Front {
         what: Some(TokenKind::Word(word)),
         length,
@@ -38,24 +38,4 @@ fn word_length(bytes: &[u8]) -> usize
     ensures within { result ≤ length bytes.now }
 {
     bytes.iter().take_while(|byte| is_word_byte(**byte)).count()
-}
-
-/// A copy with its ASCII letters in upper case.
-fn upper(alloc: Global, bytes: &[u8]) -> Result<Bytes, NoMemory>
-    ensures { IfOk result (λ word. word ≡ map upper bytes.now) }
-{
-    let mut word = with_room(alloc, bytes)?;
-    for byte in bytes {
-        word.push(byte.to_ascii_uppercase())?;
-    }
-    Ok(word)
-}
-
-/// No bytes, with room for as many as these, so that pushing so many takes no more memory.
-pub fn with_room(alloc: Global, bytes: &[u8]) -> Result<Bytes, NoMemory>
-    ensures { IfOk result (λ room. room ≡ []) }
-{
-    let mut room = Bytes::from_slice(alloc, bytes)?;
-    room.clear();
-    Ok(room)
 }
