@@ -1,0 +1,6 @@
+pub mod Likeness
+pub mod Places
+pub mod FirstPlace
+pub mod Numbers
+pub mod Numerals
+pub mod Told

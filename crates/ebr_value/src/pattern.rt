@@ -1,0 +1,120 @@
+//! LIKE.
+//!
+//! Oracle Database SQL Language Reference 19c, Pattern-matching Conditions. There is no escape character.
+
+ghost use Rattle.std.specs.Prelude.{◌≡◌, ◌∷◌, ◌≤◌, ◌+◌, true, length, drop, IfSome, ◌==◌, ◌||◌};
+ghost use Rattle.std.specs.List.{prefix_len, list_all};
+ghost use Rattle.ebr_value.specs.Patterns.{like, likeness};
+ghost use Rattle.ebr_value.specs.Parts.{in_part, fits};
+ghost use Rattle.ebr_value.specs.Places.{first_place};
+
+use crate::outcome::{Outcome, WRONG_OPERANDS};
+use crate::suffix::from;
+use ebr_base::Value;
+
+/// `x LIKE y`
+pub fn likeness(x: &Value, y: &Value) -> Outcome
+    ensures { result ≡ likeness x.now y.now }
+{
+    match (x, y) {
+        (Value::Text(x), Value::Text(y)) => Ok(Value::Bool(like(y.as_slice(), x.as_slice()))),
+        (Value::Null | Value::Text(_), Value::Null | Value::Text(_)) => Ok(Value::Null),
+        _ => Err(WRONG_OPERANDS),
+    }
+}
+
+/// Whether a text is like a pattern.
+///
+/// The pattern is cut at each `%`, and each part is found as early as it can be, so the work is at most the product of
+/// the lengths.
+fn like(pattern: &[u8], text: &[u8]) -> bool
+    ensures { result ≡ like pattern.now text.now }
+{
+    let first = part_length(pattern);
+    if first == pattern.len() {
+        return fits(pattern, text) && text.len() <= first;
+    }
+    if !fits(&pattern[..first], text) {
+        return false;
+    }
+    let more = from(pattern, first + 1);
+    let rest = from(text, first);
+    like_after(more, rest)
+}
+
+/// Whether a text is like `%` and what follows it.
+fn like_after(pattern: &[u8], text: &[u8]) -> bool
+    ensures { result ≡ like (37 ∷ pattern.now) text.now }
+{
+    let mut at = 0;
+    let mut place = 0;
+    loop {
+        let rest = from(pattern, at);
+        let length = part_length(rest);
+        if length == rest.len() {
+            return ends_like(rest, from(text, place));
+        }
+        match first_fit(&rest[..length], from(text, place)) {
+            Some(skipped) => {
+                at += length + 1;
+                place += skipped + length;
+            }
+            None => return false,
+        }
+    }
+}
+
+/// How many bytes stand before the next `%`.
+fn part_length(pattern: &[u8]) -> usize
+    ensures value { result ≡ prefix_len in_part pattern.now }
+    ensures within { result ≤ length pattern.now }
+{
+    pattern.iter().take_while(|byte| **byte != b'%').count()
+}
+
+/// Whether a byte of a part stands for a byte of a text.
+fn stands_for(byte: u8, one: u8) -> bool
+    ensures { result ≡ (byte == 95 || byte == one) }
+{
+    byte == b'_' || byte == one
+}
+
+/// Whether a part of a pattern fits the front of a text.
+fn fits(part: &[u8], text: &[u8]) -> bool
+    ensures { result ≡ fits part.now text.now }
+{
+    if text.len() < part.len() {
+        return false;
+    }
+    for (i, byte) in part.iter().enumerate() {
+        if !stands_for(*byte, text[i]) {
+            return false;
+        }
+    }
+    true
+}
+
+/// Whether a text ends with a part of a pattern.
+fn ends_like(part: &[u8], text: &[u8]) -> bool
+    requires { list_all in_part part.now ≡ true }
+    ensures { result ≡ like (37 ∷ part.now) text.now }
+{
+    part.len() <= text.len() && fits(part, from(text, text.len() - part.len()))
+}
+
+/// How many bytes of a text stand before the first place where a part of a pattern fits.
+fn first_fit(part: &[u8], text: &[u8]) -> Option<usize>
+    ensures value { result ≡ first_place (fits part.now) text.now }
+    ensures within { IfSome result (λ place. place + length part.now ≤ length text.now) }
+{
+    for place in 0..text.len() {
+        if fits(part, from(text, place)) {
+            return Some(place);
+        }
+    }
+    if part.is_empty() {
+        Some(text.len())
+    } else {
+        None
+    }
+}
