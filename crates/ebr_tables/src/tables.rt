@@ -1,0 +1,154 @@
+//! All tables: how many were made, and the living ones, found by name and in order of id.
+
+ghost use Rattle.std.specs.Prelude.{◌≡◌, ◌<◌, IfOk, IfErr, OnOk, OnErr, slice_get, None};
+ghost use Rattle.std.specs.Option.{option_copied};
+ghost use Rattle.ebr_tables.specs.Tables.{AreTables, no_tables, next_id, table_named, create_refusal, with_table, add_refusal, with_column, remove_answer, refusal_of, without_table, StopsBy};
+
+use crate::definition::{is_bad_table, with_key_not_null};
+use crate::keyed::{MAX_COLUMNS, put, widen};
+use ebr_base::{Code, Column, Name, NoMemory, Stop, TableDef, TableId};
+use indexmap::IndexMap;
+use std::alloc::Global;
+use std::marker::Model;
+
+/// The most tables that live at one time.
+pub const MAX_TABLES: usize = 1000;
+
+/// The tables of the catalogue, which belong to no edition. Contracts see how many were ever made, and the list of
+/// the living ones in order of id.
+#[derive(Drop)]
+pub struct Tables {
+    made: u32,
+    living: IndexMap<Name, TableDef>,
+}
+
+impl Model for Tables {
+    ghost use Rattle.ebr_tables.specs.Tables.{AllTables};
+    ghost use Rattle.ebr_tables.specs.Keyed.{tables_of, Keyed};
+
+    ghost Value = { AllTables };
+
+    ghost view = { λ t. tables_of t.made t.living.entries };
+
+    ghost invariant = { λ t. Keyed t.made t.living.entries };
+}
+
+impl Tables {
+    /// No tables, and none ever made.
+    pub fn new(alloc: Global) -> Result<Tables, NoMemory>
+        ensures { IfOk result (λ tables. tables ≡ no_tables) }
+    {
+        Ok(Tables {
+            made: 0,
+            living: IndexMap::new(alloc),
+        })
+    }
+
+    /// Makes a table: puts its id, which is one more than the number of tables ever made, into the definition, and
+    /// makes the key's columns NOT NULL.
+    ///
+    /// Refused, in this order: ORA-00955 where a living table has the name; EBR-0029 where a column is named twice, a
+    /// NUMBER's size is outside 1 to 18 or a VARCHAR2's outside 1 to 4,000, or the key names a column twice or a place
+    /// where there is no column; EBR-0036 where there are more than 64 columns; EBR-0037 where 1,000 tables live. Want
+    /// of memory comes only where nothing refuses, and an `Err` changes nothing.
+    ///
+    /// Whether an object of some edition has the name, which is ORA-00955 too, is the caller's to test.
+    pub fn create(&mut self, def: TableDef) -> Result<TableId, Stop>
+        requires { self.old.made < 4294967295 }
+        ensures id { IfOk result (λ id. id ≡ next_id self.old) }
+        ensures allowed { OnOk result (create_refusal self.old def ≡ None) }
+        ensures tables { OnOk result (self.new ≡ with_table self.old def) }
+        ensures refused { IfErr result (StopsBy (create_refusal self.old def)) }
+        ensures unchanged { OnErr result (self.new ≡ self.old) }
+    {
+        if let Some(code) = self.create_refusal(&def) {
+            return Err(Stop::Raised(code));
+        }
+        let id = TableId(self.made + 1);
+        let Ok(columns) = with_key_not_null(
+            *self.living.allocator(),
+            def.columns.as_slice(),
+            def.key.as_slice(),
+        ) else {
+            return Err(Stop::NoMemory);
+        };
+        let kept = TableDef { id, columns, ..def };
+        let Ok(()) = put(&mut self.living, kept) else {
+            return Err(Stop::NoMemory);
+        };
+        self.made = id.0;
+        Ok(id)
+    }
+
+    /// The code by which `create` refuses a definition.
+    fn create_refusal(&self, def: &TableDef) -> Option<Code>
+        ensures { result ≡ create_refusal self.now def.now }
+    {
+        refusal_of(self.living.contains_key(&def.name), def, self.living.len())
+    }
+
+    /// Adds a column, which goes last, to the table of a name.
+    ///
+    /// Refused, in this order: ORA-00942 where no living table has the name; EBR-0029 where a column of that name is
+    /// there or the size is out of its bounds; EBR-0036 where there are 64 columns. Want of memory comes only where
+    /// nothing refuses, and an `Err` changes nothing.
+    pub fn add_column(&mut self, t: &Name, c: Column) -> Result<(), Stop>
+        ensures allowed { OnOk result (add_refusal (table_named t.now self.old.living) c ≡ None) }
+        ensures tables { OnOk result (self.new ≡ with_column self.old t.now c) }
+        ensures refused { IfErr result (StopsBy (add_refusal (table_named t.now self.old.living) c)) }
+        ensures unchanged { OnErr result (self.new ≡ self.old) }
+    {
+        widen(&mut self.living, t, c)
+    }
+
+    /// Takes the table of a name away; ORA-00942 where no living table has it, and then nothing changes. It takes no
+    /// memory. The id isn't given again.
+    pub fn remove(&mut self, t: &Name) -> Result<TableId, Stop>
+        ensures answer { result ≡ remove_answer (table_named t.now self.old.living) }
+        ensures tables { self.new ≡ without_table self.old t.now }
+        ensures unchanged { OnErr result (self.new ≡ self.old) }
+    {
+        match self.living.shift_remove(t) {
+            Some(def) => Ok(def.id),
+            None => Err(Stop::Raised(Code::Ora(942))),
+        }
+    }
+
+    /// The living table of a name.
+    pub fn find(&self, t: &Name) -> Option<&TableDef>
+        ensures table { option_copied result ≡ table_named t.now self.now.living }
+        ensures kept { AreTables self.now }
+    {
+        self.living.get(t)
+    }
+
+    /// The living table at a place in the order of ids, counted from 0.
+    pub fn nth(&self, at: u32) -> Option<&TableDef>
+        ensures table { option_copied result ≡ slice_get self.now.living at }
+        ensures kept { AreTables self.now }
+    {
+        match self.living.get_index(at as usize) {
+            Some((_, def)) => Some(def),
+            None => None,
+        }
+    }
+}
+
+/// The first code that refuses a definition, by whether a living table has its name, and by how many live.
+fn refusal_of(taken: bool, def: &TableDef, living: usize) -> Option<Code>
+    ensures { result ≡ refusal_of taken def.now living }
+{
+    if taken {
+        return Some(Code::Ora(955));
+    }
+    if is_bad_table(def) {
+        return Some(Code::Ebr(29));
+    }
+    if def.columns.len() > MAX_COLUMNS {
+        return Some(Code::Ebr(36));
+    }
+    if living >= MAX_TABLES {
+        return Some(Code::Ebr(37));
+    }
+    None
+}
