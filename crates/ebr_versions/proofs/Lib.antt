@@ -1,0 +1,5 @@
+pub mod DataLemmas
+pub mod NumberLemmas
+pub mod KeyLemmas
+pub mod LawLemmas
+pub mod ApartLemmas

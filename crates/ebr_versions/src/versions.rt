@@ -1,0 +1,135 @@
+//! The committed data with its tables.
+
+ghost use Rattle.std.specs.Prelude.{◌≡◌, ◌<◌, [], ◌∷◌, ◌++◌, length, Some, IfOk, OnOk, OnErr, IfSome, false};
+ghost use Rattle.std.specs.Option.{option_copied};
+ghost use Rattle.ebr_versions.specs.Data.{Latest, At, changed_since, next_row};
+
+use crate::table::{Table, key_places};
+use crate::{keys, rows};
+use ebr_base::{Change, List, NoMemory, RowId, RowNo, TableId, Value};
+use std::alloc::Global;
+use std::marker::Model;
+
+/// All commits, each with its changes, and the tables with their keys. Both are plain lists, which each call
+/// goes through.
+#[derive(Drop)]
+pub struct Versions {
+    commits: Vec<List<Change>>,
+    tables: Vec<Table>,
+}
+
+impl Model for Versions {
+    ghost use Rattle.std.specs.Prelude.{◌-◌, vec_len, vec_capacity};
+    ghost use Rattle.ebr_versions.specs.Store.{Store, IsSound};
+
+    ghost Value = { Store };
+
+    ghost view = { λ v. record { commits = v.commits.items; tables = v.tables.items; room = vec_capacity v.commits - vec_len v.commits } };
+
+    ghost invariant = { λ v. IsSound v.commits.items v.tables.items };
+}
+
+impl Versions {
+    ghost use Rattle.ebr_versions.specs.Store.{HasRoom, OfAdded, IsSound};
+    ghost use Rattle.ebr_versions.specs.Keys.{is_added, key_places, HasKey, KeysDiffer};
+
+    /// No commit and no table.
+    pub fn new(alloc: Global) -> Result<Versions, NoMemory>
+        ensures commits { IfOk result (λ v. v.commits ≡ []) }
+        ensures tables { IfOk result (λ v. v.tables ≡ []) }
+    {
+        Ok(Versions {
+            commits: Vec::new(alloc),
+            tables: Vec::new(alloc),
+        })
+    }
+
+    /// Adds a table that wasn't added before, with the places of its key's columns; no place is no key. An `Err` changes
+    /// nothing.
+    pub fn add_table(&mut self, t: TableId, key: List<u16>) -> Result<(), NoMemory>
+        requires { is_added self.old.tables t ≡ false }
+        ensures ok { OnOk result (self.new.tables ≡ self.old.tables ++ record { id = t; key = key } ∷ []) }
+        ensures err { OnErr result (self.new.tables ≡ self.old.tables) }
+        ensures commits { self.new.commits ≡ self.old.commits }
+    {
+        self.tables.push(Table { id: t, key })?;
+        Ok(())
+    }
+
+    /// Makes room for committing just these changes. An `Err` changes nothing but room.
+    #[tactic(auto, unfolding(crate::specs::Store::HasRoom))]
+    pub fn reserve(&mut self, changes: &List<Change>) -> Result<(), NoMemory>
+        ensures room { OnOk result (HasRoom self.new changes.now) }
+        ensures commits { self.new.commits ≡ self.old.commits }
+        ensures tables { self.new.tables ≡ self.old.tables }
+    {
+        // The list of commits needs one more place, whatever the changes are.
+        let _ = changes;
+        self.commits.reserve(1)?;
+        Ok(())
+    }
+
+    /// Adds a commit with these changes, in the room that was made for them, and gives its number, counted from 1. It
+    /// takes no memory. No two rows of a table may share a key afterwards.
+    #[tactic(auto, unfolding(crate::specs::Store::HasRoom))]
+    pub fn commit(&mut self, changes: List<Change>) -> u32
+        requires room { HasRoom self.old changes }
+        requires added { OfAdded self.old.tables changes }
+        requires few { length self.old.commits < 4294967295 }
+        requires keys { KeysDiffer (self.old.commits ++ changes ∷ []) self.old.tables }
+        ensures commits { self.new.commits ≡ self.old.commits ++ changes ∷ [] }
+        ensures tables { self.new.tables ≡ self.old.tables }
+        ensures number { result ≡ length self.new.commits }
+    {
+        self.commits.push_reserved(changes);
+        self.commits.len() as u32
+    }
+
+    /// How many commits there are.
+    pub fn count(&self) -> u32
+        ensures count { result ≡ length self.now.commits }
+        ensures sound { IsSound self.now.commits self.now.tables }
+    {
+        self.commits.len() as u32
+    }
+
+    /// The values of a row after the first `n` commits, none where it isn't there.
+    pub fn at(&self, n: u32, row: RowId) -> Option<&List<Value>>
+        ensures { option_copied result ≡ At self.now.commits n row }
+    {
+        rows::at(self.commits.as_slice(), n, row)
+    }
+
+    /// The values of a row after all commits, none where it isn't there.
+    pub fn latest(&self, row: RowId) -> Option<&List<Value>>
+        ensures { option_copied result ≡ Latest self.now.commits row }
+    {
+        rows::latest(self.commits.as_slice(), row)
+    }
+
+    /// The number, counted from 1, of the first commit after the first `n` that changes the row.
+    pub fn changed_since(&self, row: RowId, n: u32) -> Option<u32>
+        ensures { result ≡ changed_since self.now.commits row n }
+    {
+        rows::changed_since(self.commits.as_slice(), row, n)
+    }
+
+    /// The least row number above `after` that a commit has in the table, removed rows among them.
+    pub fn next_row(&self, t: TableId, after: RowNo) -> Option<RowNo>
+        ensures { result ≡ next_row self.now.commits t after }
+    {
+        rows::next_row(self.commits.as_slice(), t, after)
+    }
+
+    /// The row of the table whose last committed values have this key, none where no row has it. The table was added
+    /// with a key of that many places.
+    pub fn find_key(&self, t: TableId, key: &[Value]) -> Option<RowNo>
+        requires some { 0 < length key.now }
+        requires as_many { length (key_places self.now.tables t) ≡ length key.now }
+        ensures found { IfSome result (λ r. HasKey self.now.commits self.now.tables t r key.now) }
+        ensures only { (r : RowNo) → HasKey self.now.commits self.now.tables t r key.now → result ≡ Some r }
+    {
+        let places = key_places(self.tables.as_slice(), t);
+        keys::find_key(self.commits.as_slice(), places, t, key)
+    }
+}
