@@ -1,0 +1,3 @@
+pub mod Moves
+pub mod Released
+pub mod Taken

@@ -1,0 +1,107 @@
+-- What a release does to the list of locks.
+use Rattle.std.proofs.Common.{◌≡◌, ℕ, zero, suc, Bool, true, false, not, cond, ◌-◌, ◌<◌, ◌≤◌, List, [], ◌∷◌, length, take, refl, ap, arith}
+use Rattle.std.proofs.lemmas.Bool.{or_parts, or_from}
+use Rattle.ebr_base.specs.declared.row.RowId.{RowId}
+use Rattle.ebr_base.specs.declared.row.TxId.{TxId}
+use Rattle.ebr_locks.specs.Locks.{Lock, same_row, is_of, is_locked, locks_of, others_than, released, IsLockedOnce, AreLocks}
+
+module _ (tx : TxId) where
+  -- the locks of the transaction are its first ones
+  pub released-own : (mark : ℕ) (taken : List Lock) → locks_of tx (released tx mark taken) ≡ take mark (locks_of tx taken)
+  released-own zero [] = refl
+  released-own (suc mark) [] = refl
+  released-own zero (l ∷ taken) = by (is_of tx l) refl (released-own zero taken)
+    where
+      by : (b : Bool) → is_of tx l ≡ b → locks_of tx (released tx zero taken) ≡ take zero (locks_of tx taken)
+          → locks_of tx (cond b (released tx zero taken) (l ∷ released tx zero taken)) ≡ take zero (cond b (l ∷ locks_of tx taken) (locks_of tx taken))
+      by true is rest = rest
+      by false is rest = rw is rest
+  released-own (suc mark) (l ∷ taken) = by (is_of tx l) refl (released-own mark taken) (released-own (suc mark) taken)
+    where
+      by : (b : Bool) → is_of tx l ≡ b → locks_of tx (released tx mark taken) ≡ take mark (locks_of tx taken) → locks_of tx (released tx (suc mark) taken) ≡ take (suc mark) (locks_of tx taken)
+          → locks_of tx (cond b (l ∷ released tx mark taken) (l ∷ released tx (suc mark) taken)) ≡ take (suc mark) (cond b (l ∷ locks_of tx taken) (locks_of tx taken))
+      by true is rest same = rw is (ap (λ ls. l ∷ ls) rest)
+      by false is rest same = rw is same
+
+  -- the locks of others stay
+  pub released-others : (mark : ℕ) (taken : List Lock) → others_than tx (released tx mark taken) ≡ others_than tx taken
+  released-others mark [] = refl
+  released-others zero (l ∷ taken) = by (is_of tx l) refl (released-others zero taken)
+    where
+      by : (b : Bool) → is_of tx l ≡ b → others_than tx (released tx zero taken) ≡ others_than tx taken
+          → others_than tx (cond b (released tx zero taken) (l ∷ released tx zero taken)) ≡ cond (not b) (l ∷ others_than tx taken) (others_than tx taken)
+      by true is rest = rest
+      by false is rest = rw is (ap (λ ls. l ∷ ls) rest)
+  released-others (suc mark) (l ∷ taken) = by (is_of tx l) refl (released-others mark taken) (released-others (suc mark) taken)
+    where
+      by : (b : Bool) → is_of tx l ≡ b → others_than tx (released tx mark taken) ≡ others_than tx taken → others_than tx (released tx (suc mark) taken) ≡ others_than tx taken
+          → others_than tx (cond b (l ∷ released tx mark taken) (l ∷ released tx (suc mark) taken)) ≡ cond (not b) (l ∷ others_than tx taken) (others_than tx taken)
+      by true is rest same = rw is rest
+      by false is rest same = rw is (ap (λ ls. l ∷ ls) same)
+
+  free-released : (row : RowId) (mark : ℕ) (taken : List Lock) → is_locked row taken ≡ false → is_locked row (released tx mark taken) ≡ false
+  free-released row mark [] e = refl
+  free-released row zero (l ∷ taken) e =
+      let p = or_parts (same_row l.0 row) (is_locked row taken) e in
+      by (is_of tx l) p.0 (free-released row zero taken p.1)
+    where
+      by : (b : Bool) → same_row l.0 row ≡ false → is_locked row (released tx zero taken) ≡ false
+          → is_locked row (cond b (released tx zero taken) (l ∷ released tx zero taken)) ≡ false
+      by true here rest = rest
+      by false here rest = or_from (same_row l.0 row) (is_locked row (released tx zero taken)) here rest
+  free-released row (suc mark) (l ∷ taken) e =
+      let p = or_parts (same_row l.0 row) (is_locked row taken) e in
+      by (is_of tx l) p.0 (free-released row mark taken p.1) (free-released row (suc mark) taken p.1)
+    where
+      by : (b : Bool) → same_row l.0 row ≡ false → is_locked row (released tx mark taken) ≡ false → is_locked row (released tx (suc mark) taken) ≡ false
+          → is_locked row (cond b (l ∷ released tx mark taken) (l ∷ released tx (suc mark) taken)) ≡ false
+      by true here rest same = or_from (same_row l.0 row) (is_locked row (released tx mark taken)) here rest
+      by false here rest same = or_from (same_row l.0 row) (is_locked row (released tx (suc mark) taken)) here same
+
+  once-released : (mark : ℕ) (taken : List Lock) → IsLockedOnce taken → IsLockedOnce (released tx mark taken)
+  once-released mark [] once = tt
+  once-released zero (l ∷ taken) once = by (is_of tx l) (once-released zero taken once.1)
+    where
+      by : (b : Bool) → IsLockedOnce (released tx zero taken) → IsLockedOnce (cond b (released tx zero taken) (l ∷ released tx zero taken))
+      by true rest = rest
+      by false rest = (free-released l.0 zero taken once.0, rest)
+  once-released (suc mark) (l ∷ taken) once = by (is_of tx l) (once-released mark taken once.1) (once-released (suc mark) taken once.1)
+    where
+      by : (b : Bool) → IsLockedOnce (released tx mark taken) → IsLockedOnce (released tx (suc mark) taken)
+          → IsLockedOnce (cond b (l ∷ released tx mark taken) (l ∷ released tx (suc mark) taken))
+      by true rest same = (free-released l.0 mark taken once.0, rest)
+      by false rest same = (free-released l.0 (suc mark) taken once.0, same)
+
+  length-released : (mark : ℕ) (taken : List Lock) → length (released tx mark taken) ≤ length taken
+  length-released mark [] = omega arith
+  length-released zero (l ∷ taken) = by (is_of tx l) (length-released zero taken)
+    where
+      by : (b : Bool) → length (released tx zero taken) ≤ length taken → length (cond b (released tx zero taken) (l ∷ released tx zero taken)) ≤ suc (length taken)
+      by true rest = omega arith
+      by false rest = omega arith
+  length-released (suc mark) (l ∷ taken) = by (is_of tx l) (length-released mark taken) (length-released (suc mark) taken)
+    where
+      by : (b : Bool) → length (released tx mark taken) ≤ length taken → length (released tx (suc mark) taken) ≤ length taken
+          → length (cond b (l ∷ released tx mark taken) (l ∷ released tx (suc mark) taken)) ≤ suc (length taken)
+      by true rest same = omega arith
+      by false rest same = omega arith
+
+  pub locks-released : (mark : ℕ) (taken : List Lock) → AreLocks taken → AreLocks (released tx mark taken)
+  locks-released mark taken are = record {
+    once = once-released mark taken are.once;
+    count = omega (arith, length-released mark taken, are.count);
+  }
+
+-- one step of a release, by whose the lock is
+pub released-other : (tx : TxId) (mark : ℕ) (l : Lock) (taken : List Lock) → is_of tx l ≡ false → released tx mark (l ∷ taken) ≡ l ∷ released tx mark taken
+released-other tx zero l taken e = rw e refl
+released-other tx (suc mark) l taken e = rw e refl
+
+pub released-kept : (tx : TxId) (mark : ℕ) (l : Lock) (taken : List Lock) → is_of tx l ≡ true → 0 < mark → released tx mark (l ∷ taken) ≡ l ∷ released tx (mark - 1) taken
+released-kept tx zero l taken e some = absurd (omega arith)
+released-kept tx (suc mark) l taken e some =
+    let less : suc mark - 1 ≡ mark = omega arith in
+    rw (e, less) refl
+
+pub released-freed : (tx : TxId) (l : Lock) (taken : List Lock) → is_of tx l ≡ true → released tx 0 (l ∷ taken) ≡ released tx 0 taken
+released-freed tx l taken e = rw e refl
