@@ -1,0 +1,29 @@
+//! Syntax trees of SQL and PL/SQL, and what an edition sees of the catalogue.
+#![tactic(auto)]
+
+mod copies;
+mod definition;
+mod expression;
+mod kinds;
+mod query;
+mod sql;
+mod statement;
+#[cfg(test)]
+mod tests;
+mod unit;
+mod view;
+
+pub use definition::{ColumnConstraint, ColumnTree, Definition, ObjectKind, Statement};
+pub use expression::{Addend, AdditiveOperator, Attribute, Comparison, Expr, Path, RowImage};
+pub use kinds::{Op, Origin, Timing};
+pub use query::{Aggregate, Item, ItemKind, Query, SelectList, SortKey, Source};
+pub use sql::{Assignment, Delete, Insert, SqlTree, Transaction, Update};
+pub use statement::{
+    Block, Branch, Caught, CursorStmt, Decl, DeclaredType, Handler, Range, Rows, RowsFrom, SqlStmt,
+    Stmt, Target,
+};
+pub use unit::{
+    Direction, EditioningView, Head, Mode, PackageBody, PackageItem, Parameter, ParameterType,
+    Subprogram, Trigger, UnitTree, ViewItem,
+};
+pub use view::{EditionView, Object};
