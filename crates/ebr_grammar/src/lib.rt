@@ -1,0 +1,13 @@
+//! Grammars as data: a production says which tokens spell which trees, reading follows it with one token of
+//! look-ahead, and the two are proved to agree for every grammar that passes a test that computes.
+#![tactic(auto)]
+
+mod kind;
+mod names;
+#[cfg(test)]
+mod tests;
+mod tokens;
+
+pub use kind::{Kind, NAME_KINDS, is_same, kind_of};
+pub use names::unreserved_words_are_names;
+pub use tokens::{ReadStop, Tokens};
