@@ -1,0 +1,4 @@
+pub mod Clear
+pub mod Depths
+pub mod Whole
+pub mod Ranges

@@ -1,0 +1,9 @@
+use Rattle.std.proofs.Common.{◌≡◌, ◌-◌, [], ◌∷◌, length}
+use Rattle.ebr_grammar.specs.declared.kind.Kind.TheVariants as k
+use Rattle.ebr_grammar.specs.Reading.{repeat}
+use Rattle.ebr_grammar.specs.Words.{◌▸◌}
+use Rattle.ebr_exprparse.specs.Expressions.{reads_at, negated_tree}
+use Rattle.ebr_exprparse.proofs.expression.Grammar.more_negations.Given as goal
+
+abbrev pub invariant-loop-turn : goal.invariant-loop-turn
+invariant-loop-turn g l = repeat (k.And ∷ []) (reads_at l.self.depth (k.And ▸ negated_tree)) (l._turn-end - l._turn) l.found l.tokens ≡ repeat (k.And ∷ []) (reads_at l.self.depth (k.And ▸ negated_tree)) (length l.fn.tokens) [] l.fn.tokens

@@ -1,0 +1,20 @@
+use Rattle.std.proofs.Common.{rules}
+use Rattle.ebr_grammar.proofs.Steps.{steps}
+use Rattle.ebr_exprparse.specs.Expressions.{statement_attribute}
+use Rattle.ebr_exprparse.proofs.expression.Grammar.statement_attribute.Goals as goal
+
+pub returns-then-eat : goal.returns-then-eat
+unfolding statement_attribute
+returns-then-eat g c = simp steps (search rules)
+
+pub returns-then-eat-2 : goal.returns-then-eat-2
+unfolding statement_attribute
+returns-then-eat-2 g c = simp steps (search rules)
+
+pub returns-in_err-expect : goal.returns-in_err-expect
+unfolding statement_attribute
+returns-in_err-expect g c = simp steps (search rules)
+
+pub returns : goal.returns
+unfolding statement_attribute
+returns g c = simp steps (search rules)

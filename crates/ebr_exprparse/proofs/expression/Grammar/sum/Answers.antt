@@ -1,0 +1,20 @@
+use Rattle.std.proofs.Common.{rules}
+use Rattle.ebr_grammar.proofs.Steps.{steps}
+use Rattle.ebr_exprparse.specs.Expressions.{sum}
+use Rattle.ebr_exprparse.proofs.expression.Grammar.sum.Goals as goal
+
+pub returns-in_err-first : goal.returns-in_err-first
+unfolding sum
+returns-in_err-first g c = simp steps (search rules)
+
+pub returns-in_err-more : goal.returns-in_err-more
+unfolding sum
+returns-in_err-more g c = simp steps (search rules)
+
+pub returns-in_err-summed : goal.returns-in_err-summed
+unfolding sum
+returns-in_err-summed g c = simp steps (search rules)
+
+pub returns : goal.returns
+unfolding sum
+returns g c = simp steps (search rules)
