@@ -1,0 +1,4 @@
+pub mod Clear
+pub mod Parts
+pub mod Whole
+pub mod Entries

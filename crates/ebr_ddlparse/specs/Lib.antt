@@ -1,0 +1,5 @@
+pub mod Base
+pub mod Types
+pub mod Tables
+pub mod Views
+pub mod Definitions
