@@ -1,0 +1,7 @@
+pub mod ReadsItem
+pub mod Aliased
+pub mod Aggregates
+pub mod Reader
+pub mod Clear
+pub mod WholeTexts
+pub mod Parts

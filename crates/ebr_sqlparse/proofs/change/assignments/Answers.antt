@@ -1,0 +1,12 @@
+use Rattle.std.proofs.Common.{rules}
+use Rattle.ebr_grammar.proofs.Steps.{steps}
+use Rattle.ebr_sqlparse.specs.Statements.{assignments}
+use Rattle.ebr_sqlparse.proofs.change.assignments.Goals as goal
+
+pub returns-in_err-first : goal.returns-in_err-first
+unfolding assignments
+returns-in_err-first c = simp steps (search rules)
+
+pub returns : goal.returns
+unfolding assignments
+returns c = simp steps (search rules)
