@@ -1,0 +1,5 @@
+pub mod Lines
+pub mod Heads
+pub mod Sections
+pub mod Scans
+pub mod Reading
