@@ -247,6 +247,8 @@ fn queries_have_their_trees(rt: HostRuntime) -> Result<(), Fail> {
     spells(&rt, alloc, b"select * from t", all)?;
     let long = b"SELECT * FROM t a, DUAL WHERE TRUE ORDER BY 2 DESC, 3 ASC FOR UPDATE NOWAIT";
     spells(&rt, alloc, long, long_query(alloc)?)?;
+    let short = b"SELECT * FROM t a, DUAL WHERE TRUE ORDER BY 2 DESC, 3 FOR UPDATE";
+    spells(&rt, alloc, short, long_query(alloc)?)?;
     let two = query(alloc, two_items(alloc)?)?;
     spells(&rt, alloc, b"SELECT 1 AS a, 2 FROM t", two)?;
     Ok(())
