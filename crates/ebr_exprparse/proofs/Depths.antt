@@ -1,5 +1,5 @@
 -- One step of depth.
-use Rattle.std.proofs.Common.{◌≡◌, ℕ, zero, suc, ◌-◌, ◌<◌, List, Some, None, refl, ap, ◌∙◌, arith}
+use Rattle.std.proofs.Common.{◌≡◌, ℕ, suc, ◌-◌, ◌<◌, List, None, ap, ◌∙◌, arith}
 use Rattle.ebr_lexer.specs.declared.token.Token.{Token}
 use Rattle.ebr_grammar.specs.Reading.{reads_within}
 use Rattle.ebr_exprparse.specs.declared.level.Level.{Level}

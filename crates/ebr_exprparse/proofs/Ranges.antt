@@ -1,7 +1,7 @@
 -- A range whose end is missing.
-use Rattle.std.proofs.Common.{◌≡◌, ℕ, Bool, List, Option, Some, None, refl, ap, ◌∙◌}
+use Rattle.std.proofs.Common.{◌≡◌, Bool, List, Some, None, refl}
 use Rattle.ebr_lexer.specs.declared.token.Token.{Token}
-use Rattle.ebr_grammar.specs.Forms.{Found, Reader}
+use Rattle.ebr_grammar.specs.Forms.{Reader}
 use Rattle.ebr_grammar.specs.Reading.{and_then}
 use Rattle.ebr_ast.specs.declared.expression.Expr.{Expr}
 use Rattle.ebr_ast.specs.declared.expression.Expr.TheVariants as e

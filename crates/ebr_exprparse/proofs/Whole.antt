@@ -1,8 +1,7 @@
 -- Reading an expression is right.
-use Rattle.std.proofs.Common.{◌≡◌, ℕ, ◌-◌, ◌≤◌, Bool, false, List, length, drop, Option, Some, None, ◌++◌, refl, sym, ap, subst, ◌∙◌}
+use Rattle.std.proofs.Common.{◌≡◌, ℕ, ◌-◌, ◌≤◌, Bool, false, List, length, drop, Option, Some, None, ◌++◌, ap, subst, ◌∙◌}
 use Rattle.ebr_lexer.specs.declared.token.Token.{Token}
-use Rattle.ebr_grammar.specs.Forms.{Found, Reader, IsReader, sees}
-use Rattle.ebr_grammar.specs.Reading.{and_then}
+use Rattle.ebr_grammar.specs.Forms.{Found, IsReader}
 use Rattle.ebr_grammar.specs.Grammar.{SpellsAny}
 use Rattle.ebr_grammar.proofs.Laws.{bind_some, some_is}
 use Rattle.ebr_grammar.proofs.Depth.{reader}

@@ -8,7 +8,7 @@ use Rattle.ebr_grammar.specs.declared.tokens.ReadStop.{ReadStop}
 use Rattle.ebr_grammar.specs.declared.tokens.ReadStop.TheVariants.{NoMemory}
 use Rattle.ebr_grammar.specs.Kinds.{name_kinds}
 use Rattle.ebr_grammar.specs.Forms.{Found, Reader, sees}
-use Rattle.ebr_grammar.specs.Grammar.{Production, token, word, nothing, both, or, many, made, tested, led, named, SpellsAny}
+use Rattle.ebr_grammar.specs.Grammar.{Production, token, word, nothing, both, many, made, tested, led, named, SpellsAny}
 use Rattle.ebr_grammar.specs.Reading.{and_then, before, Hints, reads, reads_within}
 use Rattle.ebr_grammar.specs.Outcome.{number_of, content_of, named_by}
 use Rattle.ebr_grammar.specs.Words.{mark, ◌▸◌, ◌◂◌, ◌∣◌, maybe, is_there, all}

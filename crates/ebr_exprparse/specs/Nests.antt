@@ -1,11 +1,10 @@
 -- A function value that reads expressions to a depth.
-use Rattle.std.specs.Prelude.{ℕ, List, Result, Bool}
+use Rattle.std.specs.Prelude.{ℕ, List, Result}
 use Rattle.std.specs.declared.alloc.Global.{Global}
 use denote.Ref.{MutBor}
 use Rattle.ebr_lexer.specs.declared.token.Token.{Token}
 use Rattle.ebr_grammar.specs.declared.tokens.ReadStop.{ReadStop}
 use Rattle.ebr_grammar.specs.Outcome.{Reads}
-use Rattle.ebr_ast.specs.declared.expression.Expr.{Expr}
 use Rattle.ebr_exprparse.specs.declared.level.Level.{Level}
 use Rattle.ebr_exprparse.specs.Expressions.{Read, read_within}
 

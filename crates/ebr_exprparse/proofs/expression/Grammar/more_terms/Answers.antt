@@ -1,4 +1,4 @@
-use Rattle.std.proofs.Common.{◌≡◌, ◌≢◌, ◌∙◌, true, false, None, Some, [], ◌∷◌, length, rules}
+use Rattle.std.proofs.Common.{◌≡◌, ◌≢◌, true, false, None, Some, [], ◌∷◌, rules}
 use Rattle.ebr_grammar.specs.declared.tokens.ReadStop.TheVariants.{NoMemory}
 use Rattle.ebr_grammar.specs.declared.kind.Kind.TheVariants as k
 use Rattle.ebr_grammar.specs.Grammar.{led}
