@@ -1,0 +1,12 @@
+pub mod Absent
+pub mod Reader
+pub mod Closing
+pub mod Balanced
+pub mod Pieces
+pub mod Keyword
+pub mod ReadsType
+pub mod ReadsBound
+pub mod ReadsParts
+pub mod Clear
+pub mod ReadsHeading
+pub mod Parts

@@ -1,0 +1,16 @@
+use Rattle.std.proofs.Common.{rules}
+use Rattle.ebr_grammar.proofs.Steps.{steps}
+use Rattle.ebr_simpleparse.specs.Paths.{given}
+use Rattle.ebr_simpleparse.proofs.paths.given.Goals as goal
+
+pub returns-in_err-arguments : goal.returns-in_err-arguments
+unfolding given
+returns-in_err-arguments c = simp steps (search rules)
+
+pub returns-in_ok-arguments : goal.returns-in_ok-arguments
+unfolding given
+returns-in_ok-arguments c = simp steps (search rules)
+
+pub returns-else-eat : goal.returns-else-eat
+unfolding given
+returns-else-eat c = simp steps (search rules)

@@ -1,0 +1,10 @@
+use Rattle.std.proofs.Common.{◌≡◌, ◌-◌, [], ◌∷◌, length}
+use Rattle.ebr_grammar.specs.declared.kind.Kind.TheVariants as k
+use Rattle.ebr_grammar.specs.Reading.{repeat}
+use Rattle.ebr_grammar.specs.Words.{◌▸◌}
+use Rattle.ebr_simpleparse.specs.Productions.{reads_by}
+use Rattle.ebr_simpleparse.specs.Paths.{path}
+use Rattle.ebr_simpleparse.proofs.paths.more_exceptions.Given as goal
+
+abbrev pub invariant-loop-turn : goal.invariant-loop-turn
+invariant-loop-turn l = repeat (k.Or ∷ []) (reads_by (k.Or ▸ path)) (l._turn-end - l._turn) l.found l.tokens ≡ repeat (k.Or ∷ []) (reads_by (k.Or ▸ path)) (length l.fn.tokens) (l.fn.first ∷ []) l.fn.tokens

@@ -1,0 +1,9 @@
+use Rattle.std.proofs.Common.{◌≡◌, ◌-◌, [], ◌∷◌, length}
+use Rattle.ebr_grammar.specs.declared.kind.Kind.TheVariants as k
+use Rattle.ebr_grammar.specs.Reading.{repeat}
+use Rattle.ebr_grammar.specs.Words.{◌▸◌}
+use Rattle.ebr_simpleparse.specs.Productions.{reads_by, expr}
+use Rattle.ebr_simpleparse.proofs.paths.more_expressions.Given as goal
+
+abbrev pub invariant-loop-turn : goal.invariant-loop-turn
+invariant-loop-turn l = repeat (k.Comma ∷ []) (reads_by (k.Comma ▸ expr)) (l._turn-end - l._turn) l.found l.tokens ≡ repeat (k.Comma ∷ []) (reads_by (k.Comma ▸ expr)) (length l.fn.tokens) (l.fn.first ∷ []) l.fn.tokens

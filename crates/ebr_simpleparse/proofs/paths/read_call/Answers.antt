@@ -1,0 +1,16 @@
+use Rattle.std.proofs.Common.{rules}
+use Rattle.ebr_grammar.proofs.Steps.{steps}
+use Rattle.ebr_simpleparse.specs.Paths.{call}
+use Rattle.ebr_simpleparse.proofs.paths.read_call.Goals as goal
+
+pub returns-in_err-path : goal.returns-in_err-path
+unfolding call
+returns-in_err-path c = simp steps (search rules)
+
+pub returns-in_err-given : goal.returns-in_err-given
+unfolding call
+returns-in_err-given c = simp steps (search rules)
+
+pub returns : goal.returns
+unfolding call
+returns c = simp steps (search rules)
