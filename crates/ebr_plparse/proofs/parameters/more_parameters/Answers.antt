@@ -1,0 +1,41 @@
+use Rattle.std.proofs.Common.{◌≡◌, ◌≢◌, ◌∙◌, true, false, None, Some, [], ◌∷◌, length, rules}
+use Rattle.ebr_grammar.specs.declared.tokens.ReadStop.TheVariants.{NoMemory}
+use Rattle.ebr_grammar.specs.declared.kind.Kind.TheVariants as k
+use Rattle.ebr_grammar.specs.Forms.{sees}
+use Rattle.ebr_grammar.specs.Words.{◌▸◌}
+use Rattle.ebr_grammar.proofs.Steps.{steps}
+use Rattle.ebr_grammar.proofs.Loops.{stops, ends, goes_on, fails, from_first}
+use Rattle.ebr_plparse.specs.Productions.{reads_by}
+use Rattle.ebr_plparse.specs.Heads.{parameter, more_parameters}
+use Rattle.ebr_plparse.proofs.parameters.more_parameters.Goals as goal
+
+pub returns-then-not-eat : goal.returns-then-not-eat
+unfolding more_parameters
+returns-then-not-eat c =
+    let unseen : sees (k.Comma ∷ []) c.loop-turn.tokens ≡ false = search rules in
+    let e = stops (k.Comma ∷ []) (reads_by (k.Comma ▸ parameter)) _ _ c.loop-turn.found c.loop-turn.tokens _ c.loop-turn.invariant unseen in
+    let z = from_first (k.Comma ∷ []) (reads_by (k.Comma ▸ parameter)) (length c.args.tokens.now) c.args.first c.args.tokens.now ∙ e in
+    simp steps (search (rules, z))
+
+pub returns-in_err-next : goal.returns-in_err-next
+unfolding more_parameters
+returns-in_err-next c =
+    let seen : sees (k.Comma ∷ []) c.loop-turn.tokens ≡ true = search rules in
+    let none : c.in_err-next.field-0.0 ≢ NoMemory → reads_by (k.Comma ▸ parameter) c.loop-turn.tokens ≡ None = λ x. simp steps (search (rules, c.in_err-next.ensures x)) in
+    let e = λ (x : c.in_err-next.field-0.0 ≢ NoMemory). fails (k.Comma ∷ []) (reads_by (k.Comma ▸ parameter)) _ _ c.loop-turn.found c.loop-turn.tokens _ c.loop-turn.invariant c.loop-turn-test.true seen (none x) in
+    let z = λ (x : c.in_err-next.field-0.0 ≢ NoMemory). from_first (k.Comma ∷ []) (reads_by (k.Comma ▸ parameter)) (length c.args.tokens.now) c.args.first c.args.tokens.now ∙ e x in
+    simp steps (search (rules, z))
+
+pub loop-turn-preserved : goal.loop-turn-preserved
+loop-turn-preserved c =
+    let seen : sees (k.Comma ∷ []) c.loop-turn.tokens ≡ true = search rules in
+    let read : reads_by (k.Comma ▸ parameter) c.loop-turn.tokens ≡ Some (c.in_ok-next.next, c.parameter.new.tokens) = simp steps (search rules) in
+    let e = goes_on (k.Comma ∷ []) (reads_by (k.Comma ▸ parameter)) _ _ c.loop-turn.found c.loop-turn.tokens _ c.loop-turn.invariant c.in_ok-next.next c.parameter.new.tokens c.loop-turn-test.true seen read in
+    search (rules, e)
+
+pub returns : goal.returns
+unfolding more_parameters
+returns c =
+    let e = ends (k.Comma ∷ []) (reads_by (k.Comma ▸ parameter)) _ _ c.loop-turn.found c.loop-turn.tokens _ c.loop-turn.invariant c.loop-turn-test.false in
+    let z = from_first (k.Comma ∷ []) (reads_by (k.Comma ▸ parameter)) (length c.args.tokens.now) c.args.first c.args.tokens.now ∙ e in
+    simp steps (search (rules, z))

@@ -1,0 +1,32 @@
+use Rattle.std.proofs.Common.{rules}
+use Rattle.ebr_grammar.proofs.Steps.{steps}
+use Rattle.ebr_plparse.specs.Units.{stored}
+use Rattle.ebr_plparse.proofs.units.stored.Goals as goal
+
+pub returns-in_err-subprogram : goal.returns-in_err-subprogram
+unfolding stored
+returns-in_err-subprogram c = simp steps (search rules)
+
+pub returns-in_ok-subprogram : goal.returns-in_ok-subprogram
+unfolding stored
+returns-in_ok-subprogram c = simp steps (search rules)
+
+pub returns-then-eat : goal.returns-then-eat
+unfolding stored
+returns-then-eat c = simp steps (search rules)
+
+pub returns-in_err-trigger : goal.returns-in_err-trigger
+unfolding stored
+returns-in_err-trigger c = simp steps (search rules)
+
+pub returns-in_ok-trigger : goal.returns-in_ok-trigger
+unfolding stored
+returns-in_ok-trigger c = simp steps (search rules)
+
+pub returns-in_err-read_editioning_view : goal.returns-in_err-read_editioning_view
+unfolding stored
+returns-in_err-read_editioning_view c = simp steps (search rules)
+
+pub returns-in_ok-read_editioning_view : goal.returns-in_ok-read_editioning_view
+unfolding stored
+returns-in_ok-read_editioning_view c = simp steps (search rules)

@@ -1,0 +1,302 @@
+//! Subprograms and packages.
+
+ghost use Rattle.std.specs.Prelude.{◌≡◌};
+ghost use Rattle.ebr_grammar.specs.Forms.{sees};
+ghost use Rattle.ebr_grammar.specs.Outcome.{Reads};
+ghost use Rattle.ebr_plparse.specs.Productions as productions;
+ghost use Rattle.ebr_plparse.specs.Productions.{reads_by, with_first};
+ghost use Rattle.ebr_plparse.specs.Packages as grammar;
+
+use crate::heads::head;
+use ebr_ast::{Block, Decl, PackageBody, PackageItem, Subprogram, UnitTree};
+use ebr_base::{List, Name};
+use ebr_grammar::{Kind, NAME_KINDS, ReadStop, Tokens};
+use ebr_stmtparse::{Initial, read_body, read_declaration, read_initial};
+use std::alloc::Global;
+
+/// The kinds of names but that of BODY.
+pub const PACKAGE_NAMES: [Kind; 55] = [
+    Kind::Name,
+    Kind::Add,
+    Kind::After,
+    Kind::Apply,
+    Kind::AutonomousTransaction,
+    Kind::Before,
+    Kind::Boolean,
+    Kind::Byte,
+    Kind::Call,
+    Kind::Cascade,
+    Kind::Char,
+    Kind::Child,
+    Kind::Constant,
+    Kind::Constraint,
+    Kind::Count,
+    Kind::Crossedition,
+    Kind::Database,
+    Kind::Default,
+    Kind::Disable,
+    Kind::Each,
+    Kind::Edition,
+    Kind::Editionable,
+    Kind::Editioning,
+    Kind::Enable,
+    Kind::ExceptionInit,
+    Kind::Forward,
+    Kind::Found,
+    Kind::Integer,
+    Kind::Isopen,
+    Kind::Key,
+    Kind::Max,
+    Kind::Min,
+    Kind::New,
+    Kind::Notfound,
+    Kind::Nowait,
+    Kind::Number,
+    Kind::Of,
+    Kind::Old,
+    Kind::Others,
+    Kind::Out,
+    Kind::Package,
+    Kind::Primary,
+    Kind::PutLine,
+    Kind::Replace,
+    Kind::Reverse,
+    Kind::Row,
+    Kind::Rowcount,
+    Kind::Session,
+    Kind::Sum,
+    Kind::To,
+    Kind::Trigger,
+    Kind::Trunc,
+    Kind::TypeWord,
+    Kind::Varchar2,
+    Kind::Work,
+];
+
+/// What a package's body holds.
+#[derive(Debug, Drop)]
+pub struct BodyMembers {
+    pub declarations: List<Decl>,
+    pub subprograms: List<Subprogram>,
+    pub initial: Initial,
+}
+
+fn is_or_as(tokens: &mut Tokens<'_>) -> Result<(), ReadStop>
+    ensures { Reads (reads_by productions.is_or_as tokens.old) result tokens.new }
+{
+    if tokens.eat(Kind::Is) {
+        return Ok(());
+    }
+    tokens.expect(Kind::As)?;
+    Ok(())
+}
+
+/// A subprogram's body, with IS or AS before it.
+fn given_body(alloc: Global, tokens: &mut Tokens<'_>) -> Result<Block, ReadStop>
+    ensures { Reads (reads_by grammar.given_body tokens.old) result tokens.new }
+{
+    is_or_as(tokens)?;
+    let body = read_body(alloc, tokens)?;
+    Ok(body)
+}
+
+/// A procedure or a function with its body.
+pub fn subprogram(alloc: Global, tokens: &mut Tokens<'_>) -> Result<Subprogram, ReadStop>
+    ensures { Reads (reads_by grammar.subprogram tokens.old) result tokens.new }
+{
+    let head = head(alloc, tokens)?;
+    let body = given_body(alloc, tokens)?;
+    Ok(Subprogram { head, body })
+}
+
+fn maybe_name(alloc: Global, tokens: &mut Tokens<'_>) -> Result<Option<Name>, ReadStop>
+    ensures { Reads (reads_by grammar.maybe_name tokens.old) result tokens.new }
+{
+    if tokens.sees_any(&NAME_KINDS) {
+        Ok(Some(tokens.name(alloc)?))
+    } else {
+        Ok(None)
+    }
+}
+
+/// A package's end, with a name or without.
+fn unit_end(alloc: Global, tokens: &mut Tokens<'_>) -> Result<(), ReadStop>
+    ensures { Reads (reads_by grammar.unit_end tokens.old) result tokens.new }
+{
+    tokens.expect(Kind::End)?;
+    let _name = maybe_name(alloc, tokens)?;
+    tokens.expect(Kind::Semicolon)?;
+    Ok(())
+}
+
+/// Whether a declaration begins here.
+fn sees_declaration(tokens: &Tokens<'_>) -> bool
+    ensures { result ≡ sees grammar.declaration_begins tokens.now }
+{
+    tokens.sees_any(&[Kind::Pragma, Kind::Cursor]) || tokens.sees_any(&NAME_KINDS)
+}
+
+/// Whether an item of a package's specification begins here.
+fn sees_item(tokens: &Tokens<'_>) -> bool
+    ensures { result ≡ sees grammar.item_begins tokens.now }
+{
+    tokens.sees_any(&[Kind::Procedure, Kind::Function]) || sees_declaration(tokens)
+}
+
+fn package_item(alloc: Global, tokens: &mut Tokens<'_>) -> Result<PackageItem, ReadStop>
+    ensures { Reads (reads_by grammar.package_item tokens.old) result tokens.new }
+{
+    if tokens.sees_any(&[Kind::Procedure, Kind::Function]) {
+        let head = head(alloc, tokens)?;
+        tokens.expect(Kind::Semicolon)?;
+        Ok(PackageItem::Head(head))
+    } else {
+        Ok(PackageItem::Decl(read_declaration(alloc, tokens)?))
+    }
+}
+
+fn package_items(alloc: Global, tokens: &mut Tokens<'_>) -> Result<List<PackageItem>, ReadStop>
+    ensures { Reads (reads_by grammar.package_items tokens.old) result tokens.new }
+{
+    let mut found = List::new(alloc);
+    for _turn in 0..tokens.left() {
+        if !sees_item(tokens) {
+            return Ok(found);
+        }
+        let next = package_item(alloc, tokens)?;
+        found.push(next)?;
+    }
+    Ok(found)
+}
+
+/// What stands behind a package's name and IS or AS.
+fn specification_rest(
+    alloc: Global,
+    tokens: &mut Tokens<'_>,
+    name: Name,
+) -> Result<UnitTree, ReadStop>
+    ensures { Reads (with_first name (reads_by grammar.specification_rest tokens.old)) result tokens.new }
+{
+    let items = package_items(alloc, tokens)?;
+    unit_end(alloc, tokens)?;
+    Ok(UnitTree::Package(name, items))
+}
+
+/// What stands behind a package's name.
+fn specification(alloc: Global, tokens: &mut Tokens<'_>, name: Name) -> Result<UnitTree, ReadStop>
+    ensures { Reads (with_first name (reads_by grammar.specification tokens.old)) result tokens.new }
+{
+    is_or_as(tokens)?;
+    specification_rest(alloc, tokens, name)
+}
+
+fn declarations(alloc: Global, tokens: &mut Tokens<'_>) -> Result<List<Decl>, ReadStop>
+    ensures { Reads (reads_by grammar.declarations tokens.old) result tokens.new }
+{
+    let mut found = List::new(alloc);
+    for _turn in 0..tokens.left() {
+        if !sees_declaration(tokens) {
+            return Ok(found);
+        }
+        let next = read_declaration(alloc, tokens)?;
+        found.push(next)?;
+    }
+    Ok(found)
+}
+
+fn subprograms(alloc: Global, tokens: &mut Tokens<'_>) -> Result<List<Subprogram>, ReadStop>
+    ensures { Reads (reads_by grammar.subprograms tokens.old) result tokens.new }
+{
+    let mut found = List::new(alloc);
+    for _turn in 0..tokens.left() {
+        if !tokens.sees_any(&[Kind::Procedure, Kind::Function]) {
+            return Ok(found);
+        }
+        let next = subprogram(alloc, tokens)?;
+        found.push(next)?;
+    }
+    Ok(found)
+}
+
+/// The initial part of a package's body, which is empty where none stands there.
+fn maybe_initial(alloc: Global, tokens: &mut Tokens<'_>) -> Result<Initial, ReadStop>
+    ensures { Reads (reads_by grammar.maybe_initial tokens.old) result tokens.new }
+{
+    if tokens.sees(Kind::Begin) {
+        let initial = read_initial(alloc, tokens)?;
+        Ok(initial)
+    } else {
+        Ok(Initial {
+            statements: List::new(alloc),
+            handlers: List::new(alloc),
+        })
+    }
+}
+
+fn body_members(alloc: Global, tokens: &mut Tokens<'_>) -> Result<BodyMembers, ReadStop>
+    ensures { Reads (reads_by grammar.body_members tokens.old) result tokens.new }
+{
+    let declarations = declarations(alloc, tokens)?;
+    let subprograms = subprograms(alloc, tokens)?;
+    let initial = maybe_initial(alloc, tokens)?;
+    Ok(BodyMembers {
+        declarations,
+        subprograms,
+        initial,
+    })
+}
+
+fn closed_members(alloc: Global, tokens: &mut Tokens<'_>) -> Result<BodyMembers, ReadStop>
+    ensures { Reads (reads_by grammar.closed_members tokens.old) result tokens.new }
+{
+    let members = body_members(alloc, tokens)?;
+    unit_end(alloc, tokens)?;
+    Ok(members)
+}
+
+/// A package's body of its parts.
+fn body_of(name: Name, members: BodyMembers) -> PackageBody
+    ensures { result ≡ grammar.body_tree name members }
+{
+    PackageBody {
+        name,
+        declarations: members.declarations,
+        subprograms: members.subprograms,
+        statements: members.initial.statements,
+        handlers: members.initial.handlers,
+    }
+}
+
+/// What stands behind PACKAGE BODY.
+fn package_body(alloc: Global, tokens: &mut Tokens<'_>) -> Result<PackageBody, ReadStop>
+    ensures { Reads (reads_by grammar.package_body tokens.old) result tokens.new }
+{
+    let name = tokens.name(alloc)?;
+    is_or_as(tokens)?;
+    let members = closed_members(alloc, tokens)?;
+    Ok(body_of(name, members))
+}
+
+/// What stands behind PACKAGE and the word BODY: the package BODY, or a package's body.
+fn behind_body(alloc: Global, tokens: &mut Tokens<'_>, body: Name) -> Result<UnitTree, ReadStop>
+    ensures { Reads (with_first body (reads_by grammar.behind_body tokens.old)) result tokens.new }
+{
+    if tokens.sees_any(&[Kind::Is, Kind::As]) {
+        specification(alloc, tokens, body)
+    } else {
+        Ok(UnitTree::PackageBody(package_body(alloc, tokens)?))
+    }
+}
+
+/// What stands behind PACKAGE.
+pub fn any_package(alloc: Global, tokens: &mut Tokens<'_>) -> Result<UnitTree, ReadStop>
+    ensures { Reads (reads_by grammar.any_package tokens.old) result tokens.new }
+{
+    if tokens.sees(Kind::Body) {
+        let body = tokens.name_among(alloc, &[Kind::Body])?;
+        behind_body(alloc, tokens, body)
+    } else {
+        let name = tokens.name_among(alloc, &PACKAGE_NAMES)?;
+        specification(alloc, tokens, name)
+    }
+}
