@@ -8,8 +8,6 @@ mod drops;
 mod names;
 mod parse;
 mod tables;
-#[cfg(test)]
-mod tests;
 mod types;
 mod views;
 

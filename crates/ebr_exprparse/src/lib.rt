@@ -4,8 +4,6 @@
 mod expression;
 mod level;
 mod parse;
-#[cfg(test)]
-mod tests;
 mod trees;
 
 pub use parse::{expr, read_expression};

@@ -5,8 +5,6 @@ mod change;
 mod items;
 mod queries;
 mod statements;
-#[cfg(test)]
-mod tests;
 mod whole;
 
 pub use change::{delete, insert, update};

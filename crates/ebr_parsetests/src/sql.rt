@@ -1,32 +1,18 @@
 //! What no clause says: that the calls succeed with ample memory, and which text gives which tree.
 
-ghost use Rattle.std.specs.Prelude.{◌<◌, length};
-
-use crate::{expr, one_tree, session, sql, transaction};
+use crate::texts::{name, tokens_of};
 use ebr_ast::{
     Aggregate, Assignment, Delete, Expr, Insert, Item, ItemKind, Query, SelectList, SortKey,
     Source, SqlTree, Transaction, Update,
 };
 use ebr_base::{List, Name, NoMemory};
-use ebr_lexer::{LexStop, Token, lex};
+use ebr_sqlparse::{expr, one_tree, session, sql, transaction};
 use std::alloc::Global;
 use std::process::Abort;
 use std::test::Fail;
 
-fn tokens_of(rt: &impl Abort, alloc: Global, text: &[u8]) -> Result<List<Token>, NoMemory>
-    requires { length text.now < 4294967295 }
-{
-    match lex(alloc, text) {
-        Ok(tokens) => Ok(tokens),
-        Err(LexStop::NoMemory) => Err(NoMemory),
-        Err(LexStop::Fault { at, code }) => panic!(rt; "{code:?} at {at} of {text:?}"),
-    }
-}
-
 /// What the text spells: one tree, or none. A list is dropped by one call, a tree by its variants.
-fn trees_of(rt: &impl Abort, alloc: Global, text: &[u8]) -> Result<List<SqlTree>, NoMemory>
-    requires { length text.now < 4294967295 }
-{
+fn trees_of(rt: &impl Abort, alloc: Global, text: &[u8]) -> Result<List<SqlTree>, NoMemory> {
     let tokens = tokens_of(rt, alloc, text)?;
     let mut trees = List::new(alloc);
     if let Some(tree) = sql(alloc, tokens.as_slice())? {
@@ -42,9 +28,7 @@ fn only(alloc: Global, tree: SqlTree) -> Result<List<SqlTree>, NoMemory> {
 }
 
 /// The text spells the tree.
-fn spells(rt: &impl Abort, alloc: Global, text: &[u8], tree: SqlTree) -> Result<(), Fail>
-    requires { length text.now < 4294967295 }
-{
+fn spells(rt: &impl Abort, alloc: Global, text: &[u8], tree: SqlTree) -> Result<(), Fail> {
     let tree = only(alloc, tree)?;
     let found = trees_of(rt, alloc, text)?;
     assert!(rt; found == tree, "another tree of {text:?}, or none");
@@ -52,19 +36,12 @@ fn spells(rt: &impl Abort, alloc: Global, text: &[u8], tree: SqlTree) -> Result<
 }
 
 /// The transaction statement that the text spells.
-fn ending_of(rt: &impl Abort, alloc: Global, text: &[u8]) -> Result<Option<Transaction>, NoMemory>
-    requires { length text.now < 4294967295 }
-{
+fn ending_of(rt: &impl Abort, alloc: Global, text: &[u8]) -> Result<Option<Transaction>, NoMemory> {
     let tokens = tokens_of(rt, alloc, text)?;
     transaction(alloc, tokens.as_slice())
 }
 
 // ---- trees
-
-/// A name; where the bytes spell none, the test fails.
-fn name(alloc: Global, bytes: &[u8]) -> Result<Name, NoMemory> {
-    Name::of(alloc, bytes)?.ok_or(NoMemory)
-}
 
 fn some_name(alloc: Global, bytes: &[u8]) -> Result<Option<Name>, NoMemory> {
     if bytes.is_empty() {
@@ -226,9 +203,7 @@ fn delete(alloc: Global, alias: &[u8], filter: Option<Expr>) -> Result<SqlTree, 
 }
 
 /// The tree of an expression that stands alone in the text.
-fn expression(rt: &impl Abort, alloc: Global, text: &[u8]) -> Result<Expr, NoMemory>
-    requires { length text.now < 4294967295 }
-{
+fn expression(rt: &impl Abort, alloc: Global, text: &[u8]) -> Result<Expr, NoMemory> {
     let tokens = tokens_of(rt, alloc, text)?;
     assert!(rt; tokens.len() < 1000, "a short text");
     match expr(alloc, tokens.as_slice(), 0)? {

@@ -1,24 +1,12 @@
 //! Texts and their trees, by the grammar of expressions.
 
-ghost use Rattle.std.specs.Prelude.{◌<◌, length};
-
-use crate::expr;
+use crate::texts::tokens_of;
 use ebr_ast::Expr;
 use ebr_base::{List, NoMemory};
-use ebr_lexer::{LexStop, Token, lex};
+use ebr_exprparse::expr;
 use std::alloc::Global;
 use std::process::Abort;
 use std::test::Fail;
-
-fn tokens_of(rt: &impl Abort, alloc: Global, text: &[u8]) -> Result<List<Token>, NoMemory>
-    requires { length text.now < 4294967295 }
-{
-    match lex(alloc, text) {
-        Ok(tokens) => Ok(tokens),
-        Err(LexStop::NoMemory) => Err(NoMemory),
-        Err(LexStop::Fault { at, code }) => panic!(rt; "{code:?} at {at} of {text:?}"),
-    }
-}
 
 /// The tree that the whole text spells.
 fn tree_of(rt: &impl Abort, alloc: Global, text: &[u8]) -> Result<Option<Expr>, NoMemory> {

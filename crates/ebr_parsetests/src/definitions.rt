@@ -1,27 +1,16 @@
 //! Texts and their trees, by the grammar of definitions.
 
-ghost use Rattle.std.specs.Prelude.{◌<◌, length};
-
-use crate::{definition, one_tree, read_editioning_view, read_type};
+use crate::texts::{name, tokens_of};
 use ebr_ast::{
     ColumnConstraint, ColumnTree, DeclaredType, Definition, EditioningView, ObjectKind, UnitTree,
     ViewItem,
 };
 use ebr_base::{List, Name, NoMemory};
+use ebr_ddlparse::{definition, one_tree, read_editioning_view, read_type};
 use ebr_grammar::Tokens;
-use ebr_lexer::{LexStop, Token, lex};
 use std::alloc::Global;
 use std::process::Abort;
 use std::test::Fail;
-
-fn tokens_of(rt: &impl Abort, alloc: Global, text: &[u8]) -> Result<List<Token>, NoMemory> {
-    assert!(rt; text.len() < 200, "a short text");
-    match lex(alloc, text) {
-        Ok(tokens) => Ok(tokens),
-        Err(LexStop::NoMemory) => Err(NoMemory),
-        Err(LexStop::Fault { at, code }) => panic!(rt; "{code:?} at {at} of {text:?}"),
-    }
-}
 
 /// What the text spells: one tree, or none. A list is dropped by one call, a tree by its variants.
 fn trees_of(rt: &impl Abort, alloc: Global, text: &[u8]) -> Result<List<Definition>, NoMemory> {
@@ -45,11 +34,6 @@ fn reads(rt: &impl Abort, alloc: Global, text: &[u8], tree: Definition) -> Resul
     let found = trees_of(rt, alloc, text)?;
     assert!(rt; found == tree, "another tree of {text:?}, or none");
     Ok(())
-}
-
-/// A name; where the bytes spell none, the test fails.
-fn name(alloc: Global, bytes: &[u8]) -> Result<Name, NoMemory> {
-    Name::of(alloc, bytes)?.ok_or(NoMemory)
 }
 
 fn one(alloc: Global, first: &[u8]) -> Result<List<Name>, NoMemory> {
