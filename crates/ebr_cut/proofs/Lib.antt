@@ -12,4 +12,5 @@ pub mod Agreement
 pub mod Places
 pub mod Lengths
 pub mod Roles
+pub mod CutOff
 mod Rows

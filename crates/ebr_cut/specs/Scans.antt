@@ -8,6 +8,7 @@ use Rattle.ebr_lexer.specs.declared.token.Token.{Token}
 use Rattle.ebr_lexer.specs.declared.token.TokenKind.{TokenKind}
 use Rattle.ebr_lexer.specs.declared.token.TokenKind.TheVariants as kind
 use Rattle.ebr_lexer.specs.Lexis as lexis
+use Rattle.ebr_cut.specs.declared.span.Span.{Span}
 use Rattle.ebr_cut.specs.declared.scanned.Scanned.{Scanned}
 use Rattle.ebr_cut.specs.declared.scanned.Scanned.TheVariants as scanned
 
@@ -60,6 +61,19 @@ end_of at (t ∷ ts) = end_of t.to ts
 abbrev pub stored : List ℕ → List Token → List ℕ
 stored text [] = []
 stored text (t ∷ ts) = slice_range text t.from (end_of t.to ts)
+
+-- The first of the tokens, if there is one, stands in front of its text.
+abbrev pub StandsInFront : List Token → Type 0
+StandsInFront [] = Unit {0}
+StandsInFront (t ∷ ts) = t.from ≡ 0
+
+-- A piece that has tokens begins with the first of them.
+abbrev pub BeginsInFront : List ℕ → Span → Type 0
+BeginsInFront script s = (tokens : List Token) → Scans (slice_range script s.from s.to) (scanned.Tokens tokens) → StandsInFront tokens
+
+-- The stored text of a piece has the tokens of the piece's text, each at its place.
+abbrev pub KeepsTokens : List ℕ → List Token → List ℕ → Type 0
+KeepsTokens text tokens kept = Scans text (scanned.Tokens tokens) → StandsInFront tokens → Scans kept (scanned.Tokens tokens)
 
 -- what a text with these tokens is: its tokens, unless they are nested too deep
 abbrev pub with_depth : List Token → Scanned

@@ -3,6 +3,7 @@
 ghost use Rattle.std.specs.Prelude.{◌≡◌, ◌≤◌, ◌<◌, ◌+◌, ◌++◌, length, slice_range, List as Sequence, IfOk, IfSome, OnOk, All, AllPairs};
 ghost use Rattle.ebr_cut.specs.declared.span.Span.{Span};
 ghost use Rattle.ebr_cut.specs.Sections.{Cut, LiesWithin, Precedes};
+ghost use Rattle.ebr_cut.specs.Scans.{BeginsInFront};
 ghost use Rattle.ebr_cut.specs.Reading.{cut, span_there};
 
 use crate::blank::{after, blank_lengths};
@@ -29,6 +30,8 @@ pub fn cut(alloc: Global, script: &[u8]) -> Result<List<Span>, NoMemory>
     // Each piece stands within the script, and ends before the next begins.
     ensures within { IfOk result (All (LiesWithin script.now)) }
     ensures ordered { IfOk result (AllPairs Precedes) }
+    // A piece that has tokens begins with the first of them.
+    ensures begins { IfOk result (All (BeginsInFront script.now)) }
 {
     read(alloc, script)
 }

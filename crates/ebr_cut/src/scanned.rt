@@ -4,7 +4,7 @@ ghost use Rattle.std.specs.Prelude.{◌≡◌, ◌≤◌, ◌<◌, length, false
 ghost use Rattle.std.specs.Str.{bytes_eq};
 ghost use Rattle.ebr_lexer.specs.Lexis.{LiesWithin, Precedes};
 ghost use Rattle.ebr_cut.specs.declared.scanned.Scanned.{Scanned};
-ghost use Rattle.ebr_cut.specs.Scans.{Scans, IfTokens, is_word, opens, closes, count_behind, is_too_deep, with_depth, stored};
+ghost use Rattle.ebr_cut.specs.Scans.{Scans, IfTokens, KeepsTokens, is_word, opens, closes, count_behind, is_too_deep, with_depth, stored};
 
 use crate::pieces::between;
 use ebr_base::{Code, List, NoMemory};
@@ -122,7 +122,9 @@ fn is_word(word: &[u8], token: &TokenKind) -> bool
 pub fn stored_text<'a>(text: &'a [u8], tokens: &[Token]) -> &'a [u8]
     requires within { All (LiesWithin text.now) tokens.now }
     requires ordered { AllPairs Precedes tokens.now }
-    ensures { result.now ≡ stored text.now tokens.now }
+    ensures value { result.now ≡ stored text.now tokens.now }
+    // It has the same tokens, where the first stands in front, as in a piece's text.
+    ensures tokens { KeepsTokens text.now tokens.now result.now }
 {
     match (tokens.first(), tokens.last()) {
         (Some(first), Some(last)) => between(text, first.from, last.to),

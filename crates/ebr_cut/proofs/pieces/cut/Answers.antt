@@ -1,5 +1,6 @@
 use Rattle.ebr_cut.proofs.Agreement.{found, only}
 use Rattle.ebr_cut.proofs.Places.{cut_within, cut_ordered}
+use Rattle.ebr_cut.proofs.CutOff.{cut_in_front}
 use Rattle.ebr_cut.proofs.pieces.cut.Goals as goal
 
 pub returns-clause-found : goal.returns-clause-found
@@ -13,3 +14,6 @@ returns-clause-within c = cut_within c.args.script.now c.read.result (found c.ar
 
 pub returns-clause-ordered : goal.returns-clause-ordered
 returns-clause-ordered c = cut_ordered c.args.script.now c.read.result (found c.args.script.now c.read.result c.read.ensures)
+
+pub returns-clause-begins : goal.returns-clause-begins
+returns-clause-begins c = cut_in_front c.args.script.now c.read.result (found c.args.script.now c.read.result c.read.ensures)
