@@ -1,4 +1,10 @@
-mod Rows
-pub mod TokensLemmas
-pub mod FormsLemmas
-pub mod PiecesLemmas
+pub mod Marks
+pub mod Begins
+pub mod Spelled
+pub mod Scanned
+pub mod Meanings
+pub mod Cuts
+pub mod Values
+pub mod TextsOfObjects
+pub mod Creations
+pub mod Kept

@@ -1,4 +1,2 @@
-pub mod Tokens
-pub mod Keywords
-pub mod Forms
+pub mod Statements
 pub mod Pieces

@@ -1,126 +1,148 @@
--- How a script is cut into pieces. Comments count as other bytes.
-use Rattle.std.specs.Prelude.{ℕ, zero, suc, ◌+◌, ◌-◌, ◌≤◌, Bool, true, false, not, ◌&&◌, ◌||◌, if◌then◌else◌, ◌==◌, List, [], ◌∷◌, length, take, drop, slice_range}
-use Rattle.std.specs.List.{suffix_len}
-use Rattle.ebr_base.specs.Word.{is_white}
-use Rattle.ebr_script.specs.declared.token.Token.{Token}
-use Rattle.ebr_script.specs.declared.keyword.Keyword.{Keyword}
-use Rattle.ebr_script.specs.declared.keyword.Keyword.TheVariants.{Begin, Create, Declare, Editionable, Function, Or, Package, Procedure, Replace, Trigger}
-use Rattle.ebr_script.specs.Keywords.{is_key}
-use Rattle.ebr_script.specs.declared.piece.FirstPiece.{FirstPiece}
-use Rattle.ebr_script.specs.Tokens.{first_tokens, is_quote}
-use Rattle.ebr_script.specs.Forms.{stored}
+-- The pieces of a script: what each spells, or the code of its first fault (own).
+use Rattle.std.specs.Prelude.{◌≡◌, ℕ, ◌≤◌, List, [], ◌∷◌, length, map, slice_range, Option, Some, None, Result, Ok, Err}
+use Rattle.ebr_base.specs.declared.code.Code.{Code}
+use Rattle.ebr_base.specs.declared.code.Code.TheVariants.{Ora}
+use Rattle.ebr_lexer.specs.declared.token.Token.{Token}
+use Rattle.ebr_lexer.specs.Lexis.{Fault}
+use Rattle.ebr_lexer.specs.Reading.{read}
+use Rattle.ebr_ast.specs.declared.definition.Statement.{Statement}
+use Rattle.ebr_ast.specs.declared.definition.Statement.TheVariants as statement
+use Rattle.ebr_ast.specs.declared.definition.Definition.{Definition}
+use Rattle.ebr_ast.specs.declared.definition.Definition.TheVariants as definition
+use Rattle.ebr_cut.specs.declared.span.Lead.{Lead}
+use Rattle.ebr_cut.specs.declared.span.Lead.TheVariants as lead
+use Rattle.ebr_cut.specs.declared.span.Span.{Span}
+use Rattle.ebr_cut.specs.declared.scanned.Scanned.{Scanned}
+use Rattle.ebr_cut.specs.declared.scanned.Scanned.TheVariants as scanned
+use Rattle.ebr_cut.specs.Sections as sections
+use Rattle.ebr_cut.specs.Reading.{cut}
+use Rattle.ebr_cut.specs.Scans.{Scans, with_depth, stored}
+use Rattle.ebr_plparse.specs.Units.{SpellsCreation}
+use Rattle.ebr_script.specs.declared.piece.Piece.{Piece}
+use Rattle.ebr_script.specs.declared.piece.PieceKind.{PieceKind}
+use Rattle.ebr_script.specs.declared.piece.PieceKind.TheVariants as piece
+use Rattle.ebr_script.specs.Statements.{SpellsStatement, statement_of, creation_of}
 
-abbrev pub is_line_end : ℕ → Bool
-is_line_end b = b == 10
+-- the code of tokens that spell nothing, by what the piece begins with
+abbrev pub refusal : Lead → Code
+refusal lead.Block = Ora 6550
+refusal lead.Call = Ora 6550
+refusal lead.Unit = Ora 900
+refusal lead.Other = Ora 900
 
-abbrev pub is_slash : ℕ → Bool
-is_slash b = b == 47
+-- The tokens spell no statement.
+abbrev pub SpellsNothing : List Token → Type 0
+SpellsNothing tokens = (s : Statement) → SpellsStatement tokens s → ⊥
 
-abbrev pub is_semicolon : ℕ → Bool
-is_semicolon b = b == 59
+-- why a piece is refused
+pub data Cause : Type 0 where
+  -- a lexical fault, or too deep a nesting
+  Scanning : Cause
+  Unspelled : Cause
 
--- nothing but white bytes up to the line's end
-abbrev pub rest_is_white : List ℕ → Bool
-rest_is_white [] = true
-rest_is_white (b ∷ bs) = is_line_end b || is_white b && rest_is_white bs
+abbrev pub IsRefused : Cause → Lead → List ℕ → Code → Type 0
+IsRefused Scanning l text code = Scans text (scanned.Fault code)
+IsRefused Unspelled l text code = (tokens : List Token) × Scans text (scanned.Tokens tokens) × SpellsNothing tokens × (code ≡ refusal l)
 
--- a line that holds `/` alone, white bytes aside
-abbrev pub is_slash_line : List ℕ → Bool
-is_slash_line [] = false
-is_slash_line (b ∷ bs) = if is_slash b then rest_is_white bs else not (is_line_end b) && is_white b && is_slash_line bs
+-- The text of a piece, which begins so, is this: the statement that its tokens spell, or the code of its first fault.
+abbrev pub Means : Lead → List ℕ → PieceKind → Type 0
+Means l text (piece.Tree s) = (tokens : List Token) × Scans text (scanned.Tokens tokens) × SpellsStatement tokens s
+Means l text (piece.Refused code) = (cause : Cause) × IsRefused cause l text code
 
--- How many bytes are skipped before a piece: white ones, and lines that hold `/` alone. `fresh` tells that
--- only white bytes have come since the line began.
-abbrev pub blank_length : Bool → List ℕ → ℕ
-blank_length fresh [] = 0
-blank_length fresh (b ∷ bs) =
-    if is_white b then suc (blank_length (fresh || is_line_end b) bs)
-    else if fresh && is_slash b && rest_is_white bs then suc (blank_length false bs)
-    else 0
+-- The piece stands where the span does, and is what its text means.
+pub record IsPiece (script : List ℕ) (s : Span) (p : Piece) : Type 0 where
+  pub from : p.from ≡ s.from
+  pub to : p.to ≡ s.to
+  pub means : Means s.lead (slice_range script s.from s.to) p.what
 
--- how many bytes stand before the next line that holds `/` alone
-abbrev pub unit_length : Bool → List ℕ → ℕ
-unit_length begins [] = 0
-unit_length begins (b ∷ bs) = if begins && is_slash_line (b ∷ bs) then 0 else suc (unit_length (is_line_end b) bs)
+-- Each span has its piece, in order.
+abbrev pub Pieces : List ℕ → List Span → List Piece → Type 0
+Pieces script [] [] = Unit {0}
+Pieces script (s ∷ ss) (p ∷ ps) = IsPiece script s p × Pieces script ss ps
+Pieces script ss ps = ⊥
 
--- how many bytes stand before the first `;` outside strings
-abbrev pub statement_length : Bool → List ℕ → ℕ
-statement_length quoted [] = 0
-statement_length quoted (b ∷ bs) =
-    if not quoted && is_semicolon b then 0 else suc (statement_length (if is_quote b then not quoted else quoted) bs)
+-- The script is cut into these pieces.
+pub record Cut (script : List ℕ) (pieces : List Piece) : Type 0 where
+  pub spans : List Span
+  pub cut : sections.Cut script spans
+  pub each : Pieces script spans pieces
 
--- the tokens without this word in front
-abbrev pub without : Keyword → List Token → List Token
-without k [] = []
-without k (t ∷ ts) = if is_key k t then ts else t ∷ ts
-
-abbrev pub without_or_replace : List Token → List Token
-without_or_replace [] = []
-without_or_replace (t ∷ []) = t ∷ []
-without_or_replace (t ∷ u ∷ ts) = if is_key Or t && is_key Replace u then ts else t ∷ u ∷ ts
-
-abbrev pub begins_kind : List Token → Bool
-begins_kind [] = false
-begins_kind (t ∷ ts) = is_key Procedure t || is_key Function t || is_key Package t || is_key Trigger t
-
--- BEGIN, DECLARE, or CREATE of a procedure, function, package or trigger
-abbrev pub begins_unit : List Token → Bool
-begins_unit [] = false
-begins_unit (t ∷ ts) = is_key Begin t || is_key Declare t
-    || is_key Create t && begins_kind (without Editionable (without_or_replace ts))
-
--- whether a unit stands in front: its first words tell
-abbrev pub is_unit : List ℕ → Bool
-is_unit bytes = begins_unit (first_tokens 5 bytes)
-
--- the bytes without the white ones at their end
-abbrev pub trimmed : List ℕ → List ℕ
-trimmed bytes = take (length bytes - suffix_len is_white bytes) bytes
-
--- the text of a piece
-abbrev pub text_of : List ℕ → FirstPiece → List ℕ
-text_of script p = trimmed (slice_range script p.from p.to)
-
--- the piece stands within the script
-abbrev pub LiesWithin : List ℕ → FirstPiece → Type 0
+-- a piece that stands within the script
+abbrev pub LiesWithin : List ℕ → Piece → Type 0
 LiesWithin script p = (p.from ≤ p.to) × (p.to ≤ length script)
 
--- what is left of a script: the place of its first byte, whether only white bytes have come since the line
--- began, and the bytes
-pub record Rest : Type 0 where
-  pub place : ℕ
-  pub fresh : Bool
-  pub bytes : List ℕ
+abbrev pub Precedes : Piece → Piece → Type 0
+Precedes p q = p.to ≤ q.from
 
-abbrev pub whole : List ℕ → Rest
-whole script = record { place = 0; fresh = true; bytes = script }
+-- ---- stored texts
 
-abbrev pub moved : Rest → ℕ → Bool → Rest
-moved r n fresh = record { place = r.place + n; fresh = fresh; bytes = drop n r.bytes }
+-- The text is that of an object: its tokens, which are nested no deeper than those of a piece, spell what creates it.
+pub record Stores (text : List ℕ) (d : Definition) : Type 0 where
+  pub tokens : List Token
+  pub scans : Scans text (scanned.Tokens tokens)
+  pub spells : SpellsCreation tokens d
 
-abbrev pub after_blanks : Rest → Rest
-after_blanks r = moved r (blank_length r.fresh r.bytes) false
+-- ---- reading
 
-abbrev pub piece_length : List ℕ → ℕ
-piece_length bytes = if is_unit bytes then unit_length false bytes else statement_length false bytes
+abbrev pub scanned_as : Result (List Token) Fault → Scanned
+scanned_as (Ok tokens) = with_depth tokens
+scanned_as (Err fault) = scanned.Fault fault.1
 
-abbrev pub piece_at : Rest → FirstPiece
-piece_at r = let n = piece_length r.bytes in
-    record { from = r.place; to = r.place + n; what = stored (trimmed (take n r.bytes)) }
+-- the tokens of a text, or its first fault
+unfoldable pub scanned_of : List ℕ → Scanned
+scanned_of text = scanned_as (read (length text) 0 text)
 
--- A unit ends before its line with `/`, and any other piece before its semicolon, which is no part of it.
-abbrev pub after_piece : Rest → Rest
-after_piece r = let n = piece_length r.bytes in if is_unit r.bytes then moved r n true else moved r (n + 1) false
+abbrev pub spelled_or : Lead → Option Statement → PieceKind
+spelled_or l None = piece.Refused (refusal l)
+spelled_or l (Some s) = piece.Tree s
 
-abbrev pub piece_then : (Rest → List FirstPiece) → Rest → List ℕ → List FirstPiece
-piece_then k r [] = []
-piece_then k r (b ∷ bs) = piece_at r ∷ k (after_piece r)
+abbrev pub kind_of_scan : Lead → Scanned → PieceKind
+kind_of_scan l (scanned.Fault code) = piece.Refused code
+kind_of_scan l (scanned.Tokens tokens) = spelled_or l (statement_of tokens)
 
--- at most so many pieces
-unfoldable pub cut_within : ℕ → Rest → List FirstPiece
-cut_within zero r = []
-cut_within (suc n) r = let s = after_blanks r in piece_then (cut_within n) s s.bytes
+-- what the text of a piece is that begins so
+unfoldable pub kind_of_text : Lead → List ℕ → PieceKind
+kind_of_text l text = kind_of_scan l (scanned_of text)
 
--- the pieces of a script: no more than it has bytes
-abbrev pub cut : List ℕ → List FirstPiece
-cut script = cut_within (length script) (whole script)
+abbrev pub piece_at : List ℕ → Span → Piece
+piece_at script s = record { from = s.from; to = s.to; what = kind_of_text s.lead (slice_range script s.from s.to) }
+
+-- the pieces of a script
+unfoldable pub pieces_of : List ℕ → List Piece
+pieces_of script = map (piece_at script) (cut script)
+
+abbrev pub creation_in : Scanned → Option Definition
+creation_in (scanned.Fault code) = None
+creation_in (scanned.Tokens tokens) = creation_of tokens
+
+-- what creates an object, by its stored text
+unfoldable pub stored_definition : List ℕ → Option Definition
+stored_definition text = creation_in (scanned_of text)
+
+-- the stored text of a text that is scanned so: the bytes from its first token to its last
+abbrev pub stored_of : List ℕ → Scanned → List ℕ
+stored_of text (scanned.Fault code) = []
+stored_of text (scanned.Tokens tokens) = stored text tokens
+
+-- the stored text of a piece; none where its bytes have a fault
+unfoldable pub text_of : List ℕ → Piece → List ℕ
+text_of script p = let text = slice_range script p.from p.to in stored_of text (scanned_of text)
+
+-- The definition creates an object.
+abbrev pub CreatesObject : Definition → Type 0
+CreatesObject (definition.CreateObject replace unit) = Unit {0}
+CreatesObject d = ⊥
+
+-- Where the piece creates an object, its stored text is that of this object.
+abbrev pub KeepsText : List ℕ → Piece → Type 0
+KeepsText script p = (d : Definition) → p.what ≡ piece.Tree (statement.Definition d) → CreatesObject d → stored_definition (text_of script p) ≡ Some d
+
+-- ---- laws
+
+-- Each script is cut, ..
+abbrev pub EachIsCut : Type 0
+EachIsCut = (script : List ℕ) → Cut script (pieces_of script)
+
+-- .. and in one way.
+abbrev pub OneCut : Type 0
+OneCut = (script : List ℕ) (pieces : List Piece) → Cut script pieces → pieces ≡ pieces_of script

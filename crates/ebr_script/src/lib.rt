@@ -1,14 +1,11 @@
-//! Cuts a script into pieces and tells the form of each.
+//! The pieces of a script, each with the statement that it spells or the code of its fault.
 #![tactic(auto)]
 
-mod cut;
-mod form;
-mod keyword;
 mod piece;
+mod script;
+mod statement;
 #[cfg(test)]
 mod tests;
-mod token;
-mod unit;
 
-pub use cut::{first_pieces, text_of};
-pub use piece::{FirstForm, FirstPiece};
+pub use piece::{Piece, PieceKind};
+pub use script::{one_cut, pieces, stored, text_of};

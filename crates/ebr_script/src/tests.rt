@@ -1,237 +1,230 @@
-ghost use Rattle.std.specs.Prelude.{◌<◌, length};
+//! Scripts with the kinds of their pieces, and stored texts.
 
-use crate::{FirstForm, first_pieces, text_of};
-use ebr_base::{Bytes, CloneIn, NoMemory};
+use crate::{Piece, PieceKind, pieces, stored, text_of};
+use ebr_ast::Statement;
+use ebr_base::{Bytes, Code, NoMemory};
 use std::alloc::Global;
 use std::process::Abort;
 use std::test::Fail;
 
-/// The form that is expected, and what it holds.
-#[derive(Clone, Copy)]
-enum Form {
-    CreateEdition(&'static [u8]),
-    SetEdition(&'static [u8]),
-    CreateProcedure(&'static [u8], &'static [u8]),
-    ReplaceProcedure(&'static [u8], &'static [u8]),
-    Call(&'static [u8]),
-    Other,
+/// What a piece is: a tree of a kind, or the number of its code.
+#[derive(Clone, Copy, Debug, PartialEq, Eq)]
+enum Told {
+    Sql,
+    Transaction,
+    SetEdition,
+    Definition,
+    Block,
+    Ora(u32),
+    Ebr(u32),
 }
 
-fn is_form(found: &FirstForm, form: Form) -> bool {
-    match (found, form) {
-        (FirstForm::CreateEdition(name), Form::CreateEdition(n))
-        | (FirstForm::SetEdition(name), Form::SetEdition(n)) => name.as_slice() == n,
-        (
-            FirstForm::CreateProcedure {
-                replace: false,
-                name,
-                line,
-            },
-            Form::CreateProcedure(n, l),
-        )
-        | (
-            FirstForm::CreateProcedure {
-                replace: true,
-                name,
-                line,
-            },
-            Form::ReplaceProcedure(n, l),
-        ) => name.as_slice() == n && line.as_slice() == l,
-        (FirstForm::Call(name), Form::Call(n)) => name.as_slice() == n,
-        (FirstForm::Other, Form::Other) => true,
-        _ => false,
+fn kind_of_tree(tree: &Statement) -> Told {
+    match tree {
+        Statement::Sql(_) => Told::Sql,
+        Statement::Transaction(_) => Told::Transaction,
+        Statement::SetEdition(_) => Told::SetEdition,
+        Statement::Definition(_) => Told::Definition,
+        Statement::Block(_) => Told::Block,
     }
 }
 
-fn check(
-    rt: &impl Abort,
-    alloc: Global,
-    script: &[u8],
-    rows: &[(u32, u32, Form)],
-) -> Result<(), NoMemory>
-    requires { length script.now < 4294967295 }
-{
-    let pieces = first_pieces(alloc, script)?;
-    assert_eq!(rt; pieces.len(), rows.len(), "pieces of {script:?}");
-    for (piece, (from, to, form)) in pieces.as_slice().iter().zip(rows) {
+fn kind_of(piece: &Piece) -> Told {
+    match &piece.what {
+        PieceKind::Tree(tree) => kind_of_tree(tree),
+        PieceKind::Refused(Code::Ora(number)) => Told::Ora(*number),
+        PieceKind::Refused(Code::Ebr(number)) => Told::Ebr(*number),
+    }
+}
+
+/// A piece that is expected: where it stands, and what it is.
+type Row = (u32, u32, Told);
+
+fn check(rt: &impl Abort, alloc: Global, script: &[u8], rows: &[Row]) -> Result<(), NoMemory> {
+    assert!(rt; script.len() < 100, "a short script");
+    let found = pieces(alloc, script)?;
+    assert_eq!(rt; found.len(), rows.len(), "pieces of {script:?}");
+    for (piece, row) in found.as_slice().iter().zip(rows) {
         assert_eq!(rt;
-            (piece.from, piece.to),
-            (*from, *to),
-            "places in {script:?}"
+            (piece.from, piece.to, kind_of(piece)),
+            *row,
+            "in {script:?}"
         );
-        assert!(rt; is_form(&piece.what, *form), "{piece:?} of {script:?}");
-        assert!(rt; is_form(&piece.what.clone_in(alloc)?, *form), "a copy");
     }
     Ok(())
 }
 
 #[test]
-fn scripts_are_cut(rt: HostRuntime) -> Result<(), Fail> {
+fn pieces_have_their_kinds_or_codes(rt: HostRuntime) -> Result<(), Fail> {
     let alloc = rt.alloc();
-    check(
-        &rt,
-        alloc,
-        b"CREATE PROCEDURE a IS BEGIN DBMS_OUTPUT.PUT_LINE('a'); END;\n/\nCALL a();\nCALL b();\n",
-        &[
-            (0, 60, Form::CreateProcedure(b"A", b"a")),
-            (62, 70, Form::Call(b"A")),
-            (72, 80, Form::Call(b"B")),
-        ],
-    )?;
-    // Nothing but blanks and lines that hold `/` alone.
-    check(&rt, alloc, b"", &[])?;
-    check(&rt, alloc, b" \n\t/ \r\n/\n  /", &[])?;
-    // Empty pieces.
-    check(
-        &rt,
-        alloc,
-        b";;",
-        &[(0, 0, Form::Other), (1, 1, Form::Other)],
-    )?;
-    // A semicolon and a line's end in a string.
-    check(
-        &rt,
-        alloc,
-        b"CALL ';\n' ;CALL b()",
-        &[(0, 10, Form::Other), (11, 19, Form::Call(b"B"))],
-    )?;
-    // A string that does not end.
-    check(&rt, alloc, b"CALL 'a;b\n/\n", &[(0, 12, Form::Other)])?;
-    // A line that holds `/` and more, and one that holds the end of a statement too.
-    check(&rt, alloc, b"/ x;", &[(0, 3, Form::Other)])?;
-    check(
-        &rt,
-        alloc,
-        b"CALL a(); /\nCALL b()",
-        &[(0, 8, Form::Call(b"A")), (10, 20, Form::Other)],
-    )?;
-    Ok(())
-}
-
-#[test]
-fn units_end_before_a_line_with_a_slash(rt: HostRuntime) -> Result<(), Fail> {
-    let alloc = rt.alloc();
-    check(&rt, alloc, b"BEGIN a; END;", &[(0, 13, Form::Other)])?;
-    check(
-        &rt,
-        alloc,
-        b"declare x; begin null; end;\n/\nCALL b()",
-        &[(0, 28, Form::Other), (30, 38, Form::Call(b"B"))],
-    )?;
-    check(
-        &rt,
-        alloc,
-        b"create or replace editionable procedure p is begin null; end;",
-        &[(0, 61, Form::Other)],
-    )?;
-    check(
-        &rt,
-        alloc,
-        b"CREATE VIEW v; CALL b()",
-        &[(0, 13, Form::Other), (15, 23, Form::Call(b"B"))],
-    )?;
-    Ok(())
-}
-
-#[test]
-fn forms_are_told(rt: HostRuntime) -> Result<(), Fail> {
-    let alloc = rt.alloc();
-    // Names in any case, and white bytes anywhere between tokens.
-    check(
-        &rt,
-        alloc,
-        b"Call Total_1();",
-        &[(0, 14, Form::Call(b"TOTAL_1"))],
-    )?;
-    check(&rt, alloc, b"CALL a ( ) ;", &[(0, 11, Form::Call(b"A"))])?;
-    // A reserved word, a byte that is no letter, and more after the form.
-    check(&rt, alloc, b"CALL begin();", &[(0, 12, Form::Other)])?;
-    check(&rt, alloc, b"CALL \xC3\xA4();", &[(0, 9, Form::Other)])?;
-    check(&rt, alloc, b"CALL a() b;", &[(0, 10, Form::Other)])?;
-    // A string keeps its bytes.
-    check(
-        &rt,
-        alloc,
-        b"create procedure p is begin dbms_output . put_line ( ' b;\xFF' ); end;",
-        &[(0, 67, Form::CreateProcedure(b"P", b" b;\xFF"))],
-    )?;
-    Ok(())
-}
-
-#[test]
-fn forms_of_editions_are_told(rt: HostRuntime) -> Result<(), Fail> {
-    let alloc = rt.alloc();
-    check(
-        &rt,
-        alloc,
-        b"create edition V2;alter session set edition=ora$base",
-        &[
-            (0, 17, Form::CreateEdition(b"V2")),
-            (18, 52, Form::SetEdition(b"ORA$BASE")),
-        ],
-    )?;
-    check(
-        &rt,
-        alloc,
-        b"CREATE OR REPLACE PROCEDURE a IS BEGIN DBMS_OUTPUT.PUT_LINE('b'); END;\n/\nCALL a()",
-        &[
-            (0, 71, Form::ReplaceProcedure(b"A", b"b")),
-            (73, 81, Form::Call(b"A")),
-        ],
-    )?;
-    // A unit may begin with `OR REPLACE` that goes on as no form does.
-    check(
-        &rt,
-        alloc,
-        b"CREATE OR PROCEDURE a;CREATE OR REPLACE EDITION b;",
-        &[(0, 21, Form::Other), (22, 49, Form::Other)],
-    )?;
-    // A name is needed, and nothing may follow it.
-    check(&rt, alloc, b"CREATE EDITION;", &[(0, 14, Form::Other)])?;
-    check(&rt, alloc, b"CREATE EDITION set;", &[(0, 18, Form::Other)])?;
-    check(
-        &rt,
-        alloc,
-        b"ALTER SESSION SET EDITION v2;",
-        &[(0, 28, Form::Other)],
-    )?;
-    check(
-        &rt,
-        alloc,
-        b"ALTER SESSION SET EDITION = v2 v3;",
-        &[(0, 33, Form::Other)],
-    )?;
-    Ok(())
-}
-
-#[test]
-fn names_have_at_most_128_bytes(rt: HostRuntime) -> Result<(), Fail> {
-    let mut script = Bytes::new(rt.alloc());
-    script.extend(b"CALL ")?;
-    for _ in 0..128 {
-        script.push(b'A')?;
+    let rows: &[(&[u8], &[Row])] = &[
+        (b"", &[]),
+        (b" -- only\n/* comments */\n / \n", &[]),
+        (b"COMMIT", &[(0, 6, Told::Transaction)]),
+        (
+            b"COMMIT;SELECT 1 FROM dual",
+            &[(0, 6, Told::Transaction), (7, 25, Told::Sql)],
+        ),
+        (
+            b"-- c\n  COMMIT WORK ;/* c */ROLLBACK",
+            &[(7, 19, Told::Transaction), (27, 35, Told::Transaction)],
+        ),
+        (
+            b"CREATE EDITION v2;ALTER SESSION SET EDITION = v2;",
+            &[(0, 17, Told::Definition), (18, 48, Told::SetEdition)],
+        ),
+        (
+            b"DROP PROCEDURE p;x",
+            &[(0, 16, Told::Definition), (17, 18, Told::Ora(900))],
+        ),
+        (
+            b"CREATE OR REPLACE EDITIONING VIEW v AS SELECT c FROM t;",
+            &[(0, 54, Told::Definition)],
+        ),
+        (
+            b"CREATE PROCEDURE p IS BEGIN NULL; END;\n/\nCALL p();",
+            &[(0, 39, Told::Definition), (41, 49, Told::Block)],
+        ),
+        (b"BEGIN NULL; END;", &[(0, 16, Told::Block)]),
+        (
+            b"CALL a(';'); / b",
+            &[(0, 11, Told::Block), (13, 16, Told::Ora(900))],
+        ),
+        (b"CALL p", &[(0, 6, Told::Ora(6550))]),
+        (b"BEGIN\n/\n", &[(0, 6, Told::Ora(6550))]),
+        (b"CREATE FUNCTION;", &[(0, 16, Told::Ora(900))]),
+        (b";", &[(0, 0, Told::Ora(900))]),
+        (b"SELECT 4\n/\n2 FROM dual;", &[(0, 22, Told::Ora(900))]),
+        (b"SELECT 'a; COMMIT;\nCOMMIT;\n", &[(0, 27, Told::Ebr(21))]),
+        (
+            b"BEGIN '\n/\n';",
+            &[(0, 8, Told::Ebr(21)), (10, 12, Told::Ebr(21))],
+        ),
+        (
+            b"CREATE PROCEDURE /*\n/\n*/ a;",
+            &[(0, 20, Told::Ebr(21)), (22, 26, Told::Ora(900))],
+        ),
+        (b"DECLARE ?", &[(0, 9, Told::Ebr(20))]),
+        (
+            b"SELECT 1234567890123456789; COMMIT",
+            &[(0, 26, Told::Ebr(22)), (28, 34, Told::Transaction)],
+        ),
+    ];
+    for (script, rows) in rows {
+        check(&rt, alloc, script, rows)?;
     }
-    let mut long = Bytes::new(rt.alloc());
-    long.extend(script.as_slice())?;
-    script.extend(b"()")?;
-    long.extend(b"A()")?;
-    assert_eq!(rt; script.len(), 135);
-    assert_eq!(rt; long.len(), 136);
-    let pieces = first_pieces(rt.alloc(), script.as_slice())?;
-    let others = first_pieces(rt.alloc(), long.as_slice())?;
-    assert!(rt; matches!(pieces.get(0).ok_or("piece")?.what, FirstForm::Call(_)));
-    assert!(rt; matches!(others.get(0).ok_or("piece")?.what, FirstForm::Other));
+    Ok(())
+}
+
+/// A text, another so many times, and a third.
+fn repeated(
+    alloc: Global,
+    front: &[u8],
+    text: &[u8],
+    count: usize,
+    back: &[u8],
+) -> Result<Bytes, NoMemory> {
+    let mut whole = Bytes::new(alloc);
+    whole.extend(front)?;
+    for _ in 0..count {
+        whole.extend(text)?;
+    }
+    whole.extend(back)?;
+    Ok(whole)
+}
+
+/// What the first piece is.
+fn first_told(rt: &impl Abort, alloc: Global, script: &[u8]) -> Result<Told, NoMemory> {
+    assert!(rt; script.len() < 100000, "not too long");
+    match pieces(alloc, script)?.get(0) {
+        Some(piece) => Ok(kind_of(piece)),
+        None => panic!(rt; "no piece"),
+    }
+}
+
+#[test]
+fn long_words_and_strings_and_deep_nesting_are_refused(rt: HostRuntime) -> Result<(), Fail> {
+    let alloc = rt.alloc();
+    let rows: &[(&[u8], &[u8], usize, &[u8], Told)] = &[
+        (b"", b"a", 128, b"", Told::Ora(900)),
+        (b"", b"a", 129, b"", Told::Ebr(23)),
+        (b"'", b"a", 32767, b"'", Told::Ora(900)),
+        (b"'", b"a", 32768, b"'", Told::Ebr(24)),
+        (b"", b"(", 64, b"", Told::Ora(900)),
+        (b"", b"(", 65, b"", Told::Ebr(25)),
+        (b"CALL ", b"(", 65, b"?", Told::Ebr(20)),
+    ];
+    for (front, text, count, back, told) in rows {
+        let script = repeated(alloc, front, text, *count, back)?;
+        assert_eq!(rt;
+            first_told(&rt, alloc, script.as_slice())?,
+            *told,
+            "{count} times {text:?}"
+        );
+    }
+    Ok(())
+}
+
+fn is_stored(rt: &impl Abort, alloc: Global, text: &[u8]) -> Result<bool, NoMemory> {
+    assert!(rt; text.len() < 100, "a short text");
+    Ok(stored(alloc, text)?.is_some())
+}
+
+#[test]
+fn stored_texts_create_objects(rt: HostRuntime) -> Result<(), Fail> {
+    let alloc = rt.alloc();
+    let rows: &[(&[u8], bool)] = &[
+        (b"CREATE PROCEDURE p IS BEGIN NULL; END;", true),
+        (
+            b" -- c\n create editioning view v as select c from t /* d */\n",
+            true,
+        ),
+        (b"", false),
+        (b"CREATE PROCEDURE p IS BEGIN NULL; END; x", false),
+        (b"CREATE PROCEDURE p IS BEGIN NULL; END; 'x", false),
+        (b"CREATE TABLE t (a NUMBER)", false),
+        (b"DROP PROCEDURE p", false),
+    ];
+    for (text, stores) in rows {
+        assert_eq!(rt; is_stored(&rt, alloc, text)?, *stores, "{text:?}");
+    }
+    Ok(())
+}
+
+/// The first piece of the script has this stored text.
+fn keeps(rt: &impl Abort, alloc: Global, script: &[u8], text: &[u8]) -> Result<(), NoMemory> {
+    assert!(rt; script.len() < 100, "a short script");
+    let found = pieces(alloc, script)?;
+    match found.get(0) {
+        Some(piece) => {
+            assert!(rt;
+                piece.from <= piece.to && piece.to as usize <= script.len(),
+                "a piece within"
+            );
+            assert!(rt;
+                text_of(alloc, script, piece)? == text,
+                "{text:?} of {script:?}"
+            );
+        }
+        None => panic!(rt; "no piece"),
+    }
     Ok(())
 }
 
 #[test]
-fn texts_are_trimmed(rt: HostRuntime) -> Result<(), Fail> {
-    let script: &[u8] = b"  CALL a() \n ; ;\nbegin\n x; \t\r\n\n";
-    let texts: [&[u8]; 3] = [b"CALL a()", b"", b"begin\n x;"];
-    let pieces = first_pieces(rt.alloc(), script)?;
-    assert_eq!(rt; pieces.len(), 3);
-    for (i, piece) in pieces.as_slice().iter().enumerate() {
-        assert_eq!(rt; text_of(script, piece), texts[i], "piece {i}");
+fn the_stored_text_goes_from_the_first_token_to_the_last(rt: HostRuntime) -> Result<(), Fail> {
+    let alloc = rt.alloc();
+    let rows: &[(&[u8], &[u8])] = &[
+        (b"/* x */ a /* y */ b -- z\n;c", b"a /* y */ b"),
+        (
+            b"-- x\nCREATE PROCEDURE p IS BEGIN NULL; END;\n\n-- y\n/\n",
+            b"CREATE PROCEDURE p IS BEGIN NULL; END;",
+        ),
+        (b";", b""),
+        (b"a 'b", b""),
+    ];
+    for (script, text) in rows {
+        keeps(&rt, alloc, script, text)?;
     }
     Ok(())
 }

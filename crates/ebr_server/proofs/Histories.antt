@@ -1,10 +1,10 @@
 -- Histories with one more entry.
 use Rattle.std.proofs.Common.{ℕ, Bool, true, false, ◌≡◌, ◌≢◌, List, [], ◌∷◌, ◌++◌, refl, sym, ap, ◌∙◌, subst, subst₂, append_assoc, append-nil, ◌<◌}
 use Rattle.std.specs.Prelude.{Option, Some, None, IsSome, vec_len, vec_capacity}
-use Rattle.ebr_script.specs.declared.piece.FirstForm.TheVariants.{CreateEdition, CreateProcedure}
 use Rattle.ebr_server.specs.declared.ask.Ask.{Ask}
 use Rattle.ebr_server.specs.declared.ask.Ask.TheVariants.{Begin, Ddl, SetEdition, EndCall, Leave}
 use Rattle.ebr_server.specs.declared.ask.Procedure.{Procedure}
+use Rattle.ebr_server.specs.Forms.{Effect, MakesProcedure, MakesEdition, MakesNothing, effect_of}
 use Rattle.ebr_server.specs.Sessions.{look_up}
 use Rattle.ebr_server.specs.Procedures.{number_of}
 use Rattle.ebr_server.specs.declared.ask.Answer.{Answer}
@@ -14,7 +14,7 @@ use Rattle.ebr_server.specs.declared.engine.Engine.{Engine}
 use Rattle.ebr_server.specs.declared.engine.Editions.{Editions}
 use Rattle.ebr_server.specs.Machine.{Database, Reply}
 use Rattle.ebr_server.specs.History.{After, Legal, Answered, IsLive, next}
-use Rattle.ebr_server.specs.Engine.{IsOpen, Answers, IsSpelled, entries, entry_of, session, start, answer_in, Keeps, answer_to_create, answer_to_create_edition, answer_to_set_edition, editions_after}
+use Rattle.ebr_server.specs.Engine.{IsOpen, Answers, IsSpelled, entries, entry_of, session, start, answer_in, answer_to_definition, Keeps, answer_to_create, answer_to_create_edition, answer_to_set_edition, editions_after}
 use Rattle.ebr_server.proofs.Replies.{answer-Reply, Keeps-Reply}
 
 pub After-append : (db : Database) (h : List Entry) (x : Entry) → After db (h ++ x ∷ []) ≡ next (After db h) x
@@ -49,12 +49,15 @@ answer_to_set_edition-memory : (o : Option ℕ) → answer_to_set_edition o ≢ 
 answer_to_set_edition-memory (Some n) e = cc
 answer_to_set_edition-memory None e = cc
 
+answer_to_definition-memory : (editions : Editions) (makes : Effect) → answer_to_definition editions makes ≢ NoMemory
+answer_to_definition-memory editions (MakesProcedure replace name line) e = answer_to_create-memory replace (look_up name editions.procedures) e
+answer_to_definition-memory editions (MakesEdition name) e = answer_to_create_edition-memory (number_of name editions.names) e
+answer_to_definition-memory editions MakesNothing e = cc
+
 -- the engine's own answers take no memory
 answer_in-memory : (editions : Editions) (ask : Ask) → answer_in editions ask ≢ NoMemory
 answer_in-memory editions Begin e = cc
-answer_in-memory editions (Ddl (CreateProcedure replace name line) text) e = answer_to_create-memory replace (look_up name editions.procedures) e
-answer_in-memory editions (Ddl (CreateEdition name) text) e = answer_to_create_edition-memory (number_of name editions.names) e
-answer_in-memory editions (Ddl form text) e = cc
+answer_in-memory editions (Ddl what text) e = answer_to_definition-memory editions (effect_of what) e
 answer_in-memory editions (SetEdition name) e = answer_to_set_edition-memory (number_of name editions.names) e
 answer_in-memory editions (EndCall failed) e = cc
 answer_in-memory editions Leave e = cc

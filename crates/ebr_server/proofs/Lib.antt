@@ -5,6 +5,9 @@ pub mod Entries
 pub mod Lines
 pub mod Views
 pub mod Records
+pub mod Creations
+pub mod Trees
+pub mod Replayed
 pub mod Replies
 pub mod Histories
 pub mod Reading

@@ -1,17 +1,17 @@
 -- The catalogue of records, and what its editions see.
 use Rattle.std.proofs.Common.{◌≡◌, ℕ, ◌≤◌, List, [], ◌∷◌, ◌++◌, length, sym, ap, ◌∙◌}
-use Rattle.std.specs.Prelude.{Some, fold, reverse}
+use Rattle.std.specs.Prelude.{Option, Some, None, fold, reverse}
 use Rattle.std.specs.List.{filter_map}
 use Rattle.std.proofs.lemmas.Grind.{fold-append}
 use Rattle.std.proofs.lemmas.Option.{same_Some}
 use Rattle.ebr_base.specs.declared.numbers.EditionNo.{EditionNo}
-use Rattle.ebr_script.specs.declared.piece.FirstForm.{FirstForm}
-use Rattle.ebr_script.specs.declared.piece.FirstForm.TheVariants.{CreateProcedure}
-use Rattle.ebr_script.specs.Forms.{stored}
+use Rattle.ebr_ast.specs.declared.definition.Definition.{Definition}
+use Rattle.ebr_script.specs.Pieces.{stored_definition}
+use Rattle.ebr_server.specs.Forms.{Effect, MakesProcedure, MakesEdition, MakesNothing, effect_of}
 use Rattle.ebr_server.specs.Sessions.{look_up}
 use Rattle.ebr_server.specs.Procedures.{seen_in}
 use Rattle.ebr_server.specs.Engine.{definition_of, numbered}
-use Rattle.ebr_server.specs.Catalogue.{Record, Edition, Object, Catalogue, catalogue_of, first_catalogue, with_record, with_object, unit_key, names_of, visible_along, line_among, line_of, Visible, View}
+use Rattle.ebr_server.specs.Catalogue.{Record, Edition, Object, Catalogue, catalogue_of, first_catalogue, with_record, with_object, with_stored, unit_key, names_of, visible_along, line_among, line_of, Visible, View}
 use Rattle.ebr_server.proofs.Entries.{AreRegular, AreRegular-nil, AreRegular-append, AreMade, AreMade-append, visible_names}
 use Rattle.ebr_server.proofs.Lookups.{look_up-visible}
 use Rattle.ebr_server.proofs.Lines.{edition, line-numbered}
@@ -25,16 +25,21 @@ pub record IsPlain (c : Catalogue) : Type 0 where
   pub regular : AreRegular c.entries
   pub made : AreMade c.entries
 
-IsPlain-with_object : (c : Catalogue) (e : EditionNo) (form : FirstForm) → IsPlain c → IsPlain (with_object c e form)
-IsPlain-with_object c e (CreateProcedure replace name line) h = record {
+IsPlain-with_object : (c : Catalogue) (e : EditionNo) (makes : Effect) → IsPlain c → IsPlain (with_object c e makes)
+IsPlain-with_object c e (MakesProcedure replace name line) h = record {
   regular = AreRegular-append c.entries _ h.regular (λ q is. ap (λ p. p.name) (sym (same_Some _ q is)));
   made = AreMade-append c.entries e _ _ h.made;
 }
-IsPlain-with_object c e form h = h
+IsPlain-with_object c e (MakesEdition name) h = h
+IsPlain-with_object c e MakesNothing h = h
+
+IsPlain-with_stored : (c : Catalogue) (e : EditionNo) (what : Option Definition) → IsPlain c → IsPlain (with_stored c e what)
+IsPlain-with_stored c e None h = h
+IsPlain-with_stored c e (Some what) h = IsPlain-with_object c e (effect_of what) h
 
 IsPlain-with_record : (c : Catalogue) (r : Record) → IsPlain c → IsPlain (with_record c r)
 IsPlain-with_record c (Edition name parent) h = record { regular = h.regular; made = h.made }
-IsPlain-with_record c (Object e text) h = IsPlain-with_object c e (stored text) h
+IsPlain-with_record c (Object e text) h = IsPlain-with_stored c e (stored_definition text) h
 
 IsPlain-fold : (records : List Record) (c : Catalogue) → IsPlain c → IsPlain (fold with_record c records)
 IsPlain-fold [] c h = h

@@ -5,8 +5,9 @@ use Rattle.std.specs.List.{filter_map}
 use Rattle.std.proofs.lemmas.List.Elements.{filter_map-append}
 use Rattle.std.proofs.lemmas.Option.{none-some}
 use Rattle.ebr_base.specs.declared.numbers.EditionNo.{EditionNo}
-use Rattle.ebr_script.specs.declared.piece.FirstForm.TheVariants.{CreateEdition, CreateProcedure}
-use Rattle.ebr_script.specs.Forms.{stored}
+use Rattle.ebr_ast.specs.declared.definition.Definition.{Definition}
+use Rattle.ebr_script.specs.Pieces.{stored_definition}
+use Rattle.ebr_server.specs.Forms.{Effect, MakesProcedure, MakesEdition, MakesNothing, effect_of}
 use Rattle.ebr_server.specs.declared.ask.Ask.{Ask}
 use Rattle.ebr_server.specs.declared.ask.Ask.TheVariants.{Begin, Ddl, SetEdition, EndCall, Leave}
 use Rattle.ebr_server.specs.declared.ask.Answer.TheVariants as answer
@@ -14,11 +15,12 @@ use Rattle.ebr_server.specs.declared.ask.Procedure.{Procedure}
 use Rattle.ebr_server.specs.declared.engine.Editions.{Editions}
 use Rattle.ebr_server.specs.Procedures.{put, number_of, seen_in}
 use Rattle.ebr_server.specs.Sessions.{look_up}
-use Rattle.ebr_server.specs.Catalogue.{Edition, Object, Catalogue, EditionEntry, catalogue_of, first_edition, with_object, with_entry, with_edition, leaf, edition_named, unit_key, Visible, View}
-use Rattle.ebr_server.specs.Machine.{Database, Session, Reply, created, recorded, edition_created, edition_set, reply_in, reply_of, session_at, edition_of}
-use Rattle.ebr_server.specs.Engine.{session, Keeps, answer_in, answer_to_create, answer_to_create_edition, answer_to_set_edition, editions_after, editions_after_create, editions_after_create_edition, editions_after_set_edition, with_procedure, definition_of, numbered, IsSpelled}
+use Rattle.ebr_server.specs.Catalogue.{Edition, Object, Catalogue, EditionEntry, catalogue_of, first_edition, with_object, with_stored, with_entry, with_edition, leaf, edition_named, unit_key, Visible, View}
+use Rattle.ebr_server.specs.Machine.{Database, Session, Reply, defined, created, recorded, edition_created, edition_set, reply_in, reply_of, session_at, edition_of}
+use Rattle.ebr_server.specs.Engine.{session, Keeps, answer_in, answer_to_definition, editions_after_definition, answer_to_create, answer_to_create_edition, answer_to_set_edition, editions_after, editions_after_create, editions_after_create_edition, editions_after_set_edition, with_procedure, definition_of, numbered, IsSpelled}
 use Rattle.ebr_server.proofs.Lines.{edition, edition_entry, zero-add, length-numbered, numbered-append, leaf-numbered, named-numbered, number_of-within}
 use Rattle.ebr_server.proofs.Views.{seen_in-here}
+use Rattle.ebr_server.proofs.Creations.{creates}
 use Rattle.ebr_server.proofs.Records.{catalogue_of-append, look_up-View, View-numbered}
 
 answer-created : (replace : Bool) (o : Option Procedure) (db : Database) (e : EditionNo) (text : List ℕ) → (created replace o db e text).answer ≡ answer_to_create replace o
@@ -61,12 +63,15 @@ module _ (db : Database) (editions : Editions) (h : Keeps editions db) where
   numbers : (name : List ℕ) → edition_named (catalogue_of db.records) name ≡ option_map edition (number_of name editions.names)
   numbers name = ap (λ es. edition_named (record { editions = es; entries = []; default = edition 1 }) name) h.names ∙ named-numbered name editions.names
 
+  answer-defined : (makes : Effect) (text : List ℕ) → (defined db (edition editions.current) makes text).answer ≡ answer_to_definition editions makes
+  answer-defined (MakesProcedure replace name line) text = answer-created replace _ db _ text ∙ ap (answer_to_create replace) (sym (finds name))
+  answer-defined (MakesEdition name) text =
+      ap (λ o. (edition_created o db name).answer) (numbers name) ∙ answer-edition_created (number_of name editions.names) db name
+  answer-defined MakesNothing text = refl
+
   answer-reply_in : (ask : Ask) → (reply_in db session (edition editions.current) ask).answer ≡ answer_in editions ask
   answer-reply_in Begin = ap answer.View (sym shows)
-  answer-reply_in (Ddl (CreateProcedure replace name line) text) = answer-created replace _ db _ text ∙ ap (answer_to_create replace) (sym (finds name))
-  answer-reply_in (Ddl (CreateEdition name) text) =
-      ap (λ o. (edition_created o db name).answer) (numbers name) ∙ answer-edition_created (number_of name editions.names) db name
-  answer-reply_in (Ddl form text) = refl
+  answer-reply_in (Ddl what text) = answer-defined (effect_of what) text
   answer-reply_in (SetEdition name) = ap (λ o. (edition_set o db session).answer) (numbers name) ∙ answer-edition_set (number_of name editions.names) db
   answer-reply_in (EndCall failed) = refl
   answer-reply_in Leave = refl
@@ -76,13 +81,14 @@ module _ (db : Database) (editions : Editions) (h : Keeps editions db) where
   answer-Reply ask = ap (λ e. (reply_of e db session ask).answer) h.current ∙ answer-reply_in ask
 
   -- a procedure is made in the session's edition
-  Keeps-procedure : (replace : Bool) (name line text : List ℕ) → stored text ≡ CreateProcedure replace name line
+  Keeps-procedure : (what : Definition) (replace : Bool) (name line text : List ℕ) → effect_of what ≡ MakesProcedure replace name line → stored_definition text ≡ Some what
       → Keeps (with_procedure (record { name = name; line = line }) editions) (recorded db (Object (edition editions.current) text)).database
-  Keeps-procedure replace name line text spelled =
+  Keeps-procedure what replace name line text is spelled =
       let c = catalogue_of db.records in
       let p : Procedure = record { name = name; line = line } in
       let after : catalogue_of (db.records ++ Object (edition editions.current) text ∷ []) ≡ with_entry c (edition editions.current) (unit_key name) (Some p) =
-      catalogue_of-append db.records (Object (edition editions.current) text) ∙ ap (with_object c (edition editions.current)) spelled in
+      catalogue_of-append db.records (Object (edition editions.current) text)
+      ∙ ap (with_stored c (edition editions.current)) spelled ∙ ap (with_object c (edition editions.current)) is in
       record {
         current = h.current;
         counted = h.counted;
@@ -95,12 +101,13 @@ module _ (db : Database) (editions : Editions) (h : Keeps editions db) where
         procedures = ap (put p) h.procedures ∙ sym (seen_in-here editions.definitions p editions.current h.counted);
       }
 
-  Keeps-created : (replace : Bool) (name line text : List ℕ) → stored text ≡ CreateProcedure replace name line → (replaces : Bool) (o : Option Procedure)
+  Keeps-created : (what : Definition) (replace : Bool) (name line text : List ℕ) → effect_of what ≡ MakesProcedure replace name line → stored_definition text ≡ Some what
+      → (replaces : Bool) (o : Option Procedure)
       → Keeps (editions_after_create replaces o (record { name = name; line = line }) editions) (created replaces o db (edition editions.current) text).database
-  Keeps-created replace name line text spelled false (Some p) = h
-  Keeps-created replace name line text spelled false None = Keeps-procedure replace name line text spelled
-  Keeps-created replace name line text spelled true (Some p) = Keeps-procedure replace name line text spelled
-  Keeps-created replace name line text spelled true None = Keeps-procedure replace name line text spelled
+  Keeps-created what replace name line text is spelled false (Some p) = h
+  Keeps-created what replace name line text is spelled false None = Keeps-procedure what replace name line text is spelled
+  Keeps-created what replace name line text is spelled true (Some p) = Keeps-procedure what replace name line text is spelled
+  Keeps-created what replace name line text is spelled true None = Keeps-procedure what replace name line text is spelled
 
   -- an edition is made
   Keeps-edition : (name : List ℕ) → Keeps (record editions { names = editions.names ++ name ∷ [] }) (recorded db (Edition name (leaf (catalogue_of db.records)))).database
@@ -141,17 +148,21 @@ module _ (db : Database) (editions : Editions) (h : Keeps editions db) where
     procedures = refl;
   }
 
-  Keeps-reply_in : (ask : Ask) → ask ≢ Leave → IsSpelled ask → Keeps (editions_after editions ask) (reply_in db session (edition editions.current) ask).database
-  Keeps-reply_in Begin stays spelled = h
-  Keeps-reply_in (Ddl (CreateProcedure replace name line) text) stays spelled =
+  Keeps-defined : (what : Definition) (text : List ℕ) (makes : Effect) → effect_of what ≡ makes → IsSpelled (Ddl what text)
+      → Keeps (editions_after_definition editions makes) (defined db (edition editions.current) makes text).database
+  Keeps-defined what text (MakesProcedure replace name line) is spelled =
       let made : Procedure = record { name = name; line = line } in
       let found = Visible (catalogue_of db.records) (edition editions.current) (unit_key name) in
       subst (λ o. Keeps (editions_after_create replace o made editions) (created replace found db (edition editions.current) text).database)
-      (sym (finds name)) (Keeps-created replace name line text spelled replace found)
-  Keeps-reply_in (Ddl (CreateEdition name) text) stays spelled =
+      (sym (finds name)) (Keeps-created what replace name line text is (spelled (creates what replace name line is)) replace found)
+  Keeps-defined what text (MakesEdition name) is spelled =
       subst (λ o. Keeps (editions_after_create_edition (number_of name editions.names) name editions) (edition_created o db name).database)
       (sym (numbers name)) (Keeps-edition_created name (number_of name editions.names))
-  Keeps-reply_in (Ddl form text) stays spelled = h
+  Keeps-defined what text MakesNothing is spelled = h
+
+  Keeps-reply_in : (ask : Ask) → ask ≢ Leave → IsSpelled ask → Keeps (editions_after editions ask) (reply_in db session (edition editions.current) ask).database
+  Keeps-reply_in Begin stays spelled = h
+  Keeps-reply_in (Ddl what text) stays spelled = Keeps-defined what text (effect_of what) refl spelled
   Keeps-reply_in (SetEdition name) stays spelled =
       subst (λ o. Keeps (editions_after_set_edition (number_of name editions.names) editions) (edition_set o db session).database)
       (sym (numbers name)) (Keeps-edition_set name (number_of name editions.names) refl)

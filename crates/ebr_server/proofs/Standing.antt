@@ -1,10 +1,14 @@
 -- How a session's standing changes with each entry.
 use Rattle.std.proofs.Common.{ℕ, zero, suc, ◌≡◌, ◌+◌, List, [], ◌∷◌, ◌++◌, length, Option, Some, None, arith, refl, sym, ◌∙◌, ap, append_assoc, length-append, add-one, append-nil, zero-add, add-zero}
 use Rattle.std.specs.Prelude.{map, filter}
-use Rattle.ebr_script.specs.Pieces.{cut, text_of}
-use Rattle.ebr_script.specs.declared.piece.FirstPiece.{FirstPiece}
-use Rattle.ebr_script.specs.declared.piece.FirstForm.{FirstForm}
-use Rattle.ebr_script.specs.declared.piece.FirstForm.TheVariants.{CreateEdition, SetEdition, CreateProcedure, Call, Other}
+use Rattle.ebr_ast.specs.declared.definition.Definition.{Definition}
+use Rattle.ebr_ast.specs.declared.definition.Statement.{Statement}
+use Rattle.ebr_ast.specs.declared.definition.Statement.TheVariants as statement
+use Rattle.ebr_script.specs.Pieces.{pieces_of, text_of}
+use Rattle.ebr_script.specs.declared.piece.Piece.{Piece}
+use Rattle.ebr_script.specs.declared.piece.PieceKind.{PieceKind}
+use Rattle.ebr_script.specs.declared.piece.PieceKind.TheVariants as piece
+use Rattle.ebr_server.specs.Forms.{Effect, MakesProcedure, MakesEdition, MakesNothing, effect_of, called_name}
 use Rattle.ebr_server.specs.declared.ask.Ask.{Ask}
 use Rattle.ebr_server.specs.declared.ask.Ask.TheVariants.{Leave}
 use Rattle.ebr_server.specs.declared.ask.Answer.{Answer}
@@ -14,7 +18,7 @@ use Rattle.ebr_server.specs.declared.ask.Exchange.{Exchange}
 use Rattle.std.proofs.lemmas.List.Elements.{filter-append}
 use Rattle.std.proofs.lemmas.List.{map-append}
 use Rattle.ebr_server.specs.History.{Mine, asks, answers, exchange, is_of, GoesOn, EndsRun}
-use Rattle.ebr_server.specs.Sessions.{State, Step, Ended, ended, leaving, asked, on_answer, then_run, printing, run_pieces, run_piece, SessionRun}
+use Rattle.ebr_server.specs.Sessions.{State, Step, Ended, ended, leaving, asked, on_answer, then_run, printing, run_pieces, run_piece, run_statement, run_definition, run_block, SessionRun}
 use Rattle.ebr_server.specs.Program.{the_session, IsPrefix, Ran, Quit}
 use Rattle.ebr_server.specs.Worker.{standing, later, after, Stands, Quits, IsOver, IsQuiet}
 
@@ -121,16 +125,28 @@ IsQuiet-printing t rest q = record {
       (o.0, IsPrefix-trans p (p ++ t) o.0 (record { rest = t; whole = refl }) o.1, o.2);
 }
 
-IsQuiet-piece : (what : FirstForm) (text : List ℕ) (rest : Step) → IsQuiet rest → IsQuiet (λ σ. then_run (run_piece what text σ) rest)
-IsQuiet-piece (CreateEdition name) text rest q = IsQuiet-asked _ _ rest
-IsQuiet-piece (SetEdition name) text rest q = IsQuiet-asked _ _ rest
-IsQuiet-piece (CreateProcedure replace name line) text rest q = IsQuiet-asked _ _ rest
-IsQuiet-piece (Call name) text rest q = IsQuiet-asked _ _ rest
-IsQuiet-piece Other text rest q = IsQuiet-printing _ rest q
+IsQuiet-definition : (makes : Effect) (what : Definition) (text : List ℕ) (rest : Step) → IsQuiet rest → IsQuiet (λ σ. then_run (run_definition makes what text σ) rest)
+IsQuiet-definition (MakesProcedure replace name line) what text rest q = IsQuiet-asked _ _ rest
+IsQuiet-definition (MakesEdition name) what text rest q = IsQuiet-asked _ _ rest
+IsQuiet-definition MakesNothing what text rest q = IsQuiet-printing _ rest q
 
-pub IsQuiet-run_pieces : (script : List ℕ) (pieces : List FirstPiece) → IsQuiet (run_pieces script pieces)
+IsQuiet-block : (called : Option (List ℕ)) (rest : Step) → IsQuiet rest → IsQuiet (λ σ. then_run (run_block called σ) rest)
+IsQuiet-block None rest q = IsQuiet-printing _ rest q
+IsQuiet-block (Some name) rest q = IsQuiet-asked _ _ rest
+
+IsQuiet-statement : (s : Statement) (text : List ℕ) (rest : Step) → IsQuiet rest → IsQuiet (λ σ. then_run (run_statement s text σ) rest)
+IsQuiet-statement (statement.SetEdition name) text rest q = IsQuiet-asked _ _ rest
+IsQuiet-statement (statement.Definition what) text rest q = IsQuiet-definition (effect_of what) what text rest q
+IsQuiet-statement (statement.Block block) text rest q = IsQuiet-block (called_name block) rest q
+IsQuiet-statement s text rest q = IsQuiet-printing _ rest q
+
+IsQuiet-piece : (what : PieceKind) (text : List ℕ) (rest : Step) → IsQuiet rest → IsQuiet (λ σ. then_run (run_piece what text σ) rest)
+IsQuiet-piece (piece.Refused code) text rest q = IsQuiet-printing _ rest q
+IsQuiet-piece (piece.Tree s) text rest q = IsQuiet-statement s text rest q
+
+pub IsQuiet-run_pieces : (script : List ℕ) (pieces : List Piece) → IsQuiet (run_pieces script pieces)
 IsQuiet-run_pieces script [] = record { by = λ made p given. (p, IsPrefix-refl p, refl) }
-IsQuiet-run_pieces script (piece ∷ pieces) = IsQuiet-piece piece.what (text_of script piece) (run_pieces script pieces) (IsQuiet-run_pieces script pieces)
+IsQuiet-run_pieces script (p ∷ pieces) = IsQuiet-piece p.what (text_of script p) (run_pieces script pieces) (IsQuiet-run_pieces script pieces)
 
 -- A session that stands before a quiet step can quit there, even where its last replies are not all printed.
 pub Quits-quiet : (script : List ℕ) (on : Step) (h : List Entry) (p replies : List ℕ) → Stands script on h p → IsQuiet on → IsPrefix replies p → Quits script h replies
@@ -172,5 +188,5 @@ Ran-over script h p over =
     record { asked = ap (λ o. o.state.asks) over.by; printed_is = ap (λ o. o.state.printed) over.by; ended = ap (λ o. o.flow) over.by }
 
 -- The run begins before its first piece.
-pub Stands-start : (script : List ℕ) → Stands script (run_pieces script (cut script)) [] []
+pub Stands-start : (script : List ℕ) → Stands script (run_pieces script (pieces_of script)) [] []
 Stands-start script = record { by = λ given quit. refl }

@@ -9,7 +9,7 @@ use Rattle.ebr_base.specs.declared.numbers.EditionNo.{EditionNo}
 use Rattle.ebr_base.specs.declared.numbers.Stamp.{Stamp}
 use Rattle.ebr_base.specs.declared.object.ObjectKey.{ObjectKey}
 use Rattle.ebr_server.specs.declared.ask.Procedure.{Procedure}
-use Rattle.ebr_server.specs.declared.procedures.Definition.{Definition}
+use Rattle.ebr_server.specs.declared.procedures.Version.{Version}
 use Rattle.ebr_server.specs.Catalogue.{ObjectEntry, last_entry, is_entry_of, unit_key, names_of, entry_or, visible_along}
 use Rattle.ebr_server.specs.Procedures.{put, put_all, seen_in}
 use Rattle.ebr_server.specs.Engine.{definition_of}
@@ -98,15 +98,15 @@ seen_in-visible entries h made (suc n) =
     ∙ ap (put_all (suc n) (filter_map definition_of entries)) (seen_in-visible entries h made n)
 
 -- one edition more
-pub seen_in-next : (definitions : List Definition) (n : ℕ) → seen_in definitions (n + 1) ≡ put_all (n + 1) definitions (seen_in definitions n)
+pub seen_in-next : (definitions : List Version) (n : ℕ) → seen_in definitions (n + 1) ≡ put_all (n + 1) definitions (seen_in definitions n)
 seen_in-next definitions n = rw add-one refl
 
-put_all-append : (k : ℕ) (definitions : List Definition) (d : Definition) (v : List Procedure)
+put_all-append : (k : ℕ) (definitions : List Version) (d : Version) (v : List Procedure)
     → put_all k (definitions ++ d ∷ []) v ≡ (if d.edition == k then put d.procedure (put_all k definitions v) else put_all k definitions v)
 put_all-append k definitions d v = fold-append (λ seen d. if d.edition == k then put d.procedure seen else seen) v definitions (d ∷ [])
 
 -- A definition changes nothing in the older editions, and comes into its own.
-seen_in-older : (definitions : List Definition) (d : Definition) (n : ℕ) → n < d.edition → seen_in (definitions ++ d ∷ []) n ≡ seen_in definitions n
+seen_in-older : (definitions : List Version) (d : Version) (n : ℕ) → n < d.edition → seen_in (definitions ++ d ∷ []) n ≡ seen_in definitions n
 seen_in-older definitions d zero older = refl
 seen_in-older definitions d (suc n) older =
     put_all-append (suc n) definitions d (seen_in (definitions ++ d ∷ []) n)
@@ -117,10 +117,10 @@ seen_in-older definitions d (suc n) older =
     other true is = let same = eqb-true _ _ is in absurd (omega arith)
     other false is = refl
 
-pub seen_in-here : (definitions : List Definition) (p : Procedure) (n : ℕ) → 0 < n → seen_in (definitions ++ record { edition = n; procedure = p } ∷ []) n ≡ put p (seen_in definitions n)
+pub seen_in-here : (definitions : List Version) (p : Procedure) (n : ℕ) → 0 < n → seen_in (definitions ++ record { edition = n; procedure = p } ∷ []) n ≡ put p (seen_in definitions n)
 seen_in-here definitions p zero some = absurd (omega arith)
 seen_in-here definitions p (suc n) some =
-    let d : Definition = record { edition = suc n; procedure = p } in
+    let d : Version = record { edition = suc n; procedure = p } in
     put_all-append (suc n) definitions d (seen_in (definitions ++ d ∷ []) n)
     ∙ ap (λ b. if b then put p (put_all (suc n) definitions (seen_in (definitions ++ d ∷ []) n)) else put_all (suc n) definitions (seen_in (definitions ++ d ∷ []) n)) (eq-eqb (suc n) (suc n) refl)
     ∙ ap (λ v. put p (put_all (suc n) definitions v)) (seen_in-older definitions d n (omega arith))

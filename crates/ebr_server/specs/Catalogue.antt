@@ -11,10 +11,10 @@ use Rattle.ebr_base.specs.declared.numbers.Stamp.{Stamp}
 use Rattle.ebr_base.specs.declared.object.Class.{Class}
 use Rattle.ebr_base.specs.declared.object.Class.TheVariants as class
 use Rattle.ebr_base.specs.declared.object.ObjectKey.{ObjectKey}
-use Rattle.ebr_script.specs.declared.piece.FirstForm.{FirstForm}
-use Rattle.ebr_script.specs.declared.piece.FirstForm.TheVariants.{CreateProcedure}
-use Rattle.ebr_script.specs.Forms.{stored}
+use Rattle.ebr_ast.specs.declared.definition.Definition.{Definition}
+use Rattle.ebr_script.specs.Pieces.{stored_definition}
 use Rattle.ebr_server.specs.declared.ask.Procedure.{Procedure}
+use Rattle.ebr_server.specs.Forms.{Effect, MakesProcedure, effect_of}
 
 -- What a definition leaves for ever: an edition, by its name and its parent; an object, by the edition that it was made
 -- in and its stored text.
@@ -69,14 +69,19 @@ abbrev pub with_edition : Catalogue → List ℕ → EditionNo → Catalogue
 with_edition c name parent =
     record c { editions = c.editions ++ record { number = record { 0 = suc (length c.editions) }; name = name; parent = Some parent } ∷ [] }
 
--- what a definition with this text adds
-abbrev pub with_object : Catalogue → EditionNo → FirstForm → Catalogue
-with_object c e (CreateProcedure replace name line) = with_entry c e (unit_key name) (Some (record { name = name; line = line }))
-with_object c e form = c
+-- what the definition of an object adds
+abbrev pub with_object : Catalogue → EditionNo → Effect → Catalogue
+with_object c e (MakesProcedure replace name line) = with_entry c e (unit_key name) (Some (record { name = name; line = line }))
+with_object c e effect = c
+
+-- what a stored text adds, by the definition that it spells
+abbrev pub with_stored : Catalogue → EditionNo → Option Definition → Catalogue
+with_stored c e None = c
+with_stored c e (Some d) = with_object c e (effect_of d)
 
 abbrev pub with_record : Catalogue → Record → Catalogue
 with_record c (Edition name parent) = with_edition c name parent
-with_record c (Object e text) = with_object c e (stored text)
+with_record c (Object e text) = with_stored c e (stored_definition text)
 
 -- the catalogue of a database, by its records in order
 abbrev pub catalogue_of : List Record → Catalogue

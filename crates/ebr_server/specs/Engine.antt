@@ -4,8 +4,7 @@ use Rattle.std.specs.List.{filter_map}
 use Rattle.ebr_base.specs.declared.numbers.SessionId.{SessionId}
 use Rattle.ebr_base.specs.declared.numbers.EditionNo.{EditionNo}
 use Rattle.ebr_base.specs.declared.code.Code.TheVariants.{Ora, Ebr}
-use Rattle.ebr_script.specs.declared.piece.FirstForm.TheVariants.{CreateEdition, CreateProcedure}
-use Rattle.ebr_script.specs.Forms.{stored}
+use Rattle.ebr_script.specs.Pieces.{stored_definition, CreatesObject}
 use Rattle.ebr_server.specs.declared.ask.Ask.{Ask}
 use Rattle.ebr_server.specs.declared.ask.Ask.TheVariants.{Begin, Ddl, SetEdition, EndCall, Leave}
 use Rattle.ebr_server.specs.declared.ask.Answer.{Answer}
@@ -14,7 +13,8 @@ use Rattle.ebr_server.specs.declared.ask.Entry.{Entry}
 use Rattle.ebr_server.specs.declared.ask.Procedure.{Procedure}
 use Rattle.ebr_server.specs.declared.engine.Engine.{Engine}
 use Rattle.ebr_server.specs.declared.engine.Editions.{Editions}
-use Rattle.ebr_server.specs.declared.procedures.Definition.{Definition}
+use Rattle.ebr_server.specs.declared.procedures.Version.{Version}
+use Rattle.ebr_server.specs.Forms.{Effect, MakesProcedure, MakesEdition, MakesNothing, effect_of}
 use Rattle.ebr_server.specs.Catalogue.{EditionEntry, ObjectEntry, catalogue_of}
 use Rattle.ebr_server.specs.Machine.{Database, Build, session_edition}
 use Rattle.ebr_server.specs.History.{After, Legal}
@@ -36,7 +36,7 @@ entries e = e.history.items
 abbrev pub entry_of : Ask → Answer → Entry
 entry_of ask answer = record { session = session; ask = ask; answer = answer }
 
--- the answer to a definition, by the procedure that is visible under its name
+-- the answer to the definition of a procedure, by the one that is visible under its name
 abbrev pub answer_to_create : Bool → Option Procedure → Answer
 answer_to_create false (Some p) = Refused (Ora 955) 0 []
 answer_to_create replace found = Done
@@ -51,12 +51,16 @@ abbrev pub answer_to_set_edition : Option ℕ → Answer
 answer_to_set_edition (Some k) = Done
 answer_to_set_edition None = Refused (Ora 38802) 0 []
 
+-- the answer to a definition, by what it makes
+abbrev pub answer_to_definition : Editions → Effect → Answer
+answer_to_definition editions (MakesProcedure replace name line) = answer_to_create replace (look_up name editions.procedures)
+answer_to_definition editions (MakesEdition name) = answer_to_create_edition (number_of name editions.names)
+answer_to_definition editions MakesNothing = Refused (Ebr 1) 0 []
+
 -- what the engine answers
 abbrev pub answer_in : Editions → Ask → Answer
 answer_in editions Begin = View editions.procedures
-answer_in editions (Ddl (CreateProcedure replace name line) text) = answer_to_create replace (look_up name editions.procedures)
-answer_in editions (Ddl (CreateEdition name) text) = answer_to_create_edition (number_of name editions.names)
-answer_in editions (Ddl form text) = Refused (Ebr 1) 0 []
+answer_in editions (Ddl what text) = answer_to_definition editions (effect_of what)
 answer_in editions (SetEdition name) = answer_to_set_edition (number_of name editions.names)
 answer_in editions (EndCall failed) = Done
 answer_in editions Leave = Done
@@ -81,17 +85,22 @@ abbrev pub editions_after_set_edition : Option ℕ → Editions → Editions
 editions_after_set_edition (Some k) editions = record editions { current = k; procedures = seen_in editions.definitions k }
 editions_after_set_edition None editions = editions
 
+-- the editions after a definition, by what it makes
+abbrev pub editions_after_definition : Editions → Effect → Editions
+editions_after_definition editions (MakesProcedure replace name line) =
+    editions_after_create replace (look_up name editions.procedures) (record { name = name; line = line }) editions
+editions_after_definition editions (MakesEdition name) = editions_after_create_edition (number_of name editions.names) name editions
+editions_after_definition editions MakesNothing = editions
+
 -- the editions afterwards
 abbrev pub editions_after : Editions → Ask → Editions
-editions_after editions (Ddl (CreateProcedure replace name line) text) =
-    editions_after_create replace (look_up name editions.procedures) (record { name = name; line = line }) editions
-editions_after editions (Ddl (CreateEdition name) text) = editions_after_create_edition (number_of name editions.names) name editions
+editions_after editions (Ddl what text) = editions_after_definition editions (effect_of what)
 editions_after editions (SetEdition name) = editions_after_set_edition (number_of name editions.names) editions
 editions_after editions ask = editions
 
--- the text of a definition spells what it defines
+-- The text of what creates an object spells that creation.
 abbrev pub IsSpelled : Ask → Type 0
-IsSpelled (Ddl (CreateProcedure replace name line) text) = stored text ≡ CreateProcedure replace name line
+IsSpelled (Ddl what text) = CreatesObject what → stored_definition text ≡ Some what
 IsSpelled ask = Unit {0}
 
 -- what the catalogue says of the editions of these names: numbered onwards from a number, each the child of the one before it
@@ -104,7 +113,7 @@ numbered n [] = []
 numbered n (name ∷ names) = record { number = record { 0 = suc n }; name = name; parent = parent_of n } ∷ numbered (suc n) names
 
 -- the definition that an entry of the catalogue tells of
-abbrev pub definition_of : ObjectEntry → Option Definition
+abbrev pub definition_of : ObjectEntry → Option Version
 definition_of x = option_map (λ p. record { edition = x.edition.0; procedure = p }) x.object
 
 -- The engine's editions are those of the database, and its list of procedures is what the session's edition sees.

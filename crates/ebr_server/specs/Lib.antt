@@ -1,3 +1,5 @@
+pub mod Forms
+pub mod Effects
 pub mod Catalogue
 pub mod Machine
 pub mod History

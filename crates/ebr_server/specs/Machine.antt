@@ -4,13 +4,12 @@ use Rattle.ebr_base.specs.declared.numbers.EditionNo.{EditionNo}
 use Rattle.ebr_base.specs.declared.numbers.SessionId.{SessionId}
 use Rattle.ebr_base.specs.declared.code.Code.{Code}
 use Rattle.ebr_base.specs.declared.code.Code.TheVariants.{Ora, Ebr}
-use Rattle.ebr_script.specs.declared.piece.FirstForm.{FirstForm}
-use Rattle.ebr_script.specs.declared.piece.FirstForm.TheVariants.{CreateEdition, CreateProcedure}
 use Rattle.ebr_server.specs.declared.ask.Ask.{Ask}
 use Rattle.ebr_server.specs.declared.ask.Ask.TheVariants.{Begin, Ddl, SetEdition, EndCall, Leave}
 use Rattle.ebr_server.specs.declared.ask.Answer.{Answer}
 use Rattle.ebr_server.specs.declared.ask.Answer.TheVariants.{View, Done, Refused}
 use Rattle.ebr_server.specs.declared.ask.Procedure.{Procedure}
+use Rattle.ebr_server.specs.Forms.{Effect, MakesProcedure, MakesEdition, MakesNothing, effect_of}
 use Rattle.ebr_server.specs.Catalogue.{Record, Edition, Object, catalogue_of, Visible, unit_key, edition_named, leaf}
 use Rattle.ebr_server.specs.Catalogue as catalogue
 
@@ -64,11 +63,11 @@ edition_created (Some e) db name = refused db (Ebr 31)
 edition_created None db name = recorded db (Edition name (leaf (catalogue_of db.records)))
 
 -- A procedure is made in the session's edition where none of its name is visible there, or in its place. An edition is
--- made where none has its name; it is the child of the leaf.
-abbrev pub defined : Database → EditionNo → FirstForm → List ℕ → Replied
-defined db e (CreateProcedure replace name line) text = created replace (Visible (catalogue_of db.records) e (unit_key name)) db e text
-defined db e (CreateEdition name) text = edition_created (edition_named (catalogue_of db.records) name) db name
-defined db e form text = refused db (Ebr 1)
+-- made where none has its name; it is the child of the leaf. No other definition is carried out yet.
+abbrev pub defined : Database → EditionNo → Effect → List ℕ → Replied
+defined db e (MakesProcedure replace name line) text = created replace (Visible (catalogue_of db.records) e (unit_key name)) db e text
+defined db e (MakesEdition name) text = edition_created (edition_named (catalogue_of db.records) name) db name
+defined db e MakesNothing text = refused db (Ebr 1)
 
 abbrev pub with_session : Database → SessionId → Session → Database
 with_session db s x = record db { sessions = slice_set db.sessions (s.0 - 1) x }
@@ -83,7 +82,7 @@ left db s = unchanged (with_session db s (record { edition = None })) Done
 
 abbrev pub reply_in : Database → SessionId → EditionNo → Ask → Replied
 reply_in db s e Begin = unchanged db (View (catalogue.View (catalogue_of db.records) e))
-reply_in db s e (Ddl what text) = defined db e what text
+reply_in db s e (Ddl what text) = defined db e (effect_of what) text
 reply_in db s e (SetEdition name) = edition_set (edition_named (catalogue_of db.records) name) db s
 reply_in db s e (EndCall failed) = unchanged db Done
 reply_in db s e Leave = left db s

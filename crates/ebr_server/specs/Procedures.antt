@@ -6,7 +6,7 @@ use Rattle.std.specs.Ordering.{nat_cmp, is_lt}
 use Rattle.std.specs.Cmp.Lexicographic.{slice_cmp}
 use Rattle.std.specs.declared.cmp.Ordering.TheVariants.{Less, Equal, Greater}
 use Rattle.ebr_server.specs.declared.ask.Procedure.{Procedure}
-use Rattle.ebr_server.specs.declared.procedures.Definition.{Definition}
+use Rattle.ebr_server.specs.declared.procedures.Version.{Version}
 
 -- The procedures in front whose names are before a name.
 abbrev pub before : List ℕ → List Procedure → List Procedure
@@ -26,10 +26,10 @@ abbrev pub number_of : List ℕ → List (List ℕ) → Option ℕ
 number_of name names = option_map (λ place. place + 1) (position (λ other. bytes_eq other name) names)
 
 -- with the procedures that were made in one edition, in order
-abbrev pub put_all : ℕ → List Definition → List Procedure → List Procedure
+abbrev pub put_all : ℕ → List Version → List Procedure → List Procedure
 put_all edition definitions procedures = fold (λ seen d. if d.edition == edition then put d.procedure seen else seen) procedures definitions
 
 -- What an edition sees: the procedures that were made in the first edition, then those of each younger one up to it.
-abbrev pub seen_in : List Definition → ℕ → List Procedure
+abbrev pub seen_in : List Version → ℕ → List Procedure
 seen_in definitions zero = []
 seen_in definitions (suc older) = put_all (suc older) definitions (seen_in definitions older)

@@ -3,16 +3,20 @@ use Rattle.std.specs.Prelude.{ℕ, zero, suc, true, false, List, [], ◌∷◌, 
 use Rattle.std.specs.Str.{bytes_eq}
 use Rattle.ebr_base.specs.declared.code.Code.TheVariants.{Ora, Ebr}
 use Rattle.ebr_base.specs.Code.{code_text}
-use Rattle.ebr_script.specs.declared.piece.FirstForm.{FirstForm}
-use Rattle.ebr_script.specs.declared.piece.FirstForm.TheVariants.{CreateEdition, SetEdition, CreateProcedure, Call, Other}
-use Rattle.ebr_script.specs.declared.piece.FirstPiece.{FirstPiece}
-use Rattle.ebr_script.specs.Pieces.{cut, text_of}
+use Rattle.ebr_ast.specs.declared.definition.Definition.{Definition}
+use Rattle.ebr_ast.specs.declared.definition.Statement.{Statement}
+use Rattle.ebr_ast.specs.declared.definition.Statement.TheVariants as statement
+use Rattle.ebr_script.specs.declared.piece.Piece.{Piece}
+use Rattle.ebr_script.specs.declared.piece.PieceKind.{PieceKind}
+use Rattle.ebr_script.specs.declared.piece.PieceKind.TheVariants as piece
+use Rattle.ebr_script.specs.Pieces.{pieces_of, text_of}
 use Rattle.ebr_server.specs.declared.ask.Ask.{Ask}
 use Rattle.ebr_server.specs.declared.ask.Ask.TheVariants.{Begin, Ddl, EndCall, Leave}
 use Rattle.ebr_server.specs.declared.ask.Ask.TheVariants as ask
 use Rattle.ebr_server.specs.declared.ask.Answer.{Answer}
 use Rattle.ebr_server.specs.declared.ask.Answer.TheVariants.{View, Done, Refused, NoMemory, Stopped}
 use Rattle.ebr_server.specs.declared.ask.Procedure.{Procedure}
+use Rattle.ebr_server.specs.Forms.{Effect, MakesProcedure, MakesEdition, MakesNothing, effect_of, called_name}
 
 -- Where a session stands: the asks it made, what it printed, the answers still to come, and after how many of them it
 -- quits, if it does.
@@ -104,16 +108,35 @@ begun name (View procedures) = run_call (look_up name procedures)
 begun name (Refused code steps lines) = printing (line_of (code_text code))
 begun name x = printing []
 
--- what a piece asks and prints, by its form and its text
-abbrev pub run_piece : FirstForm → List ℕ → Step
-run_piece (CreateEdition name) text = asked (Ddl (CreateEdition name) []) (printing_result (codes "OK"))
-run_piece (SetEdition name) text = asked (ask.SetEdition name) (printing_result (codes "OK"))
-run_piece (CreateProcedure replace name line) text = asked (Ddl (CreateProcedure replace name line) text) (printing_result (codes "OK"))
-run_piece (Call name) text = asked Begin (begun name)
-run_piece Other text = printing (line_of (code_text (Ebr 1)))
+-- The code of a statement that isn't run yet. Nothing is asked.
+abbrev pub not_run : Step
+not_run = printing (line_of (code_text (Ebr 1)))
+
+-- A definition, by what it makes. The ask has the text of the object that it creates, and else none.
+abbrev pub run_definition : Effect → Definition → List ℕ → Step
+run_definition (MakesProcedure replace name line) what text = asked (Ddl what text) (printing_result (codes "OK"))
+run_definition (MakesEdition name) what text = asked (Ddl what []) (printing_result (codes "OK"))
+run_definition MakesNothing what text = not_run
+
+-- a block, by the name that it calls
+abbrev pub run_block : Option (List ℕ) → Step
+run_block None = not_run
+run_block (Some name) = asked Begin (begun name)
+
+-- what a statement asks and prints, where its piece has this text
+abbrev pub run_statement : Statement → List ℕ → Step
+run_statement (statement.SetEdition name) text = asked (ask.SetEdition name) (printing_result (codes "OK"))
+run_statement (statement.Definition what) text = run_definition (effect_of what) what text
+run_statement (statement.Block block) text = run_block (called_name block)
+run_statement s text = not_run
+
+-- A piece that spells no statement asks nothing, and prints the code of its first fault.
+abbrev pub run_piece : PieceKind → List ℕ → Step
+run_piece (piece.Refused code) text = printing (line_of (code_text code))
+run_piece (piece.Tree s) text = run_statement s text
 
 -- After the last piece comes Leave.
-abbrev pub run_pieces : List ℕ → List FirstPiece → Step
+abbrev pub run_pieces : List ℕ → List Piece → Step
 run_pieces script [] σ = leaving σ
 run_pieces script (p ∷ pieces) σ = then_run (run_piece p.what (text_of script p) σ) (run_pieces script pieces)
 
@@ -122,7 +145,7 @@ beginning given quit = record { asks = []; printed = []; given = given; quit = q
 
 -- The run of a script with the answers that it is given; with `quit` the session quits after so many of them.
 abbrev pub SessionRun : List ℕ → List Answer → Option ℕ → Outcome
-SessionRun script given quit = run_pieces script (cut script) (beginning given quit)
+SessionRun script given quit = run_pieces script (pieces_of script) (beginning given quit)
 
 -- what a script prints against the answers that it is given
 abbrev pub Printed : List ℕ → List Answer → List ℕ

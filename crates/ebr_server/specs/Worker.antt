@@ -1,8 +1,5 @@
 -- How a session's run fits a history: facts that the worker keeps from one ask to the next.
 use Rattle.std.specs.Prelude.{ℕ, zero, suc, ◌≡◌, ◌≢◌, ◌≤◌, List, [], ◌∷◌, ◌++◌, length, take, Option, Some, None, IfSome, Result, Ok, Err, false, codes, ◌⊎◌}
-use Rattle.ebr_script.specs.Forms.{stored}
-use Rattle.ebr_script.specs.declared.piece.FirstForm.{FirstForm}
-use Rattle.ebr_script.specs.declared.piece.FirstForm.TheVariants.{CreateProcedure}
 use Rattle.ebr_server.specs.declared.ask.Ask.{Ask}
 use Rattle.ebr_server.specs.declared.ask.Ask.TheVariants.{Leave, EndCall}
 use Rattle.ebr_base.specs.Code.{code_text}
@@ -102,11 +99,6 @@ BeginsAs Nothing name x = begun name x ≡ printing []
 pub record Wrote (held : Option (List ℕ)) (written : ℕ) (printed : List ℕ) : Type 0 where
   pub within : written ≤ length printed
   pub told : IfSome held (λ bytes. bytes ≡ take written printed)
-
--- the text of a definition spells it
-abbrev pub IsText : FirstForm → List ℕ → Type 0
-IsText (CreateProcedure replace name line) text = stored text ≡ CreateProcedure replace name line
-IsText form text = Unit {0}
 
 -- The engine made one entry for the ask, and the session goes on.
 pub record Asked (old new : Engine) (ask : Ask) : Type 0 where

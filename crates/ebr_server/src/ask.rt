@@ -1,7 +1,7 @@
 //! What sessions ask of the engine, and what it answers.
 
+use ebr_ast::Definition;
 use ebr_base::{Bytes, Code, List, Name, SessionId, Shared};
-use ebr_script::FirstForm;
 
 /// A request of a session. One ask is one step of the edition machine.
 #[derive(Drop)]
@@ -9,7 +9,7 @@ pub enum Ask {
     /// A call begins.
     Begin,
     /// A definition; `text` is the stored text of the object that it creates, and empty where it creates none.
-    Ddl { what: FirstForm, text: Bytes },
+    Ddl { what: Definition, text: Bytes },
     /// The session's edition is to be this one.
     SetEdition(Name),
     /// The call ends.

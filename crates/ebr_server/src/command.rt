@@ -15,7 +15,6 @@ use crate::report::write_last_line;
 use crate::worker::Worker;
 use ebr_base::{Bytes, List};
 use ebr_outside::{Host, HostErr, Sink};
-use ebr_script::first_pieces;
 use std::alloc::Global;
 
 /// What a run hands back.
@@ -72,7 +71,7 @@ fn run_session<C: Drop, R: Sink>(alloc: Global, script: &[u8], report: R) -> Out
     ensures counted { R.faults report ≤ R.faults result.report }
     ensures failed { result.code ≡ ExitCode.SinkFault → Rises (R.faults report) (R.faults result.report) }
 {
-    let Ok(pieces) = first_pieces(alloc, script) else {
+    let Ok(pieces) = ebr_script::pieces(alloc, script) else {
         return stopped(alloc, ExitCode::NoMemory, None, report);
     };
     let Ok(mut engine) = Engine::start(alloc) else {

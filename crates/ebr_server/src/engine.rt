@@ -3,14 +3,16 @@
 ghost use Rattle.std.specs.Prelude.{◌≡◌, ◌≢◌, ◌<◌, ◌≤◌, ◌+◌, [], ◌∷◌, ◌++◌, IfOk, OnOk, OnErr, IsOk, codes, vec_len, vec_capacity, length, List as Sequence};
 ghost use Rattle.ebr_server.specs.Sessions.{look_up};
 ghost use Rattle.ebr_server.specs.Procedures.{number_of};
-ghost use Rattle.ebr_server.specs.Engine.{answer_in, editions_after, answer_to_create, editions_after_create, answer_to_create_edition, editions_after_create_edition, answer_to_set_edition, editions_after_set_edition, with_procedure};
+ghost use Rattle.ebr_server.specs.Forms as spec;
+ghost use Rattle.ebr_server.specs.Engine.{answer_in, editions_after, answer_to_definition, editions_after_definition, answer_to_create, editions_after_create, answer_to_create_edition, editions_after_create_edition, answer_to_set_edition, editions_after_set_edition, with_procedure};
 ghost use Rattle.ebr_server.specs.declared.ask.Answer.TheVariants.{Refused};
 ghost use Rattle.ebr_server.specs.declared.ask.Ask.TheVariants.{Leave};
 
 use crate::ask::{Answer, Ask, Entry, Procedure, Procedures};
-use crate::procedures::{Definition, copy_of, look_up, number_of, put, seen_in};
+use crate::forms::{Effect, effect_of};
+use crate::procedures::{Version, copy_of, look_up, number_of, put, seen_in};
+use ebr_ast::Definition;
 use ebr_base::{Bytes, CloneIn, Code, List, Name, NoMemory, SessionId, Shared};
-use ebr_script::FirstForm;
 use std::alloc::Global;
 
 /// The one session.
@@ -27,7 +29,7 @@ struct Editions {
     /// The number of the session's edition, counted from 1.
     current: usize,
     /// Every definition of a procedure, in the order in which they were made.
-    definitions: List<Definition>,
+    definitions: List<Version>,
     /// What the session's edition sees.
     procedures: Shared<Procedures>,
 }
@@ -155,21 +157,26 @@ fn reply_to(alloc: Global, editions: &mut Editions, ask: &Ask) -> Result<Answer,
 {
     match ask {
         Ask::Begin => Ok(Answer::View(editions.procedures.clone_in(alloc)?)),
-        Ask::Ddl {
-            what: FirstForm::CreateProcedure {
-                replace,
-                name,
-                line,
-            },
-            ..
-        } => create(alloc, editions, *replace, name, line),
-        Ask::Ddl {
-            what: FirstForm::CreateEdition(name),
-            ..
-        } => create_edition(alloc, editions, name),
-        Ask::Ddl { .. } => Ok(refusal(alloc, Code::Ebr(1))),
+        Ask::Ddl { what, .. } => define(alloc, editions, what),
         Ask::SetEdition(name) => set_edition(alloc, editions, name),
         Ask::EndCall { .. } | Ask::Leave => Ok(Answer::Done),
+    }
+}
+
+/// Carries out a definition.
+fn define(alloc: Global, editions: &mut Editions, what: &Definition) -> Result<Answer, NoMemory>
+    ensures answer { IfOk result (λ answer. answer ≡ answer_to_definition editions.old (spec.effect_of what.now)) }
+    ensures after { OnOk result (editions.new ≡ editions_after_definition editions.old (spec.effect_of what.now)) }
+    ensures err { OnErr result (editions.new ≡ editions.old) }
+{
+    match effect_of(what) {
+        Effect::Procedure {
+            replace,
+            name,
+            line,
+        } => create(alloc, editions, replace, name, line),
+        Effect::Edition(name) => create_edition(alloc, editions, name),
+        Effect::Nothing => Ok(refusal(alloc, Code::Ebr(1))),
     }
 }
 
@@ -194,14 +201,14 @@ fn create(
                 name: name.clone_in(alloc)?,
                 line: line.clone_in(alloc)?,
             };
-            define(alloc, editions, procedure)?;
+            put_version(alloc, editions, procedure)?;
             Ok(Answer::Done)
         }
     }
 }
 
-/// Defines a procedure in the session's edition: in place of the one of its name if it sees one.
-fn define(alloc: Global, editions: &mut Editions, procedure: Procedure) -> Result<(), NoMemory>
+/// Puts a procedure into the session's edition: in place of the one of its name if it sees one.
+fn put_version(alloc: Global, editions: &mut Editions, procedure: Procedure) -> Result<(), NoMemory>
     ensures ok { OnOk result (editions.new ≡ with_procedure procedure editions.old) }
     ensures err { OnErr result (editions.new ≡ editions.old) }
 {
@@ -209,7 +216,7 @@ fn define(alloc: Global, editions: &mut Editions, procedure: Procedure) -> Resul
     let mut seen = copy_of(alloc, editions.procedures.get().as_slice())?;
     put(&mut seen, procedure.clone_in(alloc)?)?;
     let seen = Shared::new(alloc, List::from_vec(seen))?;
-    let definition = Definition {
+    let definition = Version {
         edition: editions.current,
         procedure,
     };

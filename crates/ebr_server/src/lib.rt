@@ -5,6 +5,7 @@ mod ask;
 mod command;
 mod engine;
 mod exit;
+mod forms;
 mod offer;
 mod procedures;
 mod read;

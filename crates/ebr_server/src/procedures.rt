@@ -11,9 +11,9 @@ use crate::ask::{Procedure, Procedures};
 use ebr_base::{CloneIn, List, Name, NoMemory, Shared};
 use std::alloc::Global;
 
-/// A procedure, and the number of the edition that it was made in.
+/// A version of a procedure, and the number of the edition that it was made in.
 #[derive(Drop)]
-pub struct Definition {
+pub struct Version {
     pub edition: usize,
     pub procedure: Shared<Procedure>,
 }
@@ -107,7 +107,7 @@ fn is_named(procedures: &[Shared<Procedure>], place: usize, name: &Name) -> bool
 /// What an edition sees, by the definitions in all editions. Each edition is the child of the one before it.
 pub fn seen_in(
     alloc: Global,
-    definitions: &[Definition],
+    definitions: &[Version],
     edition: usize,
 ) -> Result<Procedures, NoMemory>
     ensures { IfOk result (λ seen. seen ≡ seen_in definitions.now edition) }
@@ -124,7 +124,7 @@ pub fn seen_in(
 fn put_all(
     alloc: Global,
     seen: &mut Vec<Shared<Procedure>>,
-    definitions: &[Definition],
+    definitions: &[Version],
     edition: usize,
 ) -> Result<(), NoMemory>
     ensures { OnOk result (seen.new.items ≡ put_all edition definitions.now seen.old.items) }

@@ -1,7 +1,9 @@
 //! `serve` over a host in memory, byte for byte.
 
-ghost use Rattle.std.specs.Prelude.{◌≡◌, []};
-ghost use Rattle.ebr_server.specs.Alone.{replies_alone};
+ghost use Rattle.std.specs.Prelude.{◌≡◌, [], Some, ℕ, Bool, List as Sequence};
+ghost use Rattle.ebr_script.specs.Pieces.{pieces_of};
+ghost use Rattle.ebr_server.specs.Forms.{MakesProcedure, effect_of, called_name};
+ghost use Rattle.ebr_server.specs.Alone.{Gives, CallsGive, UpgradeGives, printing_procedure, call_of};
 
 use crate::{Answer, Ask, ExitCode, MAX_SCRIPT, Outcome, serve};
 use ebr_base::{Bytes, List, NoMemory};
@@ -11,6 +13,7 @@ use std::process::Abort;
 use std::test::Fail as TestFail;
 
 mod editions;
+mod pieces;
 
 type MemOutcome = Outcome<MemSource, MemSink>;
 
@@ -97,11 +100,13 @@ fn expect(rt: &impl Abort, outcome: &MemOutcome, code: ExitCode, report: &[u8]) 
     assert_eq!(rt; outcome.report.held(), report);
 }
 
-/// The definitions alone give the replies: computed, with no code.
+/// The definitions alone give the replies: computed, with no code. What the pieces spell is a premise.
 fn definitions_alone_give_the_replies()
-    ensures nothing { replies_alone [] ≡ [] }
-    ensures calls { replies_alone FIRST_CALLS.now ≡ FIRST_REPLIES.now }
-    ensures upgrade { replies_alone UPGRADE.now ≡ UPGRADE_REPLIES.now }
+    ensures procedure { (replace : Bool) (name line : Sequence ℕ) → effect_of (printing_procedure replace name line) ≡ MakesProcedure replace name line }
+    ensures call { (name : Sequence ℕ) → called_name (call_of name) ≡ Some name }
+    ensures nothing { (script : Sequence ℕ) → pieces_of script ≡ [] → Gives script [] }
+    ensures calls { CallsGive FIRST_REPLIES.now }
+    ensures upgrade { UpgradeGives UPGRADE_REPLIES.now }
 {}
 
 #[test]
@@ -148,22 +153,22 @@ fn each_piece_has_its_reply(rt: HostRuntime) -> Result<(), TestFail> {
             b"CREATE PROCEDURE e IS BEGIN DBMS_OUTPUT.PUT_LINE(''); END;\n/\nCREATE PROCEDURE u IS BEGIN DBMS_OUTPUT.PUT_LINE('\xc3\xa4'); END;\n/\nCALL e();CALL u()",
             b"OK\nOK\n\nOK\n\xc3\xa4\nOK\n",
         ),
-        // other statements, of which each is refused by itself
+        // other statements, of which each is refused by itself, and a piece without a token
         (
             b"SELECT 1 FROM dual;\nCREATE EDITION v2 AS CHILD OF ora$base;\nDROP EDITION v2;\n;CALL a(1);",
-            b"EBR-0001\nEBR-0001\nEBR-0001\nEBR-0001\nEBR-0001\n",
+            b"EBR-0001\nEBR-0001\nEBR-0001\nORA-00900\nEBR-0001\n",
         ),
         // a reserved word is no name
-        (b"CALL begin();CALL procedure();", b"EBR-0001\nEBR-0001\n"),
+        (b"CALL begin();CALL procedure();", b"ORA-06550\nORA-06550\n"),
         // a unit ends with the script
         (
             b"CREATE PROCEDURE z IS BEGIN DBMS_OUTPUT.PUT_LINE('z'); END;",
             b"OK\n",
         ),
         // an unterminated string runs to the end
-        (b"CALL a();SELECT 'x; CALL a();", b"ORA-06550\nEBR-0001\n"),
+        (b"CALL a();SELECT 'x; CALL a();", b"ORA-06550\nEBR-0021\n"),
         // any bytes have an answer
-        (b"\x00\xff'", b"EBR-0001\n"),
+        (b"\x00\xff'", b"EBR-0020\n"),
     ];
     for (script, replies) in &table {
         let outcome = try_script(rt.alloc(), script, NO_FAULTS)?;

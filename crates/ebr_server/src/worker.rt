@@ -1,24 +1,26 @@
 //! A session at work: it runs the pieces of its script, asks the engine, and gives its sink what it prints.
 
-ghost use Rattle.std.specs.Prelude.{◌≡◌, ◌≢◌, [], ◌∷◌, ◌++◌, ◌≤◌, length, codes, All, OnOk, OnErr, IfErr, List as Sequence};
+ghost use Rattle.std.specs.Prelude.{◌≡◌, ◌≢◌, [], ◌∷◌, ◌++◌, ◌≤◌, ◌<◌, length, codes, All, OnOk, OnErr, IfErr, List as Sequence};
 ghost use Rattle.ebr_outside.specs.Faults.{Rises};
 ghost use Rattle.ebr_base.specs.Code.{code_text};
-ghost use Rattle.ebr_server.specs.Sessions.{line_of, result_line, asked, begun, printing_result, run_piece, run_pieces};
-ghost use Rattle.ebr_script.specs.Forms.{stored};
-ghost use Rattle.ebr_script.specs.Pieces.{LiesWithin, text_of};
+ghost use Rattle.ebr_server.specs.Sessions.{line_of, result_line, asked, begun, printing_result, run_block, run_definition, run_piece, run_pieces};
+ghost use Rattle.ebr_script.specs.Pieces.{LiesWithin, KeepsText, text_of};
+ghost use Rattle.ebr_server.specs.Forms as spec;
 ghost use Rattle.ebr_server.specs.Program.{IsPrefix};
-ghost use Rattle.ebr_server.specs.Worker.{Wrote, Asks, IsText, BeginsAs, Does, Leaves, Stands, RanPieces, RanSession};
+ghost use Rattle.ebr_server.specs.Worker.{Wrote, Asks, BeginsAs, Does, Leaves, Stands, RanPieces, RanSession};
 ghost use Rattle.ebr_server.specs.Engine.{IsOpen, IsSpelled, entries, start};
 ghost use Rattle.ebr_server.specs.History.{Legal};
 
 use crate::ask::{Answer, Ask};
 use crate::engine::Engine;
 use crate::exit::ExitCode;
+use crate::forms::{Effect, called_name, effect_of};
 use crate::offer::offer;
 use crate::procedures::look_up;
+use ebr_ast::{Block, Definition, Statement};
 use ebr_base::{Bytes, CloneIn, Code, Name, NoMemory};
 use ebr_outside::Sink;
-use ebr_script::{FirstForm, FirstPiece, text_of};
+use ebr_script::{Piece, PieceKind, text_of};
 use std::alloc::Global;
 
 /// Why a session stops before its script's end.
@@ -180,26 +182,29 @@ impl<S: Sink> Worker<S> {
         self.print_result(engine.last(), text)
     }
 
-    /// Makes a procedure.
+    /// Makes a procedure, whose text is that of its piece.
     fn create(
         &mut self,
         alloc: Global,
         engine: &mut Engine,
-        what: &FirstForm,
-        text: &[u8],
+        script: &[u8],
+        piece: &Piece,
+        what: &Definition,
     ) -> Result<(), Halt>
         requires open { IsOpen engine.old }
-        requires spelled { stored text.now ≡ what.now }
+        requires within { LiesWithin script.now piece.now }
+        requires small { length script.now < 4294967295 }
+        requires spelled { IsSpelled (Ask.Ddl what.now (text_of script.now piece.now)) }
         requires wrote { Wrote (S.held self.old.sink) self.old.written self.old.printed }
         ensures wrote { Wrote (S.held self.new.sink) self.new.written self.new.printed }
-        ensures does { Does result (asked (Ask.Ddl what.now text.now) (printing_result (codes "OK"))) (entries engine.old) self.old.printed (entries engine.new) self.new.printed }
+        ensures does { Does result (asked (Ask.Ddl what.now (text_of script.now piece.now)) (printing_result (codes "OK"))) (entries engine.old) self.old.printed (entries engine.new) self.new.printed }
         ensures leaves { Leaves result engine.new }
         ensures counted { S.faults self.old.sink ≤ S.faults self.new.sink }
         ensures failed { result ≡ Err Halt.SinkFault → Rises (S.faults self.old.sink) (S.faults self.new.sink) }
         ensures flushed { result ≡ Err Halt.Answered → self.new.written ≡ length self.new.printed }
     {
+        let text = Bytes::from_slice(alloc, text_of(alloc, script, piece)?)?;
         let what = what.clone_in(alloc)?;
-        let text = Bytes::from_slice(alloc, text)?;
         self.request(engine, Ask::Ddl { what, text }, b"OK")
     }
 
@@ -208,20 +213,49 @@ impl<S: Sink> Worker<S> {
         &mut self,
         alloc: Global,
         engine: &mut Engine,
-        name: &Name,
+        what: &Definition,
     ) -> Result<(), Halt>
         requires open { IsOpen engine.old }
+        requires spelled { IsSpelled (Ask.Ddl what.now []) }
         requires wrote { Wrote (S.held self.old.sink) self.old.written self.old.printed }
         ensures wrote { Wrote (S.held self.new.sink) self.new.written self.new.printed }
-        ensures does { Does result (asked (Ask.Ddl (FirstForm.CreateEdition name.now) []) (printing_result (codes "OK"))) (entries engine.old) self.old.printed (entries engine.new) self.new.printed }
+        ensures does { Does result (asked (Ask.Ddl what.now []) (printing_result (codes "OK"))) (entries engine.old) self.old.printed (entries engine.new) self.new.printed }
         ensures leaves { Leaves result engine.new }
         ensures counted { S.faults self.old.sink ≤ S.faults self.new.sink }
         ensures failed { result ≡ Err Halt.SinkFault → Rises (S.faults self.old.sink) (S.faults self.new.sink) }
         ensures flushed { result ≡ Err Halt.Answered → self.new.written ≡ length self.new.printed }
     {
-        let what = FirstForm::CreateEdition(name.clone_in(alloc)?);
         let text = Bytes::new(alloc);
+        let what = what.clone_in(alloc)?;
         self.request(engine, Ask::Ddl { what, text }, b"OK")
+    }
+
+    /// Runs a definition.
+    fn definition(
+        &mut self,
+        alloc: Global,
+        engine: &mut Engine,
+        script: &[u8],
+        piece: &Piece,
+        what: &Definition,
+    ) -> Result<(), Halt>
+        requires open { IsOpen engine.old }
+        requires within { LiesWithin script.now piece.now }
+        requires small { length script.now < 4294967295 }
+        requires spelled { IsSpelled (Ask.Ddl what.now (text_of script.now piece.now)) }
+        requires wrote { Wrote (S.held self.old.sink) self.old.written self.old.printed }
+        ensures wrote { Wrote (S.held self.new.sink) self.new.written self.new.printed }
+        ensures does { Does result (run_definition (spec.effect_of what.now) what.now (text_of script.now piece.now)) (entries engine.old) self.old.printed (entries engine.new) self.new.printed }
+        ensures leaves { Leaves result engine.new }
+        ensures counted { S.faults self.old.sink ≤ S.faults self.new.sink }
+        ensures failed { result ≡ Err Halt.SinkFault → Rises (S.faults self.old.sink) (S.faults self.new.sink) }
+        ensures flushed { result ≡ Err Halt.Answered → self.new.written ≡ length self.new.printed }
+    {
+        match effect_of(what) {
+            Effect::Procedure { .. } => self.create(alloc, engine, script, piece, what),
+            Effect::Edition(_) => self.create_edition(alloc, engine, what),
+            Effect::Nothing => self.print_code(Code::Ebr(1)),
+        }
     }
 
     /// Makes another edition the session's.
@@ -262,30 +296,52 @@ impl<S: Sink> Worker<S> {
         }
     }
 
-    /// Runs a piece of the script.
-    pub fn piece(
-        &mut self,
-        alloc: Global,
-        engine: &mut Engine,
-        what: &FirstForm,
-        text: &[u8],
-    ) -> Result<(), Halt>
+    /// Runs a block.
+    fn block(&mut self, engine: &mut Engine, block: &Block) -> Result<(), Halt>
         requires open { IsOpen engine.old }
-        requires spelled { IsText what.now text.now }
         requires wrote { Wrote (S.held self.old.sink) self.old.written self.old.printed }
         ensures wrote { Wrote (S.held self.new.sink) self.new.written self.new.printed }
-        ensures does { Does result (run_piece what.now text.now) (entries engine.old) self.old.printed (entries engine.new) self.new.printed }
+        ensures does { Does result (run_block (spec.called_name block.now)) (entries engine.old) self.old.printed (entries engine.new) self.new.printed }
         ensures leaves { Leaves result engine.new }
         ensures counted { S.faults self.old.sink ≤ S.faults self.new.sink }
         ensures failed { result ≡ Err Halt.SinkFault → Rises (S.faults self.old.sink) (S.faults self.new.sink) }
         ensures flushed { result ≡ Err Halt.Answered → self.new.written ≡ length self.new.printed }
     {
-        match what {
-            FirstForm::CreateProcedure { .. } => self.create(alloc, engine, what, text),
-            FirstForm::Call(name) => self.call(engine, name),
-            FirstForm::CreateEdition(name) => self.create_edition(alloc, engine, name),
-            FirstForm::SetEdition(name) => self.set_edition(alloc, engine, name),
-            FirstForm::Other => self.print_code(Code::Ebr(1)),
+        match called_name(block) {
+            Some(name) => self.call(engine, name),
+            None => self.print_code(Code::Ebr(1)),
+        }
+    }
+
+    /// Runs a piece of the script.
+    pub fn piece(
+        &mut self,
+        alloc: Global,
+        engine: &mut Engine,
+        script: &[u8],
+        piece: &Piece,
+    ) -> Result<(), Halt>
+        requires open { IsOpen engine.old }
+        requires within { LiesWithin script.now piece.now }
+        requires text { KeepsText script.now piece.now }
+        requires small { length script.now < 4294967295 }
+        requires wrote { Wrote (S.held self.old.sink) self.old.written self.old.printed }
+        ensures wrote { Wrote (S.held self.new.sink) self.new.written self.new.printed }
+        ensures does { Does result (run_piece piece.now.what (text_of script.now piece.now)) (entries engine.old) self.old.printed (entries engine.new) self.new.printed }
+        ensures leaves { Leaves result engine.new }
+        ensures counted { S.faults self.old.sink ≤ S.faults self.new.sink }
+        ensures failed { result ≡ Err Halt.SinkFault → Rises (S.faults self.old.sink) (S.faults self.new.sink) }
+        ensures flushed { result ≡ Err Halt.Answered → self.new.written ≡ length self.new.printed }
+    {
+        match &piece.what {
+            PieceKind::Refused(code) => self.print_code(*code),
+            PieceKind::Tree(Statement::SetEdition(name)) => self.set_edition(alloc, engine, name),
+            PieceKind::Tree(Statement::Definition(what)) => {
+                self.definition(alloc, engine, script, piece, what)
+            }
+            PieceKind::Tree(Statement::Block(block)) => self.block(engine, block),
+            PieceKind::Tree(Statement::Sql(_)) => self.print_code(Code::Ebr(1)),
+            PieceKind::Tree(Statement::Transaction(_)) => self.print_code(Code::Ebr(1)),
         }
     }
 
@@ -295,12 +351,13 @@ impl<S: Sink> Worker<S> {
         alloc: Global,
         engine: &mut Engine,
         script: &[u8],
-        pieces: &[FirstPiece],
+        pieces: &[Piece],
     ) -> Result<(), Halt>
         requires open { IsOpen engine.old }
         requires stands { Stands script.now (run_pieces script.now pieces.now) (entries engine.old) self.old.printed }
         requires within { All (LiesWithin script.now) pieces.now }
-        requires forms { All (λ p. p.what ≡ stored (text_of script.now p)) pieces.now }
+        requires texts { All (KeepsText script.now) pieces.now }
+        requires small { length script.now < 4294967295 }
         requires wrote { Wrote (S.held self.old.sink) self.old.written self.old.printed }
         ensures wrote { Wrote (S.held self.new.sink) self.new.written self.new.printed }
         ensures ran { RanPieces result script.now (entries engine.new) self.new.printed }
@@ -310,7 +367,7 @@ impl<S: Sink> Worker<S> {
         ensures flushed { result ≡ Err Halt.Answered → self.new.written ≡ length self.new.printed }
     {
         for piece in pieces {
-            self.piece(alloc, engine, &piece.what, text_of(script, piece))?;
+            self.piece(alloc, engine, script, piece)?;
         }
         Ok(())
     }
@@ -322,12 +379,13 @@ impl<S: Sink> Worker<S> {
         alloc: Global,
         engine: &mut Engine,
         script: &[u8],
-        pieces: &[FirstPiece],
+        pieces: &[Piece],
     ) -> ExitCode
         requires open { IsOpen engine.old }
         requires stands { Stands script.now (run_pieces script.now pieces.now) (entries engine.old) self.old.printed }
         requires within { All (LiesWithin script.now) pieces.now }
-        requires forms { All (λ p. p.what ≡ stored (text_of script.now p)) pieces.now }
+        requires texts { All (KeepsText script.now) pieces.now }
+        requires small { length script.now < 4294967295 }
         requires wrote { Wrote (S.held self.old.sink) self.old.written self.old.printed }
         ensures session { RanSession result script.now (entries engine.new) self.new.written self.new.printed }
         ensures wrote { Wrote (S.held self.new.sink) self.new.written self.new.printed }
@@ -358,12 +416,13 @@ impl<S: Sink> Worker<S> {
         alloc: Global,
         engine: &mut Engine,
         script: &[u8],
-        pieces: &[FirstPiece],
+        pieces: &[Piece],
     ) -> Result<(), Halt>
         requires open { IsOpen engine.old }
         requires stands { Stands script.now (run_pieces script.now pieces.now) (entries engine.old) self.old.printed }
         requires within { All (LiesWithin script.now) pieces.now }
-        requires forms { All (λ p. p.what ≡ stored (text_of script.now p)) pieces.now }
+        requires texts { All (KeepsText script.now) pieces.now }
+        requires small { length script.now < 4294967295 }
         requires wrote { Wrote (S.held self.old.sink) self.old.written self.old.printed }
         ensures wrote { Wrote (S.held self.new.sink) self.new.written self.new.printed }
         ensures ran { RanPieces result script.now (entries engine.new) self.new.printed }

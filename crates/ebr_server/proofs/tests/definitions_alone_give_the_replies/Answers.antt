@@ -1,18 +1,18 @@
-use Rattle.std.proofs.Common.{refl}
-use Rattle.ebr_base.specs.Word.{is_letter, is_word_byte, is_white, is_reserved}
-use Rattle.ebr_script.specs.Tokens.{first_tokens}
-use Rattle.ebr_script.specs.Pieces.{cut_within}
-use Rattle.ebr_server.specs.Alone.{play}
+use Rattle.ebr_server.proofs.Trees.{effect_of-procedure, called_name-call}
+use Rattle.ebr_server.proofs.Replayed.{nothing_gives, calls_give, upgrade_gives}
 use Rattle.ebr_server.proofs.tests.definitions_alone_give_the_replies.Goals as goal
 
+pub returns-clause-procedure : goal.returns-clause-procedure
+returns-clause-procedure c = effect_of-procedure
+
+pub returns-clause-call : goal.returns-clause-call
+returns-clause-call c = called_name-call
+
 pub returns-clause-nothing : goal.returns-clause-nothing
-unfolding is_letter is_word_byte is_white is_reserved first_tokens cut_within play
-returns-clause-nothing c = refl
+returns-clause-nothing c = nothing_gives
 
 pub returns-clause-calls : goal.returns-clause-calls
-unfolding is_letter is_word_byte is_white is_reserved first_tokens cut_within play
-returns-clause-calls c = refl
+returns-clause-calls c = calls_give
 
 pub returns-clause-upgrade : goal.returns-clause-upgrade
-unfolding is_letter is_word_byte is_white is_reserved first_tokens cut_within play
-returns-clause-upgrade c = refl
+returns-clause-upgrade c = upgrade_gives

@@ -1,0 +1,103 @@
+//! The forms that run until PL/SQL is interpreted, told off the trees.
+
+ghost use Rattle.std.specs.Prelude.{◌≡◌};
+ghost use Rattle.std.specs.Option.{option_copied};
+ghost use Rattle.ebr_server.specs.Forms as spec;
+ghost use Rattle.ebr_server.specs.Effects.{effect};
+
+use ebr_ast::{Block, Decl, Definition, Expr, Handler, Stmt, Subprogram, UnitTree};
+use ebr_base::{Bytes, Name};
+
+/// What a definition makes.
+#[derive(Drop)]
+pub enum Effect<'a> {
+    /// A procedure that prints one line.
+    Procedure {
+        replace: bool,
+        name: &'a Name,
+        line: &'a Bytes,
+    },
+    Edition(&'a Name),
+    /// Nothing yet.
+    Nothing,
+}
+
+/// What a definition makes, as far as definitions are carried out yet.
+#[tactic(auto, unfolding(crate::specs::Forms::effect_of))]
+pub fn effect_of(what: &Definition) -> Effect<'_>
+    ensures { effect result ≡ spec.effect_of what.now }
+{
+    match what {
+        Definition::CreateEdition { name, parent: None } => Effect::Edition(name),
+        Definition::CreateObject {
+            replace,
+            unit: UnitTree::Subprogram(unit),
+        } => procedure(*replace, unit),
+        _ => Effect::Nothing,
+    }
+}
+
+fn procedure(replace: bool, unit: &Subprogram) -> Effect<'_>
+    ensures { effect result ≡ spec.makes_procedure replace unit.now.head.name unit.now.head.parameters unit.now.head.result (spec.printed_line unit.now.body) }
+{
+    if !unit.head.parameters.is_empty() || unit.head.result.is_some() {
+        return Effect::Nothing;
+    }
+    match printed_line(&unit.body) {
+        Some(line) => Effect::Procedure {
+            replace,
+            name: &unit.head.name,
+            line,
+        },
+        None => Effect::Nothing,
+    }
+}
+
+/// The name that a block calls without arguments, where it does no more.
+#[tactic(auto, unfolding(crate::specs::Forms::called_name))]
+pub fn called_name(block: &Block) -> Option<&Name>
+    ensures { option_copied result ≡ spec.called_name block.now }
+{
+    let Some(Stmt::Call(path, Some(arguments))) = only_statement(block) else {
+        return None;
+    };
+    if path.member.is_some() || !arguments.is_empty() {
+        return None;
+    }
+    Some(&path.name)
+}
+
+/// The line that a block prints, where it does no more.
+#[tactic(auto, unfolding(crate::specs::Forms::printed_line))]
+fn printed_line(block: &Block) -> Option<&Bytes>
+    ensures { option_copied result ≡ spec.printed_line block.now }
+{
+    match only_statement(block) {
+        Some(Stmt::PutLine(Expr::Text(line))) => Some(line),
+        _ => None,
+    }
+}
+
+/// The one statement of a block without declarations and handlers.
+fn only_statement(block: &Block) -> Option<&Stmt>
+    ensures { option_copied result ≡ spec.only_statement block.now }
+{
+    alone(
+        block.declarations.as_slice(),
+        block.statements.as_slice(),
+        block.handlers.as_slice(),
+    )
+}
+
+fn alone<'a>(
+    declarations: &[Decl],
+    statements: &'a [Stmt],
+    handlers: &[Handler],
+) -> Option<&'a Stmt>
+    ensures { option_copied result ≡ spec.alone declarations.now statements.now handlers.now }
+{
+    match (declarations, statements, handlers) {
+        ([], [statement], []) => Some(statement),
+        _ => None,
+    }
+}
