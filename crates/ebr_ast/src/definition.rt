@@ -1,14 +1,13 @@
 //! Definitions, and whole statements of a script.
 
-use crate::copies::copy_option;
 use crate::sql::{SqlTree, Transaction};
 use crate::statement::{Block, DeclaredType};
 use crate::unit::UnitTree;
-use ebr_base::{CloneIn, List, Name, NoMemory};
+use ebr_base::{CloneIn, List, Name, NoMemory, Shared};
 use std::alloc::Global;
 
 /// A statement of a script.
-#[derive(Debug, Drop, PartialEq, Eq)]
+#[derive(Debug, Drop)]
 pub enum Statement {
     Sql(SqlTree),
     Transaction(Transaction),
@@ -16,11 +15,11 @@ pub enum Statement {
     SetEdition(Name),
     Definition(Definition),
     /// A block, or a CALL, which means the block that holds this one call.
-    Block(Block),
+    Block(Shared<Block>),
 }
 
 /// A statement that changes the catalogue.
-#[derive(Debug, Drop, PartialEq, Eq)]
+#[derive(Debug, Drop)]
 pub enum Definition {
     /// `CREATE EDITION name AS CHILD OF parent`; without a parent it is the last edition.
     CreateEdition {
@@ -63,7 +62,7 @@ pub enum Definition {
 }
 
 /// A column in CREATE TABLE.
-#[derive(Debug, Drop, PartialEq, Eq)]
+#[derive(Debug, Drop)]
 pub struct ColumnTree {
     pub name: Name,
     pub ty: DeclaredType,
@@ -104,7 +103,7 @@ impl CloneIn for Definition {
         match self {
             Definition::CreateEdition { name, parent } => Ok(Definition::CreateEdition {
                 name: name.clone_in(alloc)?,
-                parent: copy_option(alloc, parent)?,
+                parent: parent.clone_in(alloc)?,
             }),
             Definition::DropEdition { name, cascade } => Ok(Definition::DropEdition {
                 name: name.clone_in(alloc)?,

@@ -1,15 +1,12 @@
 //! Syntax trees of SQL and PL/SQL, and what an edition sees of the catalogue.
 #![tactic(auto)]
 
-mod copies;
 mod definition;
 mod expression;
 mod kinds;
 mod query;
 mod sql;
 mod statement;
-#[cfg(test)]
-mod tests;
 mod unit;
 mod view;
 

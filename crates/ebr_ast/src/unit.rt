@@ -1,27 +1,26 @@
 //! Stored units: procedures, functions, packages, triggers and editioning views.
 
-use crate::copies::copy_option;
 use crate::kinds::{Op, Timing};
 use crate::statement::{Block, Decl, Handler, Stmt};
-use ebr_base::{CloneIn, List, Name, NoMemory};
+use ebr_base::{CloneIn, List, Name, NoMemory, Shared};
 use std::alloc::Global;
 
 /// A unit.
-#[derive(Debug, Drop, PartialEq, Eq)]
+#[derive(Debug, Drop)]
 pub enum UnitTree {
     /// A procedure or a function.
-    Subprogram(Subprogram),
+    Subprogram(Shared<Subprogram>),
     /// A package's specification: its name and its items.
-    Package(Name, List<PackageItem>),
-    PackageBody(PackageBody),
-    Trigger(Trigger),
-    View(EditioningView),
+    Package(Name, Shared<List<PackageItem>>),
+    PackageBody(Shared<PackageBody>),
+    Trigger(Shared<Trigger>),
+    View(Shared<EditioningView>),
     /// A block that a session runs. `CALL p(..)` is the block that calls p.
-    Block(Block),
+    Block(Shared<Block>),
 }
 
 /// The head of a procedure, or of a function where it has a result.
-#[derive(Debug, Drop, PartialEq, Eq)]
+#[derive(Debug, Drop)]
 pub struct Head {
     pub name: Name,
     pub parameters: List<Parameter>,
@@ -29,13 +28,13 @@ pub struct Head {
 }
 
 /// A procedure or a function with its body.
-#[derive(Debug, Drop, PartialEq, Eq)]
+#[derive(Debug, Drop)]
 pub struct Subprogram {
     pub head: Head,
     pub body: Block,
 }
 
-#[derive(Debug, Drop, PartialEq, Eq)]
+#[derive(Debug, Drop)]
 pub struct Parameter {
     pub name: Name,
     /// The mode as it is written; without one it is IN.
@@ -52,7 +51,7 @@ pub enum Mode {
 }
 
 /// The type of a parameter or of a function's result, which has no size.
-#[derive(Debug, Drop, PartialEq, Eq)]
+#[derive(Debug, Drop)]
 pub enum ParameterType {
     Number,
     Integer,
@@ -63,24 +62,24 @@ pub enum ParameterType {
 }
 
 /// What a package's specification declares.
-#[derive(Debug, Drop, PartialEq, Eq)]
+#[derive(Debug, Drop)]
 pub enum PackageItem {
     Decl(Decl),
     Head(Head),
 }
 
 /// A package's body. The initial part is there where it has statements.
-#[derive(Debug, Drop, PartialEq, Eq)]
+#[derive(Debug, Drop)]
 pub struct PackageBody {
     pub name: Name,
     pub declarations: List<Decl>,
     pub subprograms: List<Subprogram>,
-    pub statements: List<Stmt>,
+    pub statements: List<Shared<Stmt>>,
     pub handlers: List<Handler>,
 }
 
 /// A row trigger.
-#[derive(Debug, Drop, PartialEq, Eq)]
+#[derive(Debug, Drop)]
 pub struct Trigger {
     pub name: Name,
     pub timing: Timing,
@@ -102,7 +101,7 @@ pub enum Direction {
 }
 
 /// `EDITIONING VIEW name (names) AS SELECT items FROM table`; without names each item's own counts.
-#[derive(Debug, Drop, PartialEq, Eq)]
+#[derive(Debug, Drop)]
 pub struct EditioningView {
     pub name: Name,
     pub names: List<Name>,
@@ -112,7 +111,7 @@ pub struct EditioningView {
 }
 
 /// A column of the table, with its alias.
-#[derive(Debug, Drop, PartialEq, Eq)]
+#[derive(Debug, Drop)]
 pub struct ViewItem {
     pub column: Name,
     pub alias: Option<Name>,
@@ -131,104 +130,5 @@ impl CloneIn for UnitTree {
             UnitTree::View(view) => Ok(UnitTree::View(view.clone_in(alloc)?)),
             UnitTree::Block(block) => Ok(UnitTree::Block(block.clone_in(alloc)?)),
         }
-    }
-}
-
-impl CloneIn for Head {
-    fn clone_in(&self, alloc: Global) -> Result<Head, NoMemory> {
-        Ok(Head {
-            name: self.name.clone_in(alloc)?,
-            parameters: self.parameters.clone_in(alloc)?,
-            result: copy_option(alloc, &self.result)?,
-        })
-    }
-}
-
-impl CloneIn for Subprogram {
-    fn clone_in(&self, alloc: Global) -> Result<Subprogram, NoMemory> {
-        Ok(Subprogram {
-            head: self.head.clone_in(alloc)?,
-            body: self.body.clone_in(alloc)?,
-        })
-    }
-}
-
-impl CloneIn for Parameter {
-    fn clone_in(&self, alloc: Global) -> Result<Parameter, NoMemory> {
-        Ok(Parameter {
-            name: self.name.clone_in(alloc)?,
-            mode: self.mode,
-            ty: self.ty.clone_in(alloc)?,
-        })
-    }
-}
-
-impl CloneIn for ParameterType {
-    fn clone_in(&self, alloc: Global) -> Result<ParameterType, NoMemory> {
-        match self {
-            ParameterType::Number => Ok(ParameterType::Number),
-            ParameterType::Integer => Ok(ParameterType::Integer),
-            ParameterType::Varchar2 => Ok(ParameterType::Varchar2),
-            ParameterType::Boolean => Ok(ParameterType::Boolean),
-            ParameterType::OfColumn(table, column) => {
-                let table = table.clone_in(alloc)?;
-                Ok(ParameterType::OfColumn(table, column.clone_in(alloc)?))
-            }
-        }
-    }
-}
-
-impl CloneIn for PackageItem {
-    fn clone_in(&self, alloc: Global) -> Result<PackageItem, NoMemory> {
-        match self {
-            PackageItem::Decl(decl) => Ok(PackageItem::Decl(decl.clone_in(alloc)?)),
-            PackageItem::Head(head) => Ok(PackageItem::Head(head.clone_in(alloc)?)),
-        }
-    }
-}
-
-impl CloneIn for PackageBody {
-    fn clone_in(&self, alloc: Global) -> Result<PackageBody, NoMemory> {
-        Ok(PackageBody {
-            name: self.name.clone_in(alloc)?,
-            declarations: self.declarations.clone_in(alloc)?,
-            subprograms: self.subprograms.clone_in(alloc)?,
-            statements: self.statements.clone_in(alloc)?,
-            handlers: self.handlers.clone_in(alloc)?,
-        })
-    }
-}
-
-impl CloneIn for Trigger {
-    fn clone_in(&self, alloc: Global) -> Result<Trigger, NoMemory> {
-        Ok(Trigger {
-            name: self.name.clone_in(alloc)?,
-            timing: self.timing,
-            events: self.events.clone_in(alloc)?,
-            on: self.on.clone_in(alloc)?,
-            crossedition: self.crossedition,
-            enabled: self.enabled,
-            body: self.body.clone_in(alloc)?,
-        })
-    }
-}
-
-impl CloneIn for EditioningView {
-    fn clone_in(&self, alloc: Global) -> Result<EditioningView, NoMemory> {
-        Ok(EditioningView {
-            name: self.name.clone_in(alloc)?,
-            names: self.names.clone_in(alloc)?,
-            items: self.items.clone_in(alloc)?,
-            table: self.table.clone_in(alloc)?,
-        })
-    }
-}
-
-impl CloneIn for ViewItem {
-    fn clone_in(&self, alloc: Global) -> Result<ViewItem, NoMemory> {
-        Ok(ViewItem {
-            column: self.column.clone_in(alloc)?,
-            alias: copy_option(alloc, &self.alias)?,
-        })
     }
 }

@@ -5,7 +5,7 @@ use ebr_base::{Bytes, CloneIn, EditionNo, List, NoMemory, ObjectKey, Stamp, Tabl
 use std::alloc::Global;
 
 /// A stored object.
-#[derive(Debug, Drop, PartialEq, Eq)]
+#[derive(Debug, Drop)]
 pub struct Object {
     pub key: ObjectKey,
     /// The text that created it, from the first token to the last.
@@ -19,7 +19,7 @@ pub struct Object {
 }
 
 /// All that an edition sees.
-#[derive(Debug, Drop, PartialEq, Eq)]
+#[derive(Debug, Drop)]
 pub struct EditionView {
     pub edition: EditionNo,
     /// The visible objects in order of class and then of name.
