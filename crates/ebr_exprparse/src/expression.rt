@@ -7,12 +7,12 @@ ghost use Rattle.ebr_exprparse.specs.Nests.{Nests};
 
 use crate::level::{Level, PLAIN_NAMES};
 use crate::trees::{
-    Read, between, compared, conjoined, disjoined, like, name_or_call, path, product, quotient,
-    summed,
+    Read, Tree, between, compared, conjoined, disjoined, like, name_or_call, negated, path,
+    product, quotient, summed,
 };
 use ebr_ast::{Addend, AdditiveOperator, Attribute, Comparison, Expr, Op, RowImage};
-use ebr_base::{Boxed, List, Name};
-use ebr_grammar::{Kind, ReadStop, Tokens};
+use ebr_base::{List, Name, Shared};
+use ebr_grammar::{Kind, ReadStop, Tokens, ended, shared};
 use std::alloc::Global;
 
 /// The productions of expressions.
@@ -34,7 +34,7 @@ impl<F: Fn(Global, &mut Tokens<'_>, usize, Level) -> Result<Read, ReadStop>> Gra
         (self.expr)(self.alloc, tokens, self.depth, level)
     }
 
-    fn inner(&self, tokens: &mut Tokens<'_>) -> Result<Expr, ReadStop>
+    fn inner(&self, tokens: &mut Tokens<'_>) -> Result<Tree, ReadStop>
         requires { Nests self.now.depth (F.pre self.now.expr) (F.post self.now.expr) }
         ensures { Reads (spec.reads_at self.now.depth spec.inner tokens.old) result tokens.new }
     {
@@ -43,7 +43,7 @@ impl<F: Fn(Global, &mut Tokens<'_>, usize, Level) -> Result<Read, ReadStop>> Gra
         Ok(tree)
     }
 
-    fn inner_sum(&self, tokens: &mut Tokens<'_>) -> Result<Expr, ReadStop>
+    fn inner_sum(&self, tokens: &mut Tokens<'_>) -> Result<Tree, ReadStop>
         requires { Nests self.now.depth (F.pre self.now.expr) (F.post self.now.expr) }
         ensures { Reads (spec.reads_at self.now.depth spec.inner_sum tokens.old) result tokens.new }
     {
@@ -53,7 +53,7 @@ impl<F: Fn(Global, &mut Tokens<'_>, usize, Level) -> Result<Read, ReadStop>> Gra
     }
 
     /// The items behind the first, and with it.
-    fn more_items(&self, tokens: &mut Tokens<'_>, first: Expr) -> Result<List<Expr>, ReadStop>
+    fn more_items(&self, tokens: &mut Tokens<'_>, first: Tree) -> Result<List<Tree>, ReadStop>
         requires { Nests self.now.depth (F.pre self.now.expr) (F.post self.now.expr) }
         ensures { Reads (spec.with_first first (spec.reads_at self.now.depth spec.more_items tokens.old)) result tokens.new }
     {
@@ -69,7 +69,7 @@ impl<F: Fn(Global, &mut Tokens<'_>, usize, Level) -> Result<Read, ReadStop>> Gra
         Ok(found)
     }
 
-    fn list(&self, tokens: &mut Tokens<'_>) -> Result<List<Expr>, ReadStop>
+    fn list(&self, tokens: &mut Tokens<'_>) -> Result<List<Tree>, ReadStop>
         requires { Nests self.now.depth (F.pre self.now.expr) (F.post self.now.expr) }
         ensures { Reads (spec.reads_at self.now.depth spec.list tokens.old) result tokens.new }
     {
@@ -78,7 +78,7 @@ impl<F: Fn(Global, &mut Tokens<'_>, usize, Level) -> Result<Read, ReadStop>> Gra
     }
 
     /// What stands behind the parenthesis.
-    fn arguments(&self, tokens: &mut Tokens<'_>) -> Result<List<Expr>, ReadStop>
+    fn arguments(&self, tokens: &mut Tokens<'_>) -> Result<List<Tree>, ReadStop>
         requires { Nests self.now.depth (F.pre self.now.expr) (F.post self.now.expr) }
         ensures { Reads (spec.reads_at self.now.depth spec.arguments tokens.old) result tokens.new }
     {
@@ -86,11 +86,10 @@ impl<F: Fn(Global, &mut Tokens<'_>, usize, Level) -> Result<Read, ReadStop>> Gra
             return Ok(List::new(self.alloc));
         }
         let found = self.list(tokens)?;
-        tokens.expect(Kind::RightParen)?;
-        Ok(found)
+        ended(tokens, Kind::RightParen, found)
     }
 
-    fn given(&self, tokens: &mut Tokens<'_>) -> Result<Option<List<Expr>>, ReadStop>
+    fn given(&self, tokens: &mut Tokens<'_>) -> Result<Option<List<Tree>>, ReadStop>
         requires { Nests self.now.depth (F.pre self.now.expr) (F.post self.now.expr) }
         ensures { Reads (spec.reads_at self.now.depth spec.given tokens.old) result tokens.new }
     {
@@ -102,13 +101,13 @@ impl<F: Fn(Global, &mut Tokens<'_>, usize, Level) -> Result<Read, ReadStop>> Gra
     }
 
     /// What stands behind the dot.
-    fn member(&self, tokens: &mut Tokens<'_>, first: Name) -> Result<Expr, ReadStop>
+    fn member(&self, tokens: &mut Tokens<'_>, first: Name) -> Result<Tree, ReadStop>
         requires { Nests self.now.depth (F.pre self.now.expr) (F.post self.now.expr) }
         ensures { Reads (spec.with_first first (spec.reads_at self.now.depth spec.member tokens.old)) result tokens.new }
     {
         let second = tokens.name(self.alloc)?;
         let given = self.given(tokens)?;
-        Ok(name_or_call(path(first, Some(second)), given))
+        shared(self.alloc, name_or_call(path(first, Some(second)), given))
     }
 
     /// What stands behind `%`.
@@ -145,37 +144,36 @@ impl<F: Fn(Global, &mut Tokens<'_>, usize, Level) -> Result<Read, ReadStop>> Gra
     }
 
     /// What stands behind SQL.
-    fn sql_attribute(&self, tokens: &mut Tokens<'_>) -> Result<Expr, ReadStop>
+    fn sql_attribute(&self, tokens: &mut Tokens<'_>) -> Result<Tree, ReadStop>
         requires { Nests self.now.depth (F.pre self.now.expr) (F.post self.now.expr) }
         ensures { Reads (spec.reads_at self.now.depth spec.sql_attribute tokens.old) result tokens.new }
     {
         tokens.expect(Kind::Percent)?;
         let attribute = self.statement_attribute(tokens)?;
-        Ok(Expr::Attribute(None, attribute))
+        shared(self.alloc, Expr::Attribute(None, attribute))
     }
 
-    fn divisor(&self, tokens: &mut Tokens<'_>) -> Result<Expr, ReadStop>
+    fn divisor(&self, tokens: &mut Tokens<'_>) -> Result<Tree, ReadStop>
         requires { Nests self.now.depth (F.pre self.now.expr) (F.post self.now.expr) }
         ensures { Reads (spec.reads_at self.now.depth spec.divisor tokens.old) result tokens.new }
     {
         let divisor = self.inner_sum(tokens)?;
-        tokens.expect(Kind::RightParen)?;
-        Ok(divisor)
+        ended(tokens, Kind::RightParen, divisor)
     }
 
     /// What stands behind the first argument of TRUNC, where no `/` follows it.
-    fn trunc_call(&self, tokens: &mut Tokens<'_>, name: Name, first: Read) -> Result<Expr, ReadStop>
+    fn trunc_call(&self, tokens: &mut Tokens<'_>, name: Name, first: Read) -> Result<Tree, ReadStop>
         requires { Nests self.now.depth (F.pre self.now.expr) (F.post self.now.expr) }
         ensures { Reads (spec.kept name (spec.with_first first (spec.reads_at self.now.depth spec.trunc_call tokens.old))) result tokens.new }
     {
         let (tree, _) = first;
         let arguments = self.more_items(tokens, tree)?;
         tokens.expect(Kind::RightParen)?;
-        Ok(Expr::Call(path(name, None), arguments))
+        shared(self.alloc, Expr::Call(path(name, None), arguments))
     }
 
     /// What stands behind the first argument of TRUNC.
-    fn trunc_end(&self, tokens: &mut Tokens<'_>, name: Name, first: Read) -> Result<Expr, ReadStop>
+    fn trunc_end(&self, tokens: &mut Tokens<'_>, name: Name, first: Read) -> Result<Tree, ReadStop>
         requires { Nests self.now.depth (F.pre self.now.expr) (F.post self.now.expr) }
         ensures { Reads (spec.kept name (spec.with_first first (spec.reads_at self.now.depth spec.trunc_end tokens.old))) result tokens.new }
     {
@@ -188,19 +186,22 @@ impl<F: Fn(Global, &mut Tokens<'_>, usize, Level) -> Result<Read, ReadStop>> Gra
     }
 
     /// What stands in the parentheses of TRUNC.
-    fn trunc_arguments(&self, tokens: &mut Tokens<'_>, name: Name) -> Result<Expr, ReadStop>
+    fn trunc_arguments(&self, tokens: &mut Tokens<'_>, name: Name) -> Result<Tree, ReadStop>
         requires { Nests self.now.depth (F.pre self.now.expr) (F.post self.now.expr) }
         ensures { Reads (spec.kept name (spec.reads_at self.now.depth spec.trunc_arguments tokens.old)) result tokens.new }
     {
         if tokens.eat(Kind::RightParen) {
-            return Ok(Expr::Call(path(name, None), List::new(self.alloc)));
+            return shared(
+                self.alloc,
+                Expr::Call(path(name, None), List::new(self.alloc)),
+            );
         }
         let first = self.nested_read(tokens, Level::Whole)?;
         self.trunc_end(tokens, name, first)
     }
 
     /// What stands behind TRUNC.
-    fn trunc_tail(&self, tokens: &mut Tokens<'_>, name: Name) -> Result<Expr, ReadStop>
+    fn trunc_tail(&self, tokens: &mut Tokens<'_>, name: Name) -> Result<Tree, ReadStop>
         requires { Nests self.now.depth (F.pre self.now.expr) (F.post self.now.expr) }
         ensures { Reads (spec.kept name (spec.reads_at self.now.depth spec.trunc_tail tokens.old)) result tokens.new }
     {
@@ -210,14 +211,14 @@ impl<F: Fn(Global, &mut Tokens<'_>, usize, Level) -> Result<Read, ReadStop>> Gra
             self.member(tokens, name)
         } else if tokens.eat(Kind::Percent) {
             let attribute = self.attribute(tokens)?;
-            Ok(Expr::Attribute(Some(name), attribute))
+            shared(self.alloc, Expr::Attribute(Some(name), attribute))
         } else {
-            Ok(Expr::Name(path(name, None)))
+            shared(self.alloc, Expr::Name(path(name, None)))
         }
     }
 
     /// What stands behind another name.
-    fn name_tail(&self, tokens: &mut Tokens<'_>, name: Name) -> Result<Expr, ReadStop>
+    fn name_tail(&self, tokens: &mut Tokens<'_>, name: Name) -> Result<Tree, ReadStop>
         requires { Nests self.now.depth (F.pre self.now.expr) (F.post self.now.expr) }
         ensures { Reads (spec.with_first name (spec.reads_at self.now.depth spec.name_tail tokens.old)) result tokens.new }
     {
@@ -225,21 +226,20 @@ impl<F: Fn(Global, &mut Tokens<'_>, usize, Level) -> Result<Read, ReadStop>> Gra
             self.member(tokens, name)
         } else if tokens.eat(Kind::Percent) {
             let attribute = self.attribute(tokens)?;
-            Ok(Expr::Attribute(Some(name), attribute))
+            shared(self.alloc, Expr::Attribute(Some(name), attribute))
         } else {
             let given = self.given(tokens)?;
-            Ok(name_or_call(path(name, None), given))
+            shared(self.alloc, name_or_call(path(name, None), given))
         }
     }
 
     /// What stands behind the parenthesis, up to the closing one.
-    fn closed(&self, tokens: &mut Tokens<'_>) -> Result<Expr, ReadStop>
+    fn closed(&self, tokens: &mut Tokens<'_>) -> Result<Tree, ReadStop>
         requires { Nests self.now.depth (F.pre self.now.expr) (F.post self.now.expr) }
         ensures { Reads (spec.reads_at self.now.depth spec.closed tokens.old) result tokens.new }
     {
         let tree = self.inner(tokens)?;
-        tokens.expect(Kind::RightParen)?;
-        Ok(tree)
+        ended(tokens, Kind::RightParen, tree)
     }
 
     fn row_image(&self, tokens: &mut Tokens<'_>) -> Result<RowImage, ReadStop>
@@ -254,45 +254,45 @@ impl<F: Fn(Global, &mut Tokens<'_>, usize, Level) -> Result<Read, ReadStop>> Gra
     }
 
     /// What stands behind the colon.
-    fn row_column(&self, tokens: &mut Tokens<'_>) -> Result<Expr, ReadStop>
+    fn row_column(&self, tokens: &mut Tokens<'_>) -> Result<Tree, ReadStop>
         requires { Nests self.now.depth (F.pre self.now.expr) (F.post self.now.expr) }
         ensures { Reads (spec.reads_at self.now.depth spec.row_column tokens.old) result tokens.new }
     {
         let image = self.row_image(tokens)?;
         tokens.expect(Kind::Dot)?;
         let name = tokens.name(self.alloc)?;
-        Ok(Expr::Row(image, name))
+        shared(self.alloc, Expr::Row(image, name))
     }
 
     /// A word that stands for itself.
-    fn constant(&self, tokens: &mut Tokens<'_>) -> Result<Expr, ReadStop>
+    fn constant(&self, tokens: &mut Tokens<'_>) -> Result<Tree, ReadStop>
         requires { Nests self.now.depth (F.pre self.now.expr) (F.post self.now.expr) }
         ensures { Reads (spec.reads_at self.now.depth spec.constant tokens.old) result tokens.new }
     {
         if tokens.eat(Kind::Null) {
-            return Ok(Expr::Null);
+            return shared(self.alloc, Expr::Null);
         }
         if tokens.eat(Kind::True) {
-            return Ok(Expr::Boolean(true));
+            return shared(self.alloc, Expr::Boolean(true));
         }
         if tokens.eat(Kind::False) {
-            return Ok(Expr::Boolean(false));
+            return shared(self.alloc, Expr::Boolean(false));
         }
         if tokens.eat(Kind::Sqlcode) {
-            return Ok(Expr::SqlCode);
+            return shared(self.alloc, Expr::SqlCode);
         }
         if tokens.eat(Kind::Inserting) {
-            return Ok(Expr::Firing(Op::Insert));
+            return shared(self.alloc, Expr::Firing(Op::Insert));
         }
         if tokens.eat(Kind::Updating) {
-            return Ok(Expr::Firing(Op::Update));
+            return shared(self.alloc, Expr::Firing(Op::Update));
         }
         tokens.expect(Kind::Deleting)?;
-        Ok(Expr::Firing(Op::Delete))
+        shared(self.alloc, Expr::Firing(Op::Delete))
     }
 
     /// A name with what stands behind it.
-    fn reference(&self, tokens: &mut Tokens<'_>) -> Result<Expr, ReadStop>
+    fn reference(&self, tokens: &mut Tokens<'_>) -> Result<Tree, ReadStop>
         requires { Nests self.now.depth (F.pre self.now.expr) (F.post self.now.expr) }
         ensures { Reads (spec.reads_at self.now.depth spec.reference tokens.old) result tokens.new }
     {
@@ -305,14 +305,16 @@ impl<F: Fn(Global, &mut Tokens<'_>, usize, Level) -> Result<Read, ReadStop>> Gra
         }
     }
 
-    fn primary(&self, tokens: &mut Tokens<'_>) -> Result<Expr, ReadStop>
+    fn primary(&self, tokens: &mut Tokens<'_>) -> Result<Tree, ReadStop>
         requires { Nests self.now.depth (F.pre self.now.expr) (F.post self.now.expr) }
         ensures { Reads (spec.reads_at self.now.depth spec.primary tokens.old) result tokens.new }
     {
         if tokens.sees(Kind::NumberLiteral) {
-            Ok(Expr::Number(tokens.number()?))
+            let number = tokens.number()?;
+            shared(self.alloc, Expr::Number(number))
         } else if tokens.sees(Kind::TextLiteral) {
-            Ok(Expr::Text(tokens.content(self.alloc)?))
+            let content = tokens.content(self.alloc)?;
+            shared(self.alloc, Expr::Text(content))
         } else if tokens.eat(Kind::LeftParen) {
             self.closed(tokens)
         } else if tokens.sees_any(&[
@@ -334,22 +336,22 @@ impl<F: Fn(Global, &mut Tokens<'_>, usize, Level) -> Result<Read, ReadStop>> Gra
         }
     }
 
-    fn factor(&self, tokens: &mut Tokens<'_>) -> Result<Expr, ReadStop>
+    fn factor(&self, tokens: &mut Tokens<'_>) -> Result<Tree, ReadStop>
         requires { Nests self.now.depth (F.pre self.now.expr) (F.post self.now.expr) }
         ensures { Reads (spec.reads_at self.now.depth spec.factor tokens.old) result tokens.new }
     {
         if tokens.eat(Kind::Plus) {
             let operand = self.primary(tokens)?;
-            Ok(Expr::Plus(Boxed::new(self.alloc, operand)?))
+            Ok(Shared::new(self.alloc, Expr::Plus(operand))?)
         } else if tokens.eat(Kind::Minus) {
             let operand = self.primary(tokens)?;
-            Ok(Expr::Minus(Boxed::new(self.alloc, operand)?))
+            Ok(Shared::new(self.alloc, Expr::Minus(operand))?)
         } else {
             self.primary(tokens)
         }
     }
 
-    fn more_factors(&self, tokens: &mut Tokens<'_>) -> Result<List<Expr>, ReadStop>
+    fn more_factors(&self, tokens: &mut Tokens<'_>) -> Result<List<Tree>, ReadStop>
         requires { Nests self.now.depth (F.pre self.now.expr) (F.post self.now.expr) }
         ensures { Reads (spec.reads_at self.now.depth spec.more_factors tokens.old) result tokens.new }
     {
@@ -364,13 +366,13 @@ impl<F: Fn(Global, &mut Tokens<'_>, usize, Level) -> Result<Read, ReadStop>> Gra
         Ok(found)
     }
 
-    fn term(&self, tokens: &mut Tokens<'_>) -> Result<Expr, ReadStop>
+    fn term(&self, tokens: &mut Tokens<'_>) -> Result<Tree, ReadStop>
         requires { Nests self.now.depth (F.pre self.now.expr) (F.post self.now.expr) }
         ensures { Reads (spec.reads_at self.now.depth spec.term tokens.old) result tokens.new }
     {
         let first = self.factor(tokens)?;
         let more = self.more_factors(tokens)?;
-        Ok(product(self.alloc, first, more)?)
+        product(self.alloc, first, more)
     }
 
     fn operator(&self, tokens: &mut Tokens<'_>) -> Result<AdditiveOperator, ReadStop>
@@ -411,35 +413,34 @@ impl<F: Fn(Global, &mut Tokens<'_>, usize, Level) -> Result<Read, ReadStop>> Gra
         Ok(found)
     }
 
-    fn sum(&self, tokens: &mut Tokens<'_>) -> Result<Expr, ReadStop>
+    fn sum(&self, tokens: &mut Tokens<'_>) -> Result<Tree, ReadStop>
         requires { Nests self.now.depth (F.pre self.now.expr) (F.post self.now.expr) }
         ensures { Reads (spec.reads_at self.now.depth spec.sum tokens.old) result tokens.new }
     {
         let first = self.term(tokens)?;
         let more = self.more_terms(tokens)?;
-        Ok(summed(self.alloc, first, more)?)
+        summed(self.alloc, first, more)
     }
 
-    fn closed_list(&self, tokens: &mut Tokens<'_>) -> Result<List<Expr>, ReadStop>
+    fn closed_list(&self, tokens: &mut Tokens<'_>) -> Result<List<Tree>, ReadStop>
         requires { Nests self.now.depth (F.pre self.now.expr) (F.post self.now.expr) }
         ensures { Reads (spec.reads_at self.now.depth spec.closed_list tokens.old) result tokens.new }
     {
         tokens.expect(Kind::LeftParen)?;
         let items = self.list(tokens)?;
-        tokens.expect(Kind::RightParen)?;
-        Ok(items)
+        ended(tokens, Kind::RightParen, items)
     }
 
     /// What stands behind IN.
-    fn in_list(&self, tokens: &mut Tokens<'_>, left: Expr, negated: bool) -> Result<Expr, ReadStop>
+    fn in_list(&self, tokens: &mut Tokens<'_>, left: Tree, negated: bool) -> Result<Tree, ReadStop>
         requires { Nests self.now.depth (F.pre self.now.expr) (F.post self.now.expr) }
         ensures { Reads (spec.with_first left (spec.reads_at self.now.depth (spec.in_list negated) tokens.old)) result tokens.new }
     {
         let items = self.closed_list(tokens)?;
-        Ok(Expr::In(Boxed::new(self.alloc, left)?, items, negated))
+        shared(self.alloc, Expr::In(left, items, negated))
     }
 
-    fn range_end(&self, tokens: &mut Tokens<'_>) -> Result<Expr, ReadStop>
+    fn range_end(&self, tokens: &mut Tokens<'_>) -> Result<Tree, ReadStop>
         requires { Nests self.now.depth (F.pre self.now.expr) (F.post self.now.expr) }
         ensures { Reads (spec.reads_at self.now.depth spec.range_end tokens.old) result tokens.new }
     {
@@ -448,41 +449,41 @@ impl<F: Fn(Global, &mut Tokens<'_>, usize, Level) -> Result<Read, ReadStop>> Gra
     }
 
     /// What stands behind BETWEEN.
-    fn range(&self, tokens: &mut Tokens<'_>, left: Expr, negated: bool) -> Result<Expr, ReadStop>
+    fn range(&self, tokens: &mut Tokens<'_>, left: Tree, negated: bool) -> Result<Tree, ReadStop>
         requires { Nests self.now.depth (F.pre self.now.expr) (F.post self.now.expr) }
         ensures { Reads (spec.with_first left (spec.reads_at self.now.depth (spec.range negated) tokens.old)) result tokens.new }
     {
         let low = self.sum(tokens)?;
         let high = self.range_end(tokens)?;
-        Ok(between(self.alloc, left, low, high, negated)?)
+        between(self.alloc, left, low, high, negated)
     }
 
     /// What stands behind LIKE.
-    fn pattern(&self, tokens: &mut Tokens<'_>, left: Expr, negated: bool) -> Result<Expr, ReadStop>
+    fn pattern(&self, tokens: &mut Tokens<'_>, left: Tree, negated: bool) -> Result<Tree, ReadStop>
         requires { Nests self.now.depth (F.pre self.now.expr) (F.post self.now.expr) }
         ensures { Reads (spec.with_first left (spec.reads_at self.now.depth (spec.pattern negated) tokens.old)) result tokens.new }
     {
         let right = self.sum(tokens)?;
-        Ok(like(self.alloc, left, right, negated)?)
+        like(self.alloc, left, right, negated)
     }
 
     /// What stands behind IS.
-    fn null_test(&self, tokens: &mut Tokens<'_>, left: Expr) -> Result<Expr, ReadStop>
+    fn null_test(&self, tokens: &mut Tokens<'_>, left: Tree) -> Result<Tree, ReadStop>
         requires { Nests self.now.depth (F.pre self.now.expr) (F.post self.now.expr) }
         ensures { Reads (spec.with_first left (spec.reads_at self.now.depth spec.null_test tokens.old)) result tokens.new }
     {
         let negated = tokens.eat(Kind::Not);
         tokens.expect(Kind::Null)?;
-        Ok(Expr::IsNull(Boxed::new(self.alloc, left)?, negated))
+        shared(self.alloc, Expr::IsNull(left, negated))
     }
 
     /// IN, BETWEEN or LIKE with what stands behind it.
     fn membership(
         &self,
         tokens: &mut Tokens<'_>,
-        left: Expr,
+        left: Tree,
         negated: bool,
-    ) -> Result<Expr, ReadStop>
+    ) -> Result<Tree, ReadStop>
         requires { Nests self.now.depth (F.pre self.now.expr) (F.post self.now.expr) }
         ensures { Reads (spec.with_first left (spec.reads_at self.now.depth (spec.membership negated) tokens.old)) result tokens.new }
     {
@@ -497,7 +498,7 @@ impl<F: Fn(Global, &mut Tokens<'_>, usize, Level) -> Result<Read, ReadStop>> Gra
     }
 
     /// A test of the operand that stands before it.
-    fn test(&self, tokens: &mut Tokens<'_>, left: Expr) -> Result<Expr, ReadStop>
+    fn test(&self, tokens: &mut Tokens<'_>, left: Tree) -> Result<Tree, ReadStop>
         requires { Nests self.now.depth (F.pre self.now.expr) (F.post self.now.expr) }
         ensures { Reads (spec.with_first left (spec.reads_at self.now.depth spec.test tokens.old)) result tokens.new }
     {
@@ -534,17 +535,17 @@ impl<F: Fn(Global, &mut Tokens<'_>, usize, Level) -> Result<Read, ReadStop>> Gra
     }
 
     /// A sign of comparison with its right operand.
-    fn signed(&self, tokens: &mut Tokens<'_>, left: Expr) -> Result<Expr, ReadStop>
+    fn signed(&self, tokens: &mut Tokens<'_>, left: Tree) -> Result<Tree, ReadStop>
         requires { Nests self.now.depth (F.pre self.now.expr) (F.post self.now.expr) }
         ensures { Reads (spec.with_first left (spec.reads_at self.now.depth spec.signed tokens.old)) result tokens.new }
     {
         let by = self.sign(tokens)?;
         let right = self.sum(tokens)?;
-        Ok(compared(self.alloc, by, left, right)?)
+        compared(self.alloc, by, left, right)
     }
 
     /// What stands behind the first sum of a comparison.
-    fn comparison_tail(&self, tokens: &mut Tokens<'_>, left: Expr) -> Result<Read, ReadStop>
+    fn comparison_tail(&self, tokens: &mut Tokens<'_>, left: Tree) -> Result<Read, ReadStop>
         requires { Nests self.now.depth (F.pre self.now.expr) (F.post self.now.expr) }
         ensures { Reads (spec.with_first left (spec.reads_at self.now.depth spec.comparison_tail tokens.old)) result tokens.new }
     {
@@ -579,13 +580,13 @@ impl<F: Fn(Global, &mut Tokens<'_>, usize, Level) -> Result<Read, ReadStop>> Gra
         if tokens.eat(Kind::Not) {
             let found = self.comparison(tokens)?;
             let (operand, _) = found;
-            Ok((Expr::Not(Boxed::new(self.alloc, operand)?), false))
+            Ok(negated(self.alloc, operand)?)
         } else {
             self.comparison(tokens)
         }
     }
 
-    fn negated_tree(&self, tokens: &mut Tokens<'_>) -> Result<Expr, ReadStop>
+    fn negated_tree(&self, tokens: &mut Tokens<'_>) -> Result<Tree, ReadStop>
         requires { Nests self.now.depth (F.pre self.now.expr) (F.post self.now.expr) }
         ensures { Reads (spec.reads_at self.now.depth spec.negated_tree tokens.old) result tokens.new }
     {
@@ -594,7 +595,7 @@ impl<F: Fn(Global, &mut Tokens<'_>, usize, Level) -> Result<Read, ReadStop>> Gra
         Ok(tree)
     }
 
-    fn more_negations(&self, tokens: &mut Tokens<'_>) -> Result<List<Expr>, ReadStop>
+    fn more_negations(&self, tokens: &mut Tokens<'_>) -> Result<List<Tree>, ReadStop>
         requires { Nests self.now.depth (F.pre self.now.expr) (F.post self.now.expr) }
         ensures { Reads (spec.reads_at self.now.depth spec.more_negations tokens.old) result tokens.new }
     {
@@ -618,7 +619,7 @@ impl<F: Fn(Global, &mut Tokens<'_>, usize, Level) -> Result<Read, ReadStop>> Gra
         Ok(conjoined(self.alloc, first, more)?)
     }
 
-    fn conjoined_tree(&self, tokens: &mut Tokens<'_>) -> Result<Expr, ReadStop>
+    fn conjoined_tree(&self, tokens: &mut Tokens<'_>) -> Result<Tree, ReadStop>
         requires { Nests self.now.depth (F.pre self.now.expr) (F.post self.now.expr) }
         ensures { Reads (spec.reads_at self.now.depth spec.conjoined_tree tokens.old) result tokens.new }
     {
@@ -627,7 +628,7 @@ impl<F: Fn(Global, &mut Tokens<'_>, usize, Level) -> Result<Read, ReadStop>> Gra
         Ok(tree)
     }
 
-    fn more_conjunctions(&self, tokens: &mut Tokens<'_>) -> Result<List<Expr>, ReadStop>
+    fn more_conjunctions(&self, tokens: &mut Tokens<'_>) -> Result<List<Tree>, ReadStop>
         requires { Nests self.now.depth (F.pre self.now.expr) (F.post self.now.expr) }
         ensures { Reads (spec.reads_at self.now.depth spec.more_conjunctions tokens.old) result tokens.new }
     {

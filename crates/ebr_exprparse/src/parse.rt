@@ -2,12 +2,12 @@
 
 ghost use Rattle.std.specs.Prelude.{◌≡◌, ◌≤◌, ◌<◌, length, false, ℕ, IfOk, IfSome, Some};
 ghost use Rattle.ebr_grammar.specs.Outcome.{Reads};
+ghost use Rattle.ebr_ast.specs.declared.expression.Expr.{Expr as Expression};
 ghost use Rattle.ebr_exprparse.specs.Expressions as spec;
 
 use crate::expression::Grammar;
 use crate::level::Level;
-use crate::trees::Read;
-use ebr_ast::Expr;
+use crate::trees::{Read, Tree};
 use ebr_base::NoMemory;
 use ebr_grammar::{ReadStop, Tokens};
 use ebr_lexer::Token;
@@ -38,7 +38,7 @@ fn nested(
 
 /// Reads an expression, for the readers of what holds expressions.
 #[tactic(auto, unfolding(crate::specs::Expressions::read_expression))]
-pub fn read_expression(alloc: Global, tokens: &mut Tokens<'_>) -> Result<Expr, ReadStop>
+pub fn read_expression(alloc: Global, tokens: &mut Tokens<'_>) -> Result<Tree, ReadStop>
     ensures { Reads (spec.read_expression tokens.old) result tokens.new }
 {
     let depth = tokens.left();
@@ -50,13 +50,13 @@ pub fn read_expression(alloc: Global, tokens: &mut Tokens<'_>) -> Result<Expr, R
 /// The expression that stands from the token at `at` on, and the place of the token after it.
 ///
 /// None where none stands there.
-pub fn expr(alloc: Global, tokens: &[Token], at: u32) -> Result<Option<(Expr, u32)>, NoMemory>
+pub fn expr(alloc: Global, tokens: &[Token], at: u32) -> Result<Option<(Tree, u32)>, NoMemory>
     requires within { at ≤ length tokens.now }
     requires small { length tokens.now < 4294967295 }
     // What is found is spelled by the tokens from `at` to before its end.
     ensures found { IfOk result (λ r. IfSome r (spec.IsAt tokens.now at)) }
     // What is spelled there, before a token that does not go on with it or none, is found.
-    ensures only { (x : Expr) (end : ℕ) → spec.IsAt tokens.now at (x, end) → spec.goes_on_at tokens.now end ≡ false → IfOk result (λ r. r ≡ Some (x, end)) }
+    ensures only { (x : Expression) (end : ℕ) → spec.IsAt tokens.now at (x, end) → spec.goes_on_at tokens.now end ≡ false → IfOk result (λ r. r ≡ Some (x, end)) }
 {
     let mut rest = Tokens::new(&tokens[at as usize..]);
     match read_expression(alloc, &mut rest) {

@@ -1,16 +1,21 @@
 //! Makes the trees of expressions.
 
-ghost use Rattle.std.specs.Prelude.{◌≡◌, IfOk};
+ghost use Rattle.std.specs.Prelude.{◌≡◌, IfOk, Some, false, List as Sequence};
+ghost use Rattle.ebr_lexer.specs.declared.token.Token.{Token as Piece};
+ghost use Rattle.ebr_grammar.specs.Outcome.{Reads};
 ghost use Rattle.ebr_exprparse.specs.Expressions as spec;
 
 use ebr_ast::{Addend, Comparison, Expr, Path};
-use ebr_base::{Boxed, List, Name, NoMemory};
-use ebr_grammar::ReadStop;
+use ebr_base::{List, Name, NoMemory, Shared};
+use ebr_grammar::{ReadStop, shared};
 use std::alloc::Global;
+
+/// An expression behind its pointer.
+pub type Tree = Shared<Expr>;
 
 /// A tree, and whether it is spelled as a sum, without a comparison, NOT, AND or OR outside of its
 /// parentheses.
-pub type Read = (Expr, bool);
+pub type Read = (Tree, bool);
 
 pub fn path(name: Name, member: Option<Name>) -> Path
     ensures { result ≡ spec.path name member }
@@ -18,7 +23,7 @@ pub fn path(name: Name, member: Option<Name>) -> Path
     Path { name, member }
 }
 
-pub fn name_or_call(path: Path, given: Option<List<Expr>>) -> Expr
+pub fn name_or_call(path: Path, given: Option<List<Tree>>) -> Expr
     ensures { result ≡ spec.name_or_call path given }
 {
     match given {
@@ -28,83 +33,80 @@ pub fn name_or_call(path: Path, given: Option<List<Expr>>) -> Expr
 }
 
 /// The quotient of TRUNC, whose dividend is a sum.
-pub fn quotient(alloc: Global, dividend: Read, divisor: Expr) -> Result<Expr, ReadStop>
+pub fn quotient(alloc: Global, dividend: Read, divisor: Tree) -> Result<Tree, ReadStop>
     ensures { spec.Decides (spec.quotient dividend divisor) result }
 {
     let (tree, is_sum) = dividend;
     if !is_sum {
         return Err(ReadStop::NoTree);
     }
-    Ok(Expr::Quotient(Boxed::new(alloc, tree)?, Boxed::new(alloc, divisor)?))
+    Ok(Shared::new(alloc, Expr::Quotient(tree, divisor))?)
 }
 
-pub fn compared(alloc: Global, by: Comparison, left: Expr, right: Expr) -> Result<Expr, NoMemory>
-    ensures { IfOk result (λ e. e ≡ Expr.Compare by left right) }
+pub fn compared(alloc: Global, by: Comparison, left: Tree, right: Tree) -> Result<Tree, ReadStop>
+    ensures { (ts : Sequence Piece) → Reads (Some (Expr.Compare by left right, ts)) result ts }
 {
-    Ok(Expr::Compare(by, Boxed::new(alloc, left)?, Boxed::new(alloc, right)?))
+    shared(alloc, Expr::Compare(by, left, right))
 }
 
 pub fn between(
     alloc: Global,
-    value: Expr,
-    low: Expr,
-    high: Expr,
+    value: Tree,
+    low: Tree,
+    high: Tree,
     negated: bool,
-) -> Result<Expr, NoMemory>
-    ensures { IfOk result (λ e. e ≡ Expr.Between value low high negated) }
+) -> Result<Tree, ReadStop>
+    ensures { (ts : Sequence Piece) → Reads (Some (Expr.Between value low high negated, ts)) result ts }
 {
-    Ok(Expr::Between(
-        Boxed::new(alloc, value)?,
-        Boxed::new(alloc, low)?,
-        Boxed::new(alloc, high)?,
-        negated,
-    ))
+    shared(alloc, Expr::Between(value, low, high, negated))
 }
 
-pub fn like(alloc: Global, value: Expr, pattern: Expr, negated: bool) -> Result<Expr, NoMemory>
-    ensures { IfOk result (λ e. e ≡ Expr.Like value pattern negated) }
+pub fn like(alloc: Global, value: Tree, pattern: Tree, negated: bool) -> Result<Tree, ReadStop>
+    ensures { (ts : Sequence Piece) → Reads (Some (Expr.Like value pattern negated, ts)) result ts }
 {
-    Ok(Expr::Like(
-        Boxed::new(alloc, value)?,
-        Boxed::new(alloc, pattern)?,
-        negated,
-    ))
+    shared(alloc, Expr::Like(value, pattern, negated))
 }
 
-pub fn product(alloc: Global, first: Expr, more: List<Expr>) -> Result<Expr, NoMemory>
-    ensures { IfOk result (λ e. e ≡ spec.joined Expr.Product first more) }
+pub fn product(alloc: Global, first: Tree, more: List<Tree>) -> Result<Tree, ReadStop>
+    ensures { (ts : Sequence Piece) → Reads (Some (spec.joined Expr.Product first more, ts)) result ts }
 {
     if more.is_empty() {
         return Ok(first);
     }
-    Ok(Expr::Product(Boxed::new(alloc, first)?, more))
+    shared(alloc, Expr::Product(first, more))
 }
 
-pub fn summed(alloc: Global, first: Expr, more: List<Addend>) -> Result<Expr, NoMemory>
-    ensures { IfOk result (λ e. e ≡ spec.summed first more) }
+pub fn summed(alloc: Global, first: Tree, more: List<Addend>) -> Result<Tree, ReadStop>
+    ensures { (ts : Sequence Piece) → Reads (Some (spec.summed first more, ts)) result ts }
 {
     if more.is_empty() {
         return Ok(first);
     }
-    Ok(Expr::Sum(Boxed::new(alloc, first)?, more))
+    shared(alloc, Expr::Sum(first, more))
 }
 
-pub fn conjoined(alloc: Global, first: Read, more: List<Expr>) -> Result<Read, NoMemory>
+pub fn conjoined(alloc: Global, first: Read, more: List<Tree>) -> Result<Read, NoMemory>
     ensures { IfOk result (λ x. x ≡ spec.combined Expr.And first more) }
 {
     if more.is_empty() {
         return Ok(first);
     }
     let (first, _) = first;
-    Ok((Expr::And(Boxed::new(alloc, first)?, more), false))
+    Ok((Shared::new(alloc, Expr::And(first, more))?, false))
 }
 
-pub fn disjoined(alloc: Global, first: Read, more: List<Expr>) -> Result<Read, NoMemory>
+pub fn disjoined(alloc: Global, first: Read, more: List<Tree>) -> Result<Read, NoMemory>
     ensures { IfOk result (λ x. x ≡ spec.combined Expr.Or first more) }
 {
     if more.is_empty() {
         return Ok(first);
     }
     let (first, _) = first;
-    Ok((Expr::Or(Boxed::new(alloc, first)?, more), false))
+    Ok((Shared::new(alloc, Expr::Or(first, more))?, false))
+}
+
+pub fn negated(alloc: Global, operand: Tree) -> Result<Read, NoMemory>
+    ensures { IfOk result (λ x. x ≡ (Expr.Not operand, false)) }
+{
+    Ok((Shared::new(alloc, Expr::Not(operand))?, false))
 }

@@ -7,7 +7,9 @@ mod names;
 #[cfg(test)]
 mod tests;
 mod tokens;
+mod trees;
 
 pub use kind::{Kind, NAME_KINDS, is_same, kind_of};
 pub use names::unreserved_words_are_names;
 pub use tokens::{ReadStop, Tokens};
+pub use trees::{ended, shared};

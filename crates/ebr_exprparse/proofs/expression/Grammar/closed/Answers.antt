@@ -7,10 +7,6 @@ pub returns-in_err-tree : goal.returns-in_err-tree
 unfolding closed
 returns-in_err-tree g c = simp steps (search rules)
 
-pub returns-in_err-expect : goal.returns-in_err-expect
-unfolding closed
-returns-in_err-expect g c = simp steps (search rules)
-
 pub returns : goal.returns
 unfolding closed
 returns g c = simp steps (search rules)

@@ -11,10 +11,6 @@ pub returns-in_err-items : goal.returns-in_err-items
 unfolding closed_list
 returns-in_err-items g c = simp steps (search rules)
 
-pub returns-in_err-expect-2 : goal.returns-in_err-expect-2
-unfolding closed_list
-returns-in_err-expect-2 g c = simp steps (search rules)
-
 pub returns : goal.returns
 unfolding closed_list
 returns g c = simp steps (search rules)

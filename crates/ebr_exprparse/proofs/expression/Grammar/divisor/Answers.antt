@@ -7,10 +7,6 @@ pub returns-in_err-divisor : goal.returns-in_err-divisor
 unfolding divisor
 returns-in_err-divisor g c = simp steps (search rules)
 
-pub returns-in_err-expect : goal.returns-in_err-expect
-unfolding divisor
-returns-in_err-expect g c = simp steps (search rules)
-
 pub returns : goal.returns
 unfolding divisor
 returns g c = simp steps (search rules)

@@ -7,10 +7,6 @@ pub returns-in_err-items : goal.returns-in_err-items
 unfolding in_list
 returns-in_err-items g c = simp steps (search rules)
 
-pub returns-in_err-new : goal.returns-in_err-new
-unfolding in_list
-returns-in_err-new g c = simp steps (search rules)
-
 pub returns : goal.returns
 unfolding in_list
 returns g c = simp steps (search rules)

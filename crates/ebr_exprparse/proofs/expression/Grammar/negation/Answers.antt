@@ -7,13 +7,13 @@ pub returns-in_err-found : goal.returns-in_err-found
 unfolding negation
 returns-in_err-found g c = simp steps (search rules)
 
-pub returns-in_err-new : goal.returns-in_err-new
+pub returns-in_err-negated : goal.returns-in_err-negated
 unfolding negation
-returns-in_err-new g c = simp steps (search rules)
+returns-in_err-negated g c = simp steps (search rules)
 
-pub returns-in_ok-new : goal.returns-in_ok-new
+pub returns-in_ok-negated : goal.returns-in_ok-negated
 unfolding negation
-returns-in_ok-new g c = simp steps (search rules)
+returns-in_ok-negated g c = simp steps (search rules)
 
 pub returns-else-eat : goal.returns-else-eat
 unfolding negation

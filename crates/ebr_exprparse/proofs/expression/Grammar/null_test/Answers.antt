@@ -7,10 +7,6 @@ pub returns-in_err-expect : goal.returns-in_err-expect
 unfolding null_test
 returns-in_err-expect g c = simp steps (search rules)
 
-pub returns-in_err-new : goal.returns-in_err-new
-unfolding null_test
-returns-in_err-new g c = simp steps (search rules)
-
 pub returns : goal.returns
 unfolding null_test
 returns g c = simp steps (search rules)

@@ -7,10 +7,6 @@ pub returns-in_err-right : goal.returns-in_err-right
 unfolding pattern
 returns-in_err-right g c = simp steps (search rules)
 
-pub returns-in_err-like : goal.returns-in_err-like
-unfolding pattern
-returns-in_err-like g c = simp steps (search rules)
-
 pub returns : goal.returns
 unfolding pattern
 returns g c = simp steps (search rules)

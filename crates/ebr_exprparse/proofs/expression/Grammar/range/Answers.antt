@@ -19,10 +19,6 @@ returns-in_err-high g c =
     let p = err_from_is_err_and c.from_residual-in_err-high.result c.from_residual-in_err-high.ensures.1 in
     rw (p.1, p.2) (λ x. simp steps (z x))
 
-pub returns-in_err-between : goal.returns-in_err-between
-unfolding range
-returns-in_err-between g c = simp steps (search rules)
-
 pub returns : goal.returns
 unfolding range
 returns g c = simp steps (search rules)

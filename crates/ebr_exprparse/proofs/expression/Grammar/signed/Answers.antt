@@ -11,10 +11,6 @@ pub returns-in_err-right : goal.returns-in_err-right
 unfolding signed
 returns-in_err-right g c = simp steps (search rules)
 
-pub returns-in_err-compared : goal.returns-in_err-compared
-unfolding signed
-returns-in_err-compared g c = simp steps (search rules)
-
 pub returns : goal.returns
 unfolding signed
 returns g c = simp steps (search rules)

@@ -11,10 +11,6 @@ pub returns-in_err-more : goal.returns-in_err-more
 unfolding sum
 returns-in_err-more g c = simp steps (search rules)
 
-pub returns-in_err-summed : goal.returns-in_err-summed
-unfolding sum
-returns-in_err-summed g c = simp steps (search rules)
-
 pub returns : goal.returns
 unfolding sum
 returns g c = simp steps (search rules)

@@ -11,10 +11,6 @@ pub returns-in_err-more : goal.returns-in_err-more
 unfolding term
 returns-in_err-more g c = simp steps (search rules)
 
-pub returns-in_err-product : goal.returns-in_err-product
-unfolding term
-returns-in_err-product g c = simp steps (search rules)
-
 pub returns : goal.returns
 unfolding term
 returns g c = simp steps (search rules)
