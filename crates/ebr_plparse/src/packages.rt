@@ -9,8 +9,8 @@ ghost use Rattle.ebr_plparse.specs.Packages as grammar;
 
 use crate::heads::head;
 use ebr_ast::{Block, Decl, PackageBody, PackageItem, Subprogram, UnitTree};
-use ebr_base::{List, Name};
-use ebr_grammar::{Kind, NAME_KINDS, ReadStop, Tokens};
+use ebr_base::{List, Name, Shared};
+use ebr_grammar::{Kind, NAME_KINDS, ReadStop, Tokens, shared};
 use ebr_stmtparse::{Initial, read_body, read_declaration, read_initial};
 use std::alloc::Global;
 
@@ -101,12 +101,23 @@ fn given_body(alloc: Global, tokens: &mut Tokens<'_>) -> Result<Block, ReadStop>
 }
 
 /// A procedure or a function with its body.
-pub fn subprogram(alloc: Global, tokens: &mut Tokens<'_>) -> Result<Subprogram, ReadStop>
+fn subprogram(alloc: Global, tokens: &mut Tokens<'_>) -> Result<Subprogram, ReadStop>
     ensures { Reads (reads_by grammar.subprogram tokens.old) result tokens.new }
 {
     let head = head(alloc, tokens)?;
     let body = given_body(alloc, tokens)?;
     Ok(Subprogram { head, body })
+}
+
+/// A subprogram with its body, behind its pointer.
+pub fn shared_subprogram(
+    alloc: Global,
+    tokens: &mut Tokens<'_>,
+) -> Result<Shared<Subprogram>, ReadStop>
+    ensures { Reads (reads_by grammar.subprogram tokens.old) result tokens.new }
+{
+    let found = subprogram(alloc, tokens)?;
+    shared(alloc, found)
 }
 
 fn maybe_name(alloc: Global, tokens: &mut Tokens<'_>) -> Result<Option<Name>, ReadStop>
@@ -179,7 +190,7 @@ fn specification_rest(
 {
     let items = package_items(alloc, tokens)?;
     unit_end(alloc, tokens)?;
-    Ok(UnitTree::Package(name, items))
+    Ok(UnitTree::Package(name, Shared::new(alloc, items)?))
 }
 
 /// What stands behind a package's name.
@@ -268,13 +279,13 @@ fn body_of(name: Name, members: BodyMembers) -> PackageBody
 }
 
 /// What stands behind PACKAGE BODY.
-fn package_body(alloc: Global, tokens: &mut Tokens<'_>) -> Result<PackageBody, ReadStop>
+fn package_body(alloc: Global, tokens: &mut Tokens<'_>) -> Result<Shared<PackageBody>, ReadStop>
     ensures { Reads (reads_by grammar.package_body tokens.old) result tokens.new }
 {
     let name = tokens.name(alloc)?;
     is_or_as(tokens)?;
     let members = closed_members(alloc, tokens)?;
-    Ok(body_of(name, members))
+    shared(alloc, body_of(name, members))
 }
 
 /// What stands behind PACKAGE and the word BODY: the package BODY, or a package's body.

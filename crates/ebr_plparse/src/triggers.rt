@@ -6,8 +6,8 @@ ghost use Rattle.ebr_plparse.specs.Productions.{reads_by, with_first};
 ghost use Rattle.ebr_plparse.specs.Triggers as grammar;
 
 use ebr_ast::{Block, Direction, Op, Timing, Trigger};
-use ebr_base::{List, Name};
-use ebr_grammar::{Kind, ReadStop, Tokens};
+use ebr_base::{List, Name, Shared};
+use ebr_grammar::{Kind, ReadStop, Tokens, shared};
 use ebr_stmtparse::read_block;
 use std::alloc::Global;
 
@@ -166,16 +166,16 @@ fn trigger_of(name: Name, clause: EventClause, action: (TriggerOptions, Block)) 
 }
 
 /// What stands behind a trigger's name.
-fn trigger_rest(alloc: Global, tokens: &mut Tokens<'_>, name: Name) -> Result<Trigger, ReadStop>
+fn trigger_rest(alloc: Global, tokens: &mut Tokens<'_>, name: Name) -> Result<Shared<Trigger>, ReadStop>
     ensures { Reads (with_first name (reads_by grammar.trigger_rest tokens.old)) result tokens.new }
 {
     let clause = event_clause(alloc, tokens)?;
     let action = action(alloc, tokens)?;
-    Ok(trigger_of(name, clause, action))
+    shared(alloc, trigger_of(name, clause, action))
 }
 
 /// What stands behind TRIGGER.
-pub fn trigger(alloc: Global, tokens: &mut Tokens<'_>) -> Result<Trigger, ReadStop>
+pub fn trigger(alloc: Global, tokens: &mut Tokens<'_>) -> Result<Shared<Trigger>, ReadStop>
     ensures { Reads (reads_by grammar.trigger tokens.old) result tokens.new }
 {
     let name = tokens.name(alloc)?;

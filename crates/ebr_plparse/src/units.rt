@@ -6,21 +6,21 @@ ghost use Rattle.ebr_grammar.specs.Reading.{before};
 ghost use Rattle.ebr_plparse.specs.Productions.{reads_by};
 ghost use Rattle.ebr_plparse.specs.Units as grammar;
 
-use crate::packages::{any_package, subprogram};
+use crate::packages::{any_package, shared_subprogram};
 use crate::triggers::trigger;
 use ebr_ast::{Block, Definition, Expr, Path, Stmt, UnitTree};
-use ebr_base::{List, NoMemory};
+use ebr_base::{List, NoMemory, Shared};
 use ebr_ddlparse::read_editioning_view;
 use ebr_grammar::{Kind, ReadStop, Tokens};
 use ebr_stmtparse::{read_block, read_call};
 use std::alloc::Global;
 
 /// The block that holds this one call.
-fn calling(alloc: Global, path: Path, arguments: List<Expr>) -> Result<Block, NoMemory>
+fn calling(alloc: Global, path: Path, arguments: List<Shared<Expr>>) -> Result<Block, NoMemory>
     ensures { IfOk result (λ block. block ≡ grammar.calling path arguments) }
 {
     let mut statements = List::new(alloc);
-    statements.push(Stmt::Call(path, Some(arguments)))?;
+    statements.push(Shared::new(alloc, Stmt::Call(path, Some(arguments)))?)?;
     Ok(Block {
         declarations: List::new(alloc),
         statements,
@@ -41,14 +41,15 @@ fn call(alloc: Global, tokens: &mut Tokens<'_>) -> Result<Block, ReadStop>
 }
 
 /// A block, or a CALL, which means the block that holds this one call.
-pub fn any_block(alloc: Global, tokens: &mut Tokens<'_>) -> Result<Block, ReadStop>
+pub fn any_block(alloc: Global, tokens: &mut Tokens<'_>) -> Result<Shared<Block>, ReadStop>
     ensures { Reads (reads_by grammar.block tokens.old) result tokens.new }
 {
     if tokens.eat(Kind::Call) {
-        call(alloc, tokens)
+        let block = call(alloc, tokens)?;
+        Ok(Shared::new(alloc, block)?)
     } else {
         let block = read_block(alloc, tokens)?;
-        Ok(block)
+        Ok(Shared::new(alloc, block)?)
     }
 }
 
@@ -57,7 +58,7 @@ fn stored(alloc: Global, tokens: &mut Tokens<'_>) -> Result<UnitTree, ReadStop>
     ensures { Reads (reads_by grammar.stored tokens.old) result tokens.new }
 {
     if tokens.sees_any(&[Kind::Procedure, Kind::Function]) {
-        Ok(UnitTree::Subprogram(subprogram(alloc, tokens)?))
+        Ok(UnitTree::Subprogram(shared_subprogram(alloc, tokens)?))
     } else if tokens.eat(Kind::Package) {
         any_package(alloc, tokens)
     } else if tokens.eat(Kind::Trigger) {

@@ -10,7 +10,7 @@ ghost use Rattle.ebr_plparse.specs.Units as grammar;
 
 use crate::units::{any_block, definition, text};
 use ebr_ast::{Block, Definition, UnitTree};
-use ebr_base::NoMemory;
+use ebr_base::{NoMemory, Shared};
 use ebr_grammar::{ReadStop, Tokens};
 use ebr_lexer::Token;
 use std::alloc::Global;
@@ -59,7 +59,7 @@ pub fn created(alloc: Global, tokens: &[Token]) -> Result<Option<Definition>, No
 }
 
 /// The block that the tokens spell, all of them, or the block that a CALL means; None where they spell neither.
-pub fn block(alloc: Global, tokens: &[Token]) -> Result<Option<Block>, NoMemory>
+pub fn block(alloc: Global, tokens: &[Token]) -> Result<Option<Shared<Block>>, NoMemory>
     // What is found is spelled by the tokens.
     ensures found { IfOk result (λ r. IfSome r (grammar.SpellsBlock tokens.now)) }
     // What the tokens spell is found.

@@ -7,6 +7,7 @@ ghost use Rattle.ebr_simpleparse.specs.Bounds as bounds;
 ghost use Rattle.ebr_simpleparse.specs.Looking as spec;
 
 use ebr_ast::Expr;
+use ebr_base::Shared;
 use ebr_exprparse::read_expression;
 use ebr_grammar::{Kind, ReadStop, Tokens};
 use std::alloc::Global;
@@ -117,7 +118,7 @@ fn is_reversed(tokens: &Tokens<'_>) -> bool
 }
 
 /// `REVERSE e ..`.
-fn reversed_bound(alloc: Global, tokens: &mut Tokens<'_>) -> Result<(bool, Expr), ReadStop>
+fn reversed_bound(alloc: Global, tokens: &mut Tokens<'_>) -> Result<(bool, Shared<Expr>), ReadStop>
     ensures { Reads (plain.reads_plainly bounds.reversed_bound tokens.old) result tokens.new }
 {
     tokens.expect(Kind::Reverse)?;
@@ -127,7 +128,7 @@ fn reversed_bound(alloc: Global, tokens: &mut Tokens<'_>) -> Result<(bool, Expr)
 }
 
 /// `e ..`.
-fn plain_bound(alloc: Global, tokens: &mut Tokens<'_>) -> Result<(bool, Expr), ReadStop>
+fn plain_bound(alloc: Global, tokens: &mut Tokens<'_>) -> Result<(bool, Shared<Expr>), ReadStop>
     ensures { Reads (plain.reads_plainly bounds.plain_bound tokens.old) result tokens.new }
 {
     let low = read_expression(alloc, tokens)?;
@@ -137,7 +138,7 @@ fn plain_bound(alloc: Global, tokens: &mut Tokens<'_>) -> Result<(bool, Expr), R
 
 /// The low bound with the `..` behind it, and whether REVERSE stands before it.
 #[tactic(auto, unfolding(crate::specs::Looking::bound_reader))]
-pub fn bound(alloc: Global, tokens: &mut Tokens<'_>) -> Result<(bool, Expr), ReadStop>
+pub fn bound(alloc: Global, tokens: &mut Tokens<'_>) -> Result<(bool, Shared<Expr>), ReadStop>
     ensures { Reads (spec.bound_reader tokens.old) result tokens.new }
 {
     if is_reversed(tokens) {

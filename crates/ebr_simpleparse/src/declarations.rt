@@ -7,9 +7,9 @@ ghost use Rattle.ebr_simpleparse.specs.Declarations as grammar;
 
 use crate::types::typed;
 use ebr_ast::{Decl, Expr, Query};
-use ebr_base::Name;
+use ebr_base::{Name, Shared};
 use ebr_exprparse::read_expression;
-use ebr_grammar::{Kind, ReadStop, Tokens};
+use ebr_grammar::{Kind, ReadStop, Tokens, ended};
 use ebr_sqlparse::query;
 use std::alloc::Global;
 
@@ -47,12 +47,11 @@ fn pragma(alloc: Global, tokens: &mut Tokens<'_>) -> Result<Decl, ReadStop>
     Ok(Decl::Autonomous)
 }
 
-fn closed_query(alloc: Global, tokens: &mut Tokens<'_>) -> Result<Query, ReadStop>
+fn closed_query(alloc: Global, tokens: &mut Tokens<'_>) -> Result<Shared<Query>, ReadStop>
     ensures { Reads (productions.reads_by grammar.closed_query tokens.old) result tokens.new }
 {
     let found = query(alloc, tokens)?;
-    tokens.expect(Kind::Semicolon)?;
-    Ok(found)
+    ended(tokens, Kind::Semicolon, found)
 }
 
 /// What stands behind CURSOR.
@@ -66,7 +65,7 @@ fn cursor(alloc: Global, tokens: &mut Tokens<'_>) -> Result<Decl, ReadStop>
 }
 
 /// `[(:= | DEFAULT) e]`.
-fn initial_value(alloc: Global, tokens: &mut Tokens<'_>) -> Result<Option<Expr>, ReadStop>
+fn initial_value(alloc: Global, tokens: &mut Tokens<'_>) -> Result<Option<Shared<Expr>>, ReadStop>
     ensures { Reads (productions.reads_by grammar.initial_value tokens.old) result tokens.new }
 {
     if tokens.eat(Kind::Assign) {
@@ -78,12 +77,11 @@ fn initial_value(alloc: Global, tokens: &mut Tokens<'_>) -> Result<Option<Expr>,
     }
 }
 
-fn closed_value(alloc: Global, tokens: &mut Tokens<'_>) -> Result<Option<Expr>, ReadStop>
+fn closed_value(alloc: Global, tokens: &mut Tokens<'_>) -> Result<Option<Shared<Expr>>, ReadStop>
     ensures { Reads (productions.reads_by grammar.closed_value tokens.old) result tokens.new }
 {
     let initial = initial_value(alloc, tokens)?;
-    tokens.expect(Kind::Semicolon)?;
-    Ok(initial)
+    ended(tokens, Kind::Semicolon, initial)
 }
 
 /// What stands behind the name of a variable or constant.

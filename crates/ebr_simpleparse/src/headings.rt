@@ -9,8 +9,9 @@ ghost use Rattle.ebr_simpleparse.specs.Headings as grammar;
 
 use crate::bounds::bound;
 use ebr_ast::{Expr, RowsFrom};
+use ebr_base::Shared;
 use ebr_exprparse::read_expression;
-use ebr_grammar::{Kind, NAME_KINDS, ReadStop, Tokens};
+use ebr_grammar::{Kind, NAME_KINDS, ReadStop, Tokens, ended};
 use ebr_sqlparse::query;
 use std::alloc::Global;
 
@@ -18,7 +19,7 @@ use std::alloc::Global;
 #[derive(Debug, Drop)]
 pub enum Heading {
     /// From a low bound to a high one, or with REVERSE where the first says so.
-    Range(bool, Expr, Expr),
+    Range(bool, Shared<Expr>, Shared<Expr>),
     /// The rows of a cursor or a query.
     Rows(RowsFrom),
 }
@@ -76,12 +77,11 @@ fn rows(alloc: Global, tokens: &mut Tokens<'_>) -> Result<Heading, ReadStop>
 }
 
 /// `e LOOP`.
-fn high_bound(alloc: Global, tokens: &mut Tokens<'_>) -> Result<Expr, ReadStop>
+fn high_bound(alloc: Global, tokens: &mut Tokens<'_>) -> Result<Shared<Expr>, ReadStop>
     ensures { Reads (productions.reads_by grammar.high_bound tokens.old) result tokens.new }
 {
     let high = read_expression(alloc, tokens)?;
-    tokens.expect(Kind::Loop)?;
-    Ok(high)
+    ended(tokens, Kind::Loop, high)
 }
 
 fn range(alloc: Global, tokens: &mut Tokens<'_>) -> Result<Heading, ReadStop>

@@ -6,9 +6,9 @@ ghost use Rattle.ebr_simpleparse.specs.Productions as productions;
 ghost use Rattle.ebr_simpleparse.specs.Paths as grammar;
 
 use ebr_ast::{Caught, Expr, Path, Target};
-use ebr_base::{List, Name};
+use ebr_base::{List, Name, Shared};
 use ebr_exprparse::read_expression;
-use ebr_grammar::{Kind, ReadStop, Tokens};
+use ebr_grammar::{Kind, ReadStop, Tokens, ended};
 use std::alloc::Global;
 
 /// The word that catches every exception.
@@ -38,8 +38,8 @@ pub fn path(alloc: Global, tokens: &mut Tokens<'_>) -> Result<Path, ReadStop>
 fn more_expressions(
     alloc: Global,
     tokens: &mut Tokens<'_>,
-    first: Expr,
-) -> Result<List<Expr>, ReadStop>
+    first: Shared<Expr>,
+) -> Result<List<Shared<Expr>>, ReadStop>
     ensures { Reads (productions.with_first first (productions.reads_by grammar.more_expressions tokens.old)) result tokens.new }
 {
     let mut found = List::new(alloc);
@@ -55,7 +55,7 @@ fn more_expressions(
 }
 
 /// `e {, e}`.
-fn expressions(alloc: Global, tokens: &mut Tokens<'_>) -> Result<List<Expr>, ReadStop>
+fn expressions(alloc: Global, tokens: &mut Tokens<'_>) -> Result<List<Shared<Expr>>, ReadStop>
     ensures { Reads (productions.reads_by grammar.expressions tokens.old) result tokens.new }
 {
     let first = read_expression(alloc, tokens)?;
@@ -63,19 +63,18 @@ fn expressions(alloc: Global, tokens: &mut Tokens<'_>) -> Result<List<Expr>, Rea
 }
 
 /// What stands behind the opening parenthesis.
-fn arguments(alloc: Global, tokens: &mut Tokens<'_>) -> Result<List<Expr>, ReadStop>
+fn arguments(alloc: Global, tokens: &mut Tokens<'_>) -> Result<List<Shared<Expr>>, ReadStop>
     ensures { Reads (productions.reads_by grammar.arguments tokens.old) result tokens.new }
 {
     if tokens.eat(Kind::RightParen) {
         return Ok(List::new(alloc));
     }
     let found = expressions(alloc, tokens)?;
-    tokens.expect(Kind::RightParen)?;
-    Ok(found)
+    ended(tokens, Kind::RightParen, found)
 }
 
 /// `[( [e {, e}] )]`.
-pub fn given(alloc: Global, tokens: &mut Tokens<'_>) -> Result<Option<List<Expr>>, ReadStop>
+pub fn given(alloc: Global, tokens: &mut Tokens<'_>) -> Result<Option<List<Shared<Expr>>>, ReadStop>
     ensures { Reads (productions.reads_by grammar.given tokens.old) result tokens.new }
 {
     if tokens.eat(Kind::LeftParen) {
@@ -91,7 +90,7 @@ pub fn given(alloc: Global, tokens: &mut Tokens<'_>) -> Result<Option<List<Expr>
 pub fn read_call(
     alloc: Global,
     tokens: &mut Tokens<'_>,
-) -> Result<(Path, Option<List<Expr>>), ReadStop>
+) -> Result<(Path, Option<List<Shared<Expr>>>), ReadStop>
     ensures { Reads (productions.reads_by grammar.call tokens.old) result tokens.new }
 {
     let path = path(alloc, tokens)?;

@@ -7,8 +7,9 @@ ghost use Rattle.ebr_simpleparse.specs.Simple as grammar;
 
 use crate::paths::{given, new_column, path, targets};
 use ebr_ast::{CursorStmt, Expr, Path, Query, SelectList, SqlStmt, Stmt, Target};
+use ebr_base::Shared;
 use ebr_exprparse::read_expression;
-use ebr_grammar::{Kind, ReadStop, Tokens};
+use ebr_grammar::{Kind, ReadStop, Tokens, ended};
 use ebr_sqlparse::{delete, insert, query_rest, select_list, transaction_statement, update};
 use std::alloc::Global;
 
@@ -35,7 +36,7 @@ pub const SIMPLE_WORDS: [Kind; 18] = [
 ];
 
 /// FROM and the rest of a query of this list.
-fn from_sources(alloc: Global, tokens: &mut Tokens<'_>, list: SelectList) -> Result<Query, ReadStop>
+fn from_sources(alloc: Global, tokens: &mut Tokens<'_>, list: SelectList) -> Result<Shared<Query>, ReadStop>
     ensures { Reads (productions.with_first list (productions.reads_by grammar.from_sources tokens.old)) result tokens.new }
 {
     tokens.expect(Kind::From)?;
@@ -84,8 +85,7 @@ fn closed_sql(alloc: Global, tokens: &mut Tokens<'_>) -> Result<SqlStmt, ReadSto
     ensures { Reads (productions.reads_by grammar.closed_sql tokens.old) result tokens.new }
 {
     let found = sql(alloc, tokens)?;
-    tokens.expect(Kind::Semicolon)?;
-    Ok(found)
+    ended(tokens, Kind::Semicolon, found)
 }
 
 /// What stands behind FETCH.
@@ -115,12 +115,11 @@ fn closed_cursor(alloc: Global, tokens: &mut Tokens<'_>) -> Result<CursorStmt, R
     ensures { Reads (productions.reads_by grammar.closed_cursor tokens.old) result tokens.new }
 {
     let found = cursor(alloc, tokens)?;
-    tokens.expect(Kind::Semicolon)?;
-    Ok(found)
+    ended(tokens, Kind::Semicolon, found)
 }
 
 /// What stands behind RETURN.
-fn returned(alloc: Global, tokens: &mut Tokens<'_>) -> Result<Option<Expr>, ReadStop>
+fn returned(alloc: Global, tokens: &mut Tokens<'_>) -> Result<Option<Shared<Expr>>, ReadStop>
     ensures { Reads (productions.reads_by grammar.returned tokens.old) result tokens.new }
 {
     if tokens.eat(Kind::Semicolon) {
@@ -144,7 +143,7 @@ fn raised(alloc: Global, tokens: &mut Tokens<'_>) -> Result<Option<Path>, ReadSt
 }
 
 /// `[WHEN e]`.
-fn condition(alloc: Global, tokens: &mut Tokens<'_>) -> Result<Option<Expr>, ReadStop>
+fn condition(alloc: Global, tokens: &mut Tokens<'_>) -> Result<Option<Shared<Expr>>, ReadStop>
     ensures { Reads (productions.reads_by grammar.condition tokens.old) result tokens.new }
 {
     if tokens.eat(Kind::When) {
@@ -154,12 +153,11 @@ fn condition(alloc: Global, tokens: &mut Tokens<'_>) -> Result<Option<Expr>, Rea
     }
 }
 
-fn closed_condition(alloc: Global, tokens: &mut Tokens<'_>) -> Result<Option<Expr>, ReadStop>
+fn closed_condition(alloc: Global, tokens: &mut Tokens<'_>) -> Result<Option<Shared<Expr>>, ReadStop>
     ensures { Reads (productions.reads_by grammar.closed_condition tokens.old) result tokens.new }
 {
     let found = condition(alloc, tokens)?;
-    tokens.expect(Kind::Semicolon)?;
-    Ok(found)
+    ended(tokens, Kind::Semicolon, found)
 }
 
 /// RETURN, RAISE, EXIT or CONTINUE.
@@ -179,7 +177,7 @@ fn jump(alloc: Global, tokens: &mut Tokens<'_>) -> Result<Stmt, ReadStop>
 }
 
 /// `e ) ;`.
-fn last_argument(alloc: Global, tokens: &mut Tokens<'_>) -> Result<Expr, ReadStop>
+fn last_argument(alloc: Global, tokens: &mut Tokens<'_>) -> Result<Shared<Expr>, ReadStop>
     ensures { Reads (productions.reads_by grammar.last_argument tokens.old) result tokens.new }
 {
     let text = read_expression(alloc, tokens)?;
@@ -220,13 +218,12 @@ fn raise_error(alloc: Global, tokens: &mut Tokens<'_>) -> Result<Stmt, ReadStop>
 }
 
 /// `:= e ;`.
-fn assigned(alloc: Global, tokens: &mut Tokens<'_>) -> Result<Expr, ReadStop>
+fn assigned(alloc: Global, tokens: &mut Tokens<'_>) -> Result<Shared<Expr>, ReadStop>
     ensures { Reads (productions.reads_by grammar.assigned tokens.old) result tokens.new }
 {
     tokens.expect(Kind::Assign)?;
     let value = read_expression(alloc, tokens)?;
-    tokens.expect(Kind::Semicolon)?;
-    Ok(value)
+    ended(tokens, Kind::Semicolon, value)
 }
 
 /// What stands behind the colon.

@@ -7,9 +7,9 @@ ghost use Rattle.ebr_sqlparse.specs.Statements as grammar;
 
 use crate::queries::{alias, filter};
 use ebr_ast::{Assignment, Delete, Expr, Insert, Update};
-use ebr_base::{List, Name};
+use ebr_base::{List, Name, Shared};
 use ebr_exprparse::read_expression;
-use ebr_grammar::{Kind, ReadStop, Tokens};
+use ebr_grammar::{Kind, ReadStop, Tokens, ended, shared};
 use std::alloc::Global;
 
 /// The table that a statement changes, with its alias.
@@ -57,7 +57,11 @@ fn columns(alloc: Global, tokens: &mut Tokens<'_>) -> Result<List<Name>, ReadSto
 }
 
 /// The expressions behind the first, and with it.
-fn more_exprs(alloc: Global, tokens: &mut Tokens<'_>, first: Expr) -> Result<List<Expr>, ReadStop>
+fn more_exprs(
+    alloc: Global,
+    tokens: &mut Tokens<'_>,
+    first: Shared<Expr>,
+) -> Result<List<Shared<Expr>>, ReadStop>
     ensures { Reads (productions.with_first first (productions.reads_by grammar.more_exprs tokens.old)) result tokens.new }
 {
     let mut found = List::new(alloc);
@@ -73,7 +77,7 @@ fn more_exprs(alloc: Global, tokens: &mut Tokens<'_>, first: Expr) -> Result<Lis
 }
 
 /// `e {, e}`.
-fn exprs(alloc: Global, tokens: &mut Tokens<'_>) -> Result<List<Expr>, ReadStop>
+fn exprs(alloc: Global, tokens: &mut Tokens<'_>) -> Result<List<Shared<Expr>>, ReadStop>
     ensures { Reads (productions.reads_by grammar.exprs tokens.old) result tokens.new }
 {
     let first = read_expression(alloc, tokens)?;
@@ -81,18 +85,17 @@ fn exprs(alloc: Global, tokens: &mut Tokens<'_>) -> Result<List<Expr>, ReadStop>
 }
 
 /// `VALUES ( e {, e} )`.
-fn values(alloc: Global, tokens: &mut Tokens<'_>) -> Result<List<Expr>, ReadStop>
+fn values(alloc: Global, tokens: &mut Tokens<'_>) -> Result<List<Shared<Expr>>, ReadStop>
     ensures { Reads (productions.reads_by grammar.values tokens.old) result tokens.new }
 {
     tokens.expect(Kind::Values)?;
     tokens.expect(Kind::LeftParen)?;
     let values = exprs(alloc, tokens)?;
-    tokens.expect(Kind::RightParen)?;
-    Ok(values)
+    ended(tokens, Kind::RightParen, values)
 }
 
 /// Reads INSERT.
-pub fn insert(alloc: Global, tokens: &mut Tokens<'_>) -> Result<Insert, ReadStop>
+pub fn insert(alloc: Global, tokens: &mut Tokens<'_>) -> Result<Shared<Insert>, ReadStop>
     ensures { Reads (productions.reads_by grammar.insert tokens.old) result tokens.new }
 {
     tokens.expect(Kind::Insert)?;
@@ -100,11 +103,12 @@ pub fn insert(alloc: Global, tokens: &mut Tokens<'_>) -> Result<Insert, ReadStop
     let table = tokens.name(alloc)?;
     let columns = columns(alloc, tokens)?;
     let values = values(alloc, tokens)?;
-    Ok(Insert {
+    let insert = Insert {
         table,
         columns,
         values,
-    })
+    };
+    shared(alloc, insert)
 }
 
 fn target(alloc: Global, tokens: &mut Tokens<'_>) -> Result<Changed, ReadStop>
@@ -154,22 +158,27 @@ fn assignments(alloc: Global, tokens: &mut Tokens<'_>) -> Result<List<Assignment
 }
 
 /// What stands behind the table of UPDATE.
-fn update_rest(alloc: Global, tokens: &mut Tokens<'_>, target: Changed) -> Result<Update, ReadStop>
+fn update_rest(
+    alloc: Global,
+    tokens: &mut Tokens<'_>,
+    target: Changed,
+) -> Result<Shared<Update>, ReadStop>
     ensures { Reads (productions.with_first target (productions.reads_by grammar.update_rest tokens.old)) result tokens.new }
 {
     tokens.expect(Kind::Set)?;
     let sets = assignments(alloc, tokens)?;
     let filter = filter(alloc, tokens)?;
-    Ok(Update {
+    let update = Update {
         table: target.table,
         alias: target.alias,
         sets,
         filter,
-    })
+    };
+    shared(alloc, update)
 }
 
 /// Reads UPDATE.
-pub fn update(alloc: Global, tokens: &mut Tokens<'_>) -> Result<Update, ReadStop>
+pub fn update(alloc: Global, tokens: &mut Tokens<'_>) -> Result<Shared<Update>, ReadStop>
     ensures { Reads (productions.reads_by grammar.update tokens.old) result tokens.new }
 {
     tokens.expect(Kind::Update)?;
@@ -178,16 +187,17 @@ pub fn update(alloc: Global, tokens: &mut Tokens<'_>) -> Result<Update, ReadStop
 }
 
 /// Reads DELETE.
-pub fn delete(alloc: Global, tokens: &mut Tokens<'_>) -> Result<Delete, ReadStop>
+pub fn delete(alloc: Global, tokens: &mut Tokens<'_>) -> Result<Shared<Delete>, ReadStop>
     ensures { Reads (productions.reads_by grammar.delete tokens.old) result tokens.new }
 {
     tokens.expect(Kind::Delete)?;
     tokens.eat(Kind::From);
     let target = target(alloc, tokens)?;
     let filter = filter(alloc, tokens)?;
-    Ok(Delete {
+    let delete = Delete {
         table: target.table,
         alias: target.alias,
         filter,
-    })
+    };
+    shared(alloc, delete)
 }

@@ -10,7 +10,7 @@ ghost use Rattle.ebr_sqlparse.specs.Statements as grammar;
 
 use crate::queries::alias;
 use ebr_ast::{Aggregate, Expr, Item, ItemKind, Path, SelectList};
-use ebr_base::{CloneIn, List, Name, NoMemory};
+use ebr_base::{CloneIn, List, Name, NoMemory, Shared};
 use ebr_exprparse::read_expression;
 use ebr_grammar::{Kind, ReadStop, Tokens};
 use std::alloc::Global;
@@ -59,7 +59,7 @@ fn function_ahead(tokens: &Tokens<'_>) -> Option<Function>
     }
 }
 
-fn aggregate_of(function: Function, argument: Expr) -> Aggregate
+fn aggregate_of(function: Function, argument: Shared<Expr>) -> Aggregate
     ensures { result ≡ spec.aggregate_of function argument }
 {
     match function {
@@ -70,35 +70,40 @@ fn aggregate_of(function: Function, argument: Expr) -> Aggregate
     }
 }
 
-/// A call that begins with the name of an aggregate.
-fn called(
+/// The only argument of a call without a member.
+fn only_argument(
     alloc: Global,
-    function: Function,
-    path: Path,
-    arguments: List<Expr>,
-) -> Result<ItemKind, NoMemory>
-    ensures { IfOk result (λ w. w ≡ spec.judged function (Expr.Call path arguments) (spec.only_argument (out-Expr (Expr.Call path arguments)))) }
+    path: &Path,
+    arguments: &List<Shared<Expr>>,
+) -> Result<Option<Shared<Expr>>, NoMemory>
+    ensures { IfOk result (λ r. r ≡ spec.one path.now.member arguments.now) }
 {
     if path.member.is_some() {
-        return Ok(ItemKind::Expr(Expr::Call(path, arguments)));
+        return Ok(None);
     }
     match arguments.as_slice() {
-        [argument] => {
-            let argument = argument.clone_in(alloc)?;
-            Ok(ItemKind::Aggregate(aggregate_of(function, argument)))
-        }
-        _ => Ok(ItemKind::Expr(Expr::Call(path, arguments))),
+        [argument] => Ok(Some(argument.clone_in(alloc)?)),
+        _ => Ok(None),
+    }
+}
+
+fn argument_of(alloc: Global, tree: &Expr) -> Result<Option<Shared<Expr>>, NoMemory>
+    ensures { IfOk result (λ r. r ≡ spec.only_argument (out-Expr tree.now)) }
+{
+    match tree {
+        Expr::Call(path, arguments) => only_argument(alloc, path, arguments),
+        _ => Ok(None),
     }
 }
 
 /// An expression that begins with the name of an aggregate.
 #[tactic(auto, unfolding(crate::specs::Items::item_of_call))]
-fn item_of_call(alloc: Global, function: Function, tree: Expr) -> Result<ItemKind, NoMemory>
+fn item_of_call(alloc: Global, function: Function, tree: Shared<Expr>) -> Result<ItemKind, NoMemory>
     ensures { IfOk result (λ w. w ≡ spec.item_of_call function tree) }
 {
-    match tree {
-        Expr::Call(path, arguments) => called(alloc, function, path, arguments),
-        tree => Ok(ItemKind::Expr(tree)),
+    match argument_of(alloc, tree.get())? {
+        Some(argument) => Ok(ItemKind::Aggregate(aggregate_of(function, argument))),
+        None => Ok(ItemKind::Expr(tree)),
     }
 }
 
@@ -128,7 +133,11 @@ fn count_of_rows(alloc: Global, tokens: &mut Tokens<'_>) -> Result<Item, ReadSto
 }
 
 /// What an expression is that begins with this name of an aggregate, or with none.
-fn item_of(alloc: Global, function: Option<Function>, tree: Expr) -> Result<ItemKind, NoMemory>
+fn item_of(
+    alloc: Global,
+    function: Option<Function>,
+    tree: Shared<Expr>,
+) -> Result<ItemKind, NoMemory>
     ensures { IfOk result (λ w. w ≡ spec.item_of function tree) }
 {
     match function {
@@ -142,7 +151,7 @@ fn with_alias(
     alloc: Global,
     tokens: &mut Tokens<'_>,
     function: Option<Function>,
-    tree: Expr,
+    tree: Shared<Expr>,
 ) -> Result<Item, ReadStop>
     ensures { Reads (grammar.aliased (Some (spec.item_of function tree, tokens.old))) result tokens.new }
 {

@@ -9,15 +9,15 @@ ghost use Rattle.ebr_sqlparse.specs.Statements as grammar;
 
 use crate::items::select_list;
 use ebr_ast::{Expr, Query, SelectList, SortKey, Source};
-use ebr_base::{List, Name};
+use ebr_base::{List, Name, Shared};
 use ebr_exprparse::read_expression;
-use ebr_grammar::{Kind, NAME_KINDS, ReadStop, Tokens};
+use ebr_grammar::{Kind, NAME_KINDS, ReadStop, Tokens, shared};
 use std::alloc::Global;
 
 /// What stands behind a query's sources.
 #[derive(Debug, Drop)]
 pub struct Tail {
-    pub filter: Option<Expr>,
+    pub filter: Option<Shared<Expr>>,
     pub order: List<SortKey>,
     pub for_update: bool,
 }
@@ -80,7 +80,7 @@ fn sources(alloc: Global, tokens: &mut Tokens<'_>) -> Result<List<Source>, ReadS
 }
 
 /// `[WHERE e]`.
-pub fn filter(alloc: Global, tokens: &mut Tokens<'_>) -> Result<Option<Expr>, ReadStop>
+pub fn filter(alloc: Global, tokens: &mut Tokens<'_>) -> Result<Option<Shared<Expr>>, ReadStop>
     ensures { Reads (productions.reads_by grammar.filter tokens.old) result tokens.new }
 {
     if tokens.eat(Kind::Where) {
@@ -192,16 +192,16 @@ pub fn query_rest(
     alloc: Global,
     tokens: &mut Tokens<'_>,
     list: SelectList,
-) -> Result<Query, ReadStop>
+) -> Result<Shared<Query>, ReadStop>
     ensures { Reads (productions.with_first list (productions.reads_by grammar.query_rest tokens.old)) result tokens.new }
 {
     let sources = sources(alloc, tokens)?;
     let tail = query_tail(alloc, tokens)?;
-    Ok(query_of(list, sources, tail))
+    shared(alloc, query_of(list, sources, tail))
 }
 
 /// Reads a query, from SELECT on.
-pub fn query(alloc: Global, tokens: &mut Tokens<'_>) -> Result<Query, ReadStop>
+pub fn query(alloc: Global, tokens: &mut Tokens<'_>) -> Result<Shared<Query>, ReadStop>
     ensures { Reads (productions.reads_by grammar.query tokens.old) result tokens.new }
 {
     tokens.expect(Kind::Select)?;

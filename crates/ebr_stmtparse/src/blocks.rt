@@ -7,7 +7,7 @@ ghost use Rattle.ebr_stmtparse.specs.Nests.{Nests};
 
 use crate::grammar::{Grammar, Initial, begins_declaration};
 use ebr_ast::{Block, Decl, Handler, Stmt};
-use ebr_base::{List, Name};
+use ebr_base::{List, Name, Shared};
 use ebr_grammar::{Kind, NAME_KINDS, ReadStop, Tokens};
 use ebr_simpleparse::{read_caught, read_declaration};
 use std::alloc::Global;
@@ -22,7 +22,7 @@ fn block_of(declarations: List<Decl>, initial: Initial) -> Block
     }
 }
 
-impl<F: Fn(Global, &mut Tokens<'_>, usize) -> Result<List<Stmt>, ReadStop>> Grammar<F> {
+impl<F: Fn(Global, &mut Tokens<'_>, usize) -> Result<List<Shared<Stmt>>, ReadStop>> Grammar<F> {
     /// `{declaration}`.
     fn declarations(&self, tokens: &mut Tokens<'_>) -> Result<List<Decl>, ReadStop>
         ensures { Reads (spec.reads_at self.now.depth spec.declarations tokens.old) result tokens.new }

@@ -7,7 +7,7 @@ ghost use Rattle.ebr_simpleparse.specs.Declarations.{declaration_begins};
 ghost use Rattle.ebr_stmtparse.specs.Statements as spec;
 
 use ebr_ast::{Handler, Stmt};
-use ebr_base::List;
+use ebr_base::{List, Shared};
 use ebr_grammar::{Kind, NAME_KINDS, Tokens};
 use ebr_simpleparse::SIMPLE_WORDS;
 use std::alloc::Global;
@@ -16,7 +16,7 @@ use std::alloc::Global;
 /// a package's body.
 #[derive(Debug, Drop)]
 pub struct Initial {
-    pub statements: List<Stmt>,
+    pub statements: List<Shared<Stmt>>,
     pub handlers: List<Handler>,
 }
 

@@ -6,12 +6,12 @@ ghost use Rattle.ebr_stmtparse.specs.Statements as spec;
 
 use crate::grammar::{Grammar, Initial};
 use ebr_ast::{Block, Stmt};
-use ebr_base::List;
+use ebr_base::{List, Shared};
 use ebr_grammar::{ReadStop, Tokens};
 use std::alloc::Global;
 
 /// The reading of statements, nested at most this deep.
-fn nested(alloc: Global, tokens: &mut Tokens<'_>, depth: usize) -> Result<List<Stmt>, ReadStop>
+fn nested(alloc: Global, tokens: &mut Tokens<'_>, depth: usize) -> Result<List<Shared<Stmt>>, ReadStop>
     ensures { Reads (spec.read_within depth tokens.old) result tokens.new }
 {
     if depth == 0 {

@@ -7,14 +7,14 @@ ghost use Rattle.ebr_stmtparse.specs.Nests.{Nests};
 
 use crate::grammar::{Grammar, begins_statement};
 use ebr_ast::{Branch, Range, Rows, Stmt};
-use ebr_base::{Boxed, List, Name};
+use ebr_base::{List, Name, Shared};
 use ebr_exprparse::read_expression;
-use ebr_grammar::{Kind, ReadStop, Tokens};
+use ebr_grammar::{Kind, ReadStop, Tokens, shared};
 use ebr_simpleparse::{Heading, read_heading, read_simple};
 use std::alloc::Global;
 
 /// The loop with a heading.
-fn loop_of(name: Name, heading: Heading, body: List<Stmt>) -> Stmt
+fn loop_of(name: Name, heading: Heading, body: List<Shared<Stmt>>) -> Stmt
     ensures { result ≡ spec.loop_of name heading body }
 {
     match heading {
@@ -31,9 +31,9 @@ fn loop_of(name: Name, heading: Heading, body: List<Stmt>) -> Stmt
     }
 }
 
-impl<F: Fn(Global, &mut Tokens<'_>, usize) -> Result<List<Stmt>, ReadStop>> Grammar<F> {
+impl<F: Fn(Global, &mut Tokens<'_>, usize) -> Result<List<Shared<Stmt>>, ReadStop>> Grammar<F> {
     /// Nested statements, to one level less.
-    pub fn body_statements(&self, tokens: &mut Tokens<'_>) -> Result<List<Stmt>, ReadStop>
+    pub fn body_statements(&self, tokens: &mut Tokens<'_>) -> Result<List<Shared<Stmt>>, ReadStop>
         requires { Nests self.now.depth (F.pre self.now.nested) (F.post self.now.nested) }
         ensures { Reads (spec.reads_at self.now.depth spec.body_statements tokens.old) result tokens.new }
     {
@@ -50,7 +50,7 @@ impl<F: Fn(Global, &mut Tokens<'_>, usize) -> Result<List<Stmt>, ReadStop>> Gram
     }
 
     /// What stands behind LOOP.
-    fn loop_body(&self, tokens: &mut Tokens<'_>) -> Result<List<Stmt>, ReadStop>
+    fn loop_body(&self, tokens: &mut Tokens<'_>) -> Result<List<Shared<Stmt>>, ReadStop>
         requires { Nests self.now.depth (F.pre self.now.nested) (F.post self.now.nested) }
         ensures { Reads (spec.reads_at self.now.depth spec.loop_body tokens.old) result tokens.new }
     {
@@ -134,7 +134,7 @@ impl<F: Fn(Global, &mut Tokens<'_>, usize) -> Result<List<Stmt>, ReadStop>> Gram
     }
 
     /// `[ELSE statements]`.
-    fn otherwise(&self, tokens: &mut Tokens<'_>) -> Result<List<Stmt>, ReadStop>
+    fn otherwise(&self, tokens: &mut Tokens<'_>) -> Result<List<Shared<Stmt>>, ReadStop>
         requires { Nests self.now.depth (F.pre self.now.nested) (F.post self.now.nested) }
         ensures { Reads (spec.reads_at self.now.depth spec.otherwise tokens.old) result tokens.new }
     {
@@ -154,7 +154,7 @@ impl<F: Fn(Global, &mut Tokens<'_>, usize) -> Result<List<Stmt>, ReadStop>> Gram
         tokens.expect(Kind::Semicolon)
     }
 
-    fn closed_otherwise(&self, tokens: &mut Tokens<'_>) -> Result<List<Stmt>, ReadStop>
+    fn closed_otherwise(&self, tokens: &mut Tokens<'_>) -> Result<List<Shared<Stmt>>, ReadStop>
         requires { Nests self.now.depth (F.pre self.now.nested) (F.post self.now.nested) }
         ensures { Reads (spec.reads_at self.now.depth spec.closed_otherwise tokens.old) result tokens.new }
     {
@@ -179,7 +179,7 @@ impl<F: Fn(Global, &mut Tokens<'_>, usize) -> Result<List<Stmt>, ReadStop>> Gram
         ensures { Reads (spec.reads_at self.now.depth spec.nested_block tokens.old) result tokens.new }
     {
         let block = self.block(tokens)?;
-        Ok(Stmt::Block(Boxed::new(self.alloc, block)?))
+        Ok(Stmt::Block(Shared::new(self.alloc, block)?))
     }
 
     fn statement(&self, tokens: &mut Tokens<'_>) -> Result<Stmt, ReadStop>
@@ -201,8 +201,17 @@ impl<F: Fn(Global, &mut Tokens<'_>, usize) -> Result<List<Stmt>, ReadStop>> Gram
         }
     }
 
+    /// A statement, behind its pointer.
+    fn shared_statement(&self, tokens: &mut Tokens<'_>) -> Result<Shared<Stmt>, ReadStop>
+        requires { Nests self.now.depth (F.pre self.now.nested) (F.post self.now.nested) }
+        ensures { Reads (spec.reads_at self.now.depth spec.statement tokens.old) result tokens.new }
+    {
+        let statement = self.statement(tokens)?;
+        shared(self.alloc, statement)
+    }
+
     /// The statements behind the first, and with it.
-    fn more_statements(&self, tokens: &mut Tokens<'_>, first: Stmt) -> Result<List<Stmt>, ReadStop>
+    fn more_statements(&self, tokens: &mut Tokens<'_>, first: Shared<Stmt>) -> Result<List<Shared<Stmt>>, ReadStop>
         requires { Nests self.now.depth (F.pre self.now.nested) (F.post self.now.nested) }
         ensures { Reads (spec.with_first first (spec.reads_at self.now.depth spec.more_statements tokens.old)) result tokens.new }
     {
@@ -212,18 +221,18 @@ impl<F: Fn(Global, &mut Tokens<'_>, usize) -> Result<List<Stmt>, ReadStop>> Gram
             if !begins_statement(tokens) {
                 return Ok(found);
             }
-            let next = self.statement(tokens)?;
+            let next = self.shared_statement(tokens)?;
             found.push(next)?;
         }
         Ok(found)
     }
 
     /// One statement or more.
-    pub fn statements(&self, tokens: &mut Tokens<'_>) -> Result<List<Stmt>, ReadStop>
+    pub fn statements(&self, tokens: &mut Tokens<'_>) -> Result<List<Shared<Stmt>>, ReadStop>
         requires { Nests self.now.depth (F.pre self.now.nested) (F.post self.now.nested) }
         ensures { Reads (spec.reads_at self.now.depth spec.statements tokens.old) result tokens.new }
     {
-        let first = self.statement(tokens)?;
+        let first = self.shared_statement(tokens)?;
         self.more_statements(tokens, first)
     }
 }

@@ -15,10 +15,6 @@ pub returns-in_err-values : goal.returns-in_err-values
 unfolding values
 returns-in_err-values c = simp steps (search rules)
 
-pub returns-in_err-expect-3 : goal.returns-in_err-expect-3
-unfolding values
-returns-in_err-expect-3 c = simp steps (search rules)
-
 pub returns : goal.returns
 unfolding values
 returns c = simp steps (search rules)
