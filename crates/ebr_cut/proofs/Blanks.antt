@@ -6,7 +6,7 @@ use Rattle.std.proofs.lemmas.List.Folds.{length-prefix_len}
 use Rattle.std.specs.List.{prefix_len, list_all}
 use Rattle.ebr_base.specs.Word.{is_white}
 use Rattle.ebr_lexer.specs.Lexis.{first_is, in_line, begins, has_end, IsLineComment, IsBlockComment}
-use Rattle.ebr_lexer.specs.Reading.{comment_length}
+use Rattle.ebr_lexer.specs.Extents.{comment_length}
 use Rattle.ebr_lexer.proofs.Runs.{prefix_all, prefix_ends, prefix_whole}
 use Rattle.ebr_lexer.proofs.Strings.{CommentAt, comment_at, comment_found, comment_none}
 use Rattle.ebr_cut.specs.Lines.{fresh_behind, fresh_after}

@@ -10,7 +10,7 @@ use Rattle.ebr_lexer.specs.declared.token.Token.{Token}
 use Rattle.ebr_lexer.specs.declared.token.TokenKind.{TokenKind}
 use Rattle.ebr_lexer.specs.declared.token.TokenKind.TheVariants as kind
 use Rattle.ebr_lexer.specs.Symbols.{double, alone, long, first_of_two, symbol_of}
-use Rattle.ebr_lexer.specs.Lexis.{is_quote, is_star, is_slash, is_other, in_line, first_is, begins, begins_comment, has_end, IsRun, Part, White, LineComment, BlockComment, Lexeme, IsLexeme, IsPart, Piece, Stand, token_of, tokens_at, Tokens}
+use Rattle.ebr_lexer.specs.Lexis.{is_quote, is_star, is_slash, is_other, in_line, first_is, begins, begins_comment, has_end, IsRun, Part, White, LineComment, BlockComment, Lexeme, IsLexeme, IsPart, Spelled, Stand, token_of, tokens_at, Tokens}
 use Rattle.ebr_lexer.proofs.Bytes.{first_some}
 use Rattle.ebr_cut.specs.declared.span.Span.{Span}
 use Rattle.ebr_cut.specs.Lines.{fresh_after}
@@ -73,16 +73,16 @@ part_narrow (Lexeme k) text more tail h = lexeme_narrow k text more tail h
 
 -- Bytes that begin at a place have these tokens up to the end of the last one.
 record UpTo (at : ℕ) (bytes : List ℕ) (tokens : List Token) : Type 0 where
-  pieces : List Piece
+  parts : List Spelled
   front : List ℕ
   rest : List ℕ
   split : bytes ≡ front ++ rest
-  stand : Stand pieces front []
-  listed : tokens ≡ tokens_at at pieces
+  stand : Stand parts front []
+  listed : tokens ≡ tokens_at at parts
   end : at + length front ≡ end_of at tokens
 
 nothing : (at : ℕ) (bytes : List ℕ) → UpTo at bytes []
-nothing at bytes = record { pieces = []; front = []; rest = bytes; split = refl; stand = refl; listed = refl; end = omega arith }
+nothing at bytes = record { parts = []; front = []; rest = bytes; split = refl; stand = refl; listed = refl; end = omega arith }
 
 -- No token stands in a piece and behind it, or the last one ends where the last one behind the piece does, or where
 -- the piece does.
@@ -95,13 +95,13 @@ none_or_end BlockComment at next [] = inl refl
 none_or_end BlockComment at next (u ∷ us) = inr refl
 none_or_end (Lexeme k) at next us = inr refl
 
-one_more : (at : ℕ) (p : Piece) (bytes more : List ℕ) (us : List Token) → bytes ≡ p.text ++ more → IsPart p.part p.text more → UpTo (at + length p.text) more us
+one_more : (at : ℕ) (p : Spelled) (bytes more : List ℕ) (us : List Token) → bytes ≡ p.text ++ more → IsPart p.part p.text more → UpTo (at + length p.text) more us
     → end_of (at + length p.text) us ≡ end_of at (token_of p.part at (at + length p.text) ++ us) → UpTo at bytes (token_of p.part at (at + length p.text) ++ us)
 one_more at p bytes more us split fits u e =
     let len = length-append p.text u.front in
     let end = u.end in
     record {
-      pieces = p ∷ u.pieces;
+      parts = p ∷ u.parts;
       front = p.text ++ u.front;
       rest = u.rest;
       split = split ∙ ap (λ k. p.text ++ k) u.split ∙ sym (append_assoc p.text u.front u.rest);
@@ -110,7 +110,7 @@ one_more at p bytes more us split fits u e =
       end = omega (arith, len, end, e);
     }
 
-up_to : (ps : List Piece) (at : ℕ) (bytes : List ℕ) → Stand ps bytes [] → UpTo at bytes (tokens_at at ps)
+up_to : (ps : List Spelled) (at : ℕ) (bytes : List ℕ) → Stand ps bytes [] → UpTo at bytes (tokens_at at ps)
 up_to [] at bytes s = nothing at bytes
 up_to (p ∷ ps) at bytes s =
     let next = at + length p.text in
@@ -129,8 +129,8 @@ front_is text (t ∷ ts) u f =
 -- the stored text has the same tokens
 pub stored_tokens : (text : List ℕ) (tokens : List Token) → Tokens text tokens → StandsInFront tokens → Tokens (stored text tokens) tokens
 stored_tokens text tokens t f =
-    let u = subst (UpTo 0 text) (sym t.listed) (up_to t.pieces 0 text t.stand) in
-    subst (λ (k : List ℕ). Tokens k tokens) (front_is text tokens u f) (record { pieces = u.pieces; stand = u.stand; listed = u.listed })
+    let u = subst (UpTo 0 text) (sym t.listed) (up_to t.parts 0 text t.stand) in
+    subst (λ (k : List ℕ). Tokens k tokens) (front_is text tokens u f) (record { parts = u.parts; stand = u.stand; listed = u.listed })
 
 pub stored_scans : (text : List ℕ) (tokens : List Token) → KeepsTokens text tokens (stored text tokens)
 stored_scans text tokens scans f = (stored_tokens text tokens scans.0 f, scans.1)
@@ -154,7 +154,7 @@ part_in_front BlockComment text behind more n us h w c =
     absurd (false≢true (sym c ∙ ap (λ (k : List ℕ). begins_whole_comment (k ++ more)) h.spelled ∙ has_end-more (h.body ++ 47 ∷ []) more false h.ends))
 part_in_front (Lexeme k) text behind more n us h w c = refl
 
-tokens_in_front : (ps : List Piece) (text more : List ℕ) → Stand ps text [] → first_is is_white (text ++ more) ≡ false → begins_whole_comment (text ++ more) ≡ false → StandsInFront (tokens_at 0 ps)
+tokens_in_front : (ps : List Spelled) (text more : List ℕ) → Stand ps text [] → first_is is_white (text ++ more) ≡ false → begins_whole_comment (text ++ more) ≡ false → StandsInFront (tokens_at 0 ps)
 tokens_in_front [] text more s w c = tt
 tokens_in_front (p ∷ ps) text more s w c =
     let joined : text ++ more ≡ p.text ++ (s.0 ++ more) = ap (λ k. k ++ more) s.1 ∙ append_assoc p.text s.0 more in
@@ -172,7 +172,7 @@ section_in_front (sections.Piece l text closing) fresh script before more at res
     let white = sym (ap (first_is is_white) (append_assoc text closing more)) ∙ h.begins.white in
     let comment = sym (ap begins_whole_comment (append_assoc text closing more)) ∙ h.begins.comment in
     All-cons (BeginsInFront script) (record { from = at; to = at + length text; lead = l }) rest
-    (λ tokens scans. let t = subst (λ (k : List ℕ). Tokens k tokens) is scans.0 in subst StandsInFront (sym t.listed) (tokens_in_front t.pieces text behind t.stand white comment)) all
+    (λ tokens scans. let t = subst (λ (k : List ℕ). Tokens k tokens) is scans.0 in subst StandsInFront (sym t.listed) (tokens_in_front t.parts text behind t.stand white comment)) all
 
 all_in_front : (ss : List Section) (fresh : Bool) (script before bytes : List ℕ) (at : ℕ) → script ≡ before ++ bytes → at ≡ length before → sections.Stand fresh ss bytes → All (BeginsInFront script) (spans_at at ss)
 all_in_front [] fresh script before bytes at e a h = All-nil (BeginsInFront script)

@@ -186,9 +186,9 @@ slash_alone (c ∷ cs) h =
     or_from _ _ refl (and_left _ _ no)
 
 pieces_fit : (l : Lead) (fresh : Bool) (text closing more : List ℕ) → Ends l text closing more → Fits (piece_front l (text ++ closing ++ more)) fresh (Piece l text closing) more
-pieces_fit lead.Unit fresh text closing more h = unit_told lead.Unit fresh text closing more h where
-  unit_told : (l : Lead) (fresh : Bool) (text closing more : List ℕ) → EndsAsUnit text closing more → Fits (unit_front l (unit_length false (text ++ closing ++ more))) fresh (Piece l text closing) more
-  unit_told l fresh text closing more h =
+pieces_fit lead.Unit fresh text closing more h = unit_fits_there lead.Unit fresh text closing more h where
+  unit_fits_there : (l : Lead) (fresh : Bool) (text closing more : List ℕ) → EndsAsUnit text closing more → Fits (unit_front l (unit_length false (text ++ closing ++ more))) fresh (Piece l text closing) more
+  unit_fits_there l fresh text closing more h =
       let whole : text ++ closing ++ more ≡ text ++ more = ap (λ k. text ++ k ++ more) h.whole ∙ ap (λ k. k ++ more) (append-nil text) in
       unit_fits l _ fresh text closing more (ap (unit_length false) whole ∙ unit_is text closing more h) h
 pieces_fit lead.Block fresh text closing more h =

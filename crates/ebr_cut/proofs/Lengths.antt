@@ -9,9 +9,10 @@ use Rattle.std.specs.List.{prefix_len}
 use Rattle.std.specs.Str.{bytes_eq}
 use Rattle.ebr_base.specs.Word.{is_word_byte, is_white, upper}
 use Rattle.ebr_lexer.specs.Lexis.{in_line, begins, is_star, is_slash}
-use Rattle.ebr_lexer.specs.Reading.{comment_length}
+use Rattle.ebr_lexer.specs.Extents.{comment_length}
 use Rattle.ebr_lexer.proofs.Strings.{CommentAt, comment_at}
-use Rattle.ebr_cut.specs.Reading.{with_opening, comment_front, blank_front, passed, blanks_length, one_more, end_behind, is_spelled, Knows, Sees}
+use Rattle.ebr_cut.specs.Reading.{with_opening, comment_front, blank_front, passed, blanks_length, is_spelled}
+use Rattle.ebr_cut.specs.inside.Ahead.{one_more, end_behind, Knows, Sees}
 use Rattle.ebr_cut.proofs.Passed.{passed-zero, passed-suc, passed-none}
 use Rattle.ebr_cut.proofs.Blanks.{begins_is, blank_sound}
 use Rattle.ebr_cut.proofs.Words.{eq_from, length-map}
@@ -99,9 +100,9 @@ pub end_within : (bytes : List ℕ) (r : Option ℕ) → CommentAt false 0 bytes
 end_within bytes None s = tt
 end_within bytes (Some m) s = let len = ap length s.2 ∙ length-append s.0 (47 ∷ s.1) in let long = s.5 in omega (arith, len, long)
 
-pub end_small : (bytes : List ℕ) (r : Option ℕ) → r ≡ comment_length false 0 bytes → length bytes < 4294967295 → IfSome r (λ n. n < 4294967295)
-end_small bytes r e l = small_by r (length bytes) (end_within bytes r (subst (CommentAt false 0 bytes) (sym e) (comment_at bytes false 0))) l where
-  small_by : (r : Option ℕ) (n : ℕ) → IfSome r (λ m. m ≤ n) → n < 4294967295 → IfSome r (λ m. m < 4294967295)
+pub end_small : (limit : ℕ) (bytes : List ℕ) (r : Option ℕ) → r ≡ comment_length false 0 bytes → length bytes < limit → IfSome r (λ n. n < limit)
+end_small limit bytes r e l = small_by r (length bytes) (end_within bytes r (subst (CommentAt false 0 bytes) (sym e) (comment_at bytes false 0))) l where
+  small_by : (r : Option ℕ) (n : ℕ) → IfSome r (λ m. m ≤ n) → n < limit → IfSome r (λ m. m < limit)
   small_by None n h l = tt
   small_by (Some m) n h l = omega (arith, h, l)
 

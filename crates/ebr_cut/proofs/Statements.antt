@@ -4,7 +4,7 @@ use Rattle.std.proofs.lemmas.Bool.{or_from, or_parts, eqb-true, false≢true, no
 use Rattle.std.proofs.lemmas.List.{length-append, drop_at, nil_from_length}
 use Rattle.std.proofs.Math.ListN.{drop_of_length-le}
 use Rattle.ebr_lexer.specs.Lexis.{is_quote, doubled, begins, begins_comment, IsString, IsWrong, OpenString, OpenComment}
-use Rattle.ebr_lexer.specs.Reading.{string_length}
+use Rattle.ebr_lexer.specs.Extents.{string_length}
 use Rattle.ebr_lexer.proofs.Strings.{StringAt, string_at, string_found, string_none, comment_none}
 use Rattle.ebr_cut.specs.Sections.{begins_whole_comment, is_semicolon, is_plain, Bit, Quoted, Line, Block, Byte, IsBit, Bits, StatementEnd, AtSemicolon, AtScriptEnd, Unterminated, EndsBy, EndsAsStatement}
 use Rattle.ebr_cut.specs.Reading.{with_opening, comment_front, bit_front, plain_front, passed, statement_length}

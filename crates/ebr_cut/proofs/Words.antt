@@ -39,9 +39,9 @@ no_token BlockComment = refl
 
 -- blanks stand in front, and then `rest`
 pub record Blanks (bytes rest : List ℕ) : Type 0 where
-  pub pieces : List lexis.Piece
-  pub stand : lexis.Stand pieces bytes rest
-  pub none : tokens_among pieces ≡ []
+  pub parts : List lexis.Spelled
+  pub stand : lexis.Stand parts bytes rest
+  pub none : tokens_among parts ≡ []
 
 blanks_one : (n b : ℕ) (bs : List ℕ) (w : Blanked (blank_front (b ∷ bs)) b (b ∷ bs)) → Blanks w.more (drop (passed blank_front n w.more) w.more)
     → Blanks (b ∷ bs) (drop (passed blank_front (suc n) (b ∷ bs)) (b ∷ bs))
@@ -53,13 +53,13 @@ blanks_one n b bs w s =
     let step : passed blank_front (suc n) bytes ≡ m + passed blank_front n w.more = passed-suc blank_front (suc n) n bytes one ∙ ap (λ (k : List ℕ). m + passed blank_front n k) after in
     let place : drop (passed blank_front (suc n) bytes) bytes ≡ drop (passed blank_front n w.more) w.more = ap (λ k. drop k bytes) step ∙ sym (drop-drop (passed blank_front n w.more) m bytes) ∙ ap (drop (passed blank_front n w.more)) after in
     record {
-      pieces = record { part = part_of w.kind; text = w.text } ∷ s.pieces;
-      stand = (w.more, w.split, part_fits w.kind w.text w.more w.fits, subst (lexis.Stand s.pieces w.more) (sym place) s.stand);
-      none = ap (λ k. k ++ tokens_among s.pieces) (no_token w.kind) ∙ s.none;
+      parts = record { part = part_of w.kind; text = w.text } ∷ s.parts;
+      stand = (w.more, w.split, part_fits w.kind w.text w.more w.fits, subst (lexis.Stand s.parts w.more) (sym place) s.stand);
+      none = ap (λ k. k ++ tokens_among s.parts) (no_token w.kind) ∙ s.none;
     }
 
 blanks_none : (n : ℕ) (bytes : List ℕ) → passed blank_front n bytes ≡ 0 → Blanks bytes (drop (passed blank_front n bytes) bytes)
-blanks_none n bytes e = record { pieces = []; stand = sym (ap (λ k. drop k bytes) e); none = refl }
+blanks_none n bytes e = record { parts = []; stand = sym (ap (λ k. drop k bytes) e); none = refl }
 
 blanks_by : (m n b : ℕ) (bs : List ℕ) → blank_front (b ∷ bs) ≡ m → ((rest : List ℕ) → Blanks rest (drop (passed blank_front n rest) rest))
     → Blanks (b ∷ bs) (drop (passed blank_front (suc n) (b ∷ bs)) (b ∷ bs))
@@ -71,11 +71,11 @@ blanks_sound zero bytes = blanks_none zero bytes (passed-zero blank_front zero b
 blanks_sound (suc n) [] = blanks_none (suc n) [] (passed-none blank_front (suc n) [] refl)
 blanks_sound (suc n) (b ∷ bs) = blanks_by (blank_front (b ∷ bs)) n b bs refl (blanks_sound n)
 
-stand_append : (ps qs : List lexis.Piece) (bytes mid rest : List ℕ) → lexis.Stand ps bytes mid → lexis.Stand qs mid rest → lexis.Stand (ps ++ qs) bytes rest
+stand_append : (ps qs : List lexis.Spelled) (bytes mid rest : List ℕ) → lexis.Stand ps bytes mid → lexis.Stand qs mid rest → lexis.Stand (ps ++ qs) bytes rest
 stand_append [] qs bytes mid rest s t = subst (λ (k : List ℕ). lexis.Stand qs k rest) (sym s) t
 stand_append (p ∷ ps) qs bytes mid rest s t = (s.0, s.1, s.2, stand_append ps qs s.0 mid rest s.3 t)
 
-tokens_append : (ps qs : List lexis.Piece) → tokens_among (ps ++ qs) ≡ tokens_among ps ++ tokens_among qs
+tokens_append : (ps qs : List lexis.Spelled) → tokens_among (ps ++ qs) ≡ tokens_among ps ++ tokens_among qs
 tokens_append [] qs = refl
 tokens_append (p ∷ ps) qs = ap (λ k. token_of p.part ++ k) (tokens_append ps qs) ∙ sym (append_assoc (token_of p.part) (tokens_among ps) (tokens_among qs))
 
@@ -86,7 +86,7 @@ pub record Ahead (word bytes after : List ℕ) : Type 0 where
   pub text : List ℕ
   pub split : rest ≡ text ++ after
   pub fits : IsWord text after
-  pub told : map upper text ≡ word
+  pub spells : map upper text ≡ word
 
 ahead_by : (word bytes : List ℕ) (n : ℕ) → is_spelled word (drop n bytes) ≡ true → Blanks bytes (drop n bytes)
     → Ahead word bytes (drop (n + prefix_len is_word_byte (drop n bytes)) bytes)
@@ -97,7 +97,7 @@ ahead_by word bytes n e b =
     let run : IsRun is_word_byte (take m rest) (drop m rest) = record { all = prefix_all is_word_byte rest; ends = prefix_ends is_word_byte rest } in
     let w : IsWord (take m rest) (drop m rest) = record { letter = first_take is_letter rest m (word_some rest p.0) p.0; run = run } in
     subst (Ahead word bytes) (drop-drop m n bytes)
-    (record { rest = rest; blanks = b; text = take m rest; split = sym (take-append-drop m rest); fits = w; told = eq_from _ _ p.1 })
+    (record { rest = rest; blanks = b; text = take m rest; split = sym (take-append-drop m rest); fits = w; spells = eq_from _ _ p.1 })
 
 -- what is found is a word in front
 pub ahead : (word bytes : List ℕ) → 0 < word_front word bytes → Ahead word bytes (drop (word_front word bytes) bytes)
@@ -114,19 +114,19 @@ length-map (x ∷ xs) = ap suc (length-map xs)
 -- one word more in front
 pub words_more : (word bytes after : List ℕ) (words : List (List ℕ)) → length word ≤ 128 → Ahead word bytes after → BeginsWith words after → BeginsWith (word ∷ words) bytes
 words_more word bytes after words few a b =
-    let len = sym (length-map a.text) ∙ ap length a.told in
-    let lexeme : lexis.Piece = record { part = lexis.Lexeme (kind.Word word); text = a.text } in
+    let len = sym (length-map a.text) ∙ ap length a.spells in
+    let lexeme : lexis.Spelled = record { part = lexis.Lexeme (kind.Word word); text = a.text } in
     let short : length a.text ≤ 128 = omega (arith, len, few) in
-    let here : lexis.Stand (lexeme ∷ b.pieces) a.rest b.rest = (after, a.split, (a.fits, short, sym a.told), b.stand) in
+    let here : lexis.Stand (lexeme ∷ b.parts) a.rest b.rest = (after, a.split, (a.fits, short, sym a.spells), b.stand) in
     record {
-      pieces = a.blanks.pieces ++ lexeme ∷ b.pieces;
+      parts = a.blanks.parts ++ lexeme ∷ b.parts;
       rest = b.rest;
-      stand = stand_append a.blanks.pieces (lexeme ∷ b.pieces) bytes a.rest b.rest a.blanks.stand here;
-      told = tokens_append a.blanks.pieces (lexeme ∷ b.pieces) ∙ ap (λ k. k ++ kind.Word word ∷ tokens_among b.pieces) a.blanks.none ∙ ap (λ k. kind.Word word ∷ k) b.told;
+      stand = stand_append a.blanks.parts (lexeme ∷ b.parts) bytes a.rest b.rest a.blanks.stand here;
+      spells = tokens_append a.blanks.parts (lexeme ∷ b.parts) ∙ ap (λ k. k ++ kind.Word word ∷ tokens_among b.parts) a.blanks.none ∙ ap (λ k. kind.Word word ∷ k) b.spells;
     }
 
 pub no_words : (bytes : List ℕ) → BeginsWith [] bytes
-no_words bytes = record { pieces = []; rest = bytes; stand = refl; told = refl }
+no_words bytes = record { parts = []; rest = bytes; stand = refl; spells = refl }
 
 -- No blank begins with a letter.
 begins_no : (x y b : ℕ) (bs : List ℕ) → is_letter b ≡ true → is_letter x ≡ false → begins x y (b ∷ bs) ≡ false
@@ -158,7 +158,7 @@ pub record Next (word : List ℕ) (words : List (List ℕ)) (bytes : List ℕ) :
   pub after : List ℕ
   pub skipped : (n : ℕ) → length bytes ≤ n → drop (passed blank_front n bytes) bytes ≡ text ++ after
   pub fits : IsWord text after
-  pub told : word ≡ map upper text
+  pub spells : word ≡ map upper text
   pub rest : BeginsWith words after
 
 next_over : (kind : Blank) (word : List ℕ) (words : List (List ℕ)) (bytes text more : List ℕ) → bytes ≡ text ++ more → IsBlank kind text more → Next word words more → Next word words bytes
@@ -173,11 +173,11 @@ next_over kind word words bytes text more e h x = record {
       let over : drop (length text + p) bytes ≡ drop p more = sym (drop-drop p (length text) bytes) ∙ ap (drop p) (ap (drop (length text)) e ∙ drop_at text more (length text) refl) in
       ap (λ k. drop k bytes) step ∙ over ∙ x.skipped (n - 1) (omega (arith, l, len, some));
   fits = x.fits;
-  told = x.told;
+  spells = x.spells;
   rest = x.rest;
 }
 
-next_here : (word : List ℕ) (words : List (List ℕ)) (bytes text more rest : List ℕ) (ps : List lexis.Piece) → bytes ≡ text ++ more → IsWord text more → word ≡ map upper text → lexis.Stand ps more rest
+next_here : (word : List ℕ) (words : List (List ℕ)) (bytes text more rest : List ℕ) (ps : List lexis.Spelled) → bytes ≡ text ++ more → IsWord text more → word ≡ map upper text → lexis.Stand ps more rest
     → tokens_among ps ≡ map (λ w. kind.Word w) words → Next word words bytes
 next_here word words bytes text more rest ps e h w s t = record {
   text = text;
@@ -186,21 +186,21 @@ next_here word words bytes text more rest ps e h w s t = record {
       let none = passed-none blank_front n bytes (letter_no_blank bytes (subst (λ (k : List ℕ). first_is is_letter k ≡ true) (sym e) (first_before is_letter text more h.letter))) in
       ap (λ k. drop k bytes) none ∙ e;
   fits = h;
-  told = w;
-  rest = record { pieces = ps; rest = rest; stand = s; told = t };
+  spells = w;
+  rest = record { parts = ps; rest = rest; stand = s; spells = t };
 }
 
-next_lexeme : (k : TokenKind) (word : List ℕ) (words : List (List ℕ)) (bytes text more rest : List ℕ) (ps : List lexis.Piece) → bytes ≡ text ++ more → lexis.IsLexeme k text more → lexis.Stand ps more rest
+next_lexeme : (k : TokenKind) (word : List ℕ) (words : List (List ℕ)) (bytes text more rest : List ℕ) (ps : List lexis.Spelled) → bytes ≡ text ++ more → lexis.IsLexeme k text more → lexis.Stand ps more rest
     → k ∷ tokens_among ps ≡ map (λ w. kind.Word w) (word ∷ words) → Next word words bytes
 next_lexeme k word words bytes text more rest ps e h s t =
     let same : k ≡ kind.Word word = ap (λ ks. get_or ks 0 k) t in
     let w = subst (λ j. lexis.IsLexeme j text more) same h in
     next_here word words bytes text more rest ps e w.0 w.2 s (ap (drop 1) t)
 
-next_by : (ps : List lexis.Piece) (word : List ℕ) (words : List (List ℕ)) (bytes rest : List ℕ) → lexis.Stand ps bytes rest → tokens_among ps ≡ map (λ w. kind.Word w) (word ∷ words) → Next word words bytes
+next_by : (ps : List lexis.Spelled) (word : List ℕ) (words : List (List ℕ)) (bytes rest : List ℕ) → lexis.Stand ps bytes rest → tokens_among ps ≡ map (λ w. kind.Word w) (word ∷ words) → Next word words bytes
 next_by [] word words bytes rest s t = let z = ap length t in absurd (omega (arith, z))
 next_by (p ∷ ps) word words bytes rest s t = next_part p.part p.text ps word words bytes s.0 rest (next_by ps word words s.0 rest s.3) s.1 s.2 s.3 t where
-  next_part : (part : lexis.Part) (text : List ℕ) (ps : List lexis.Piece) (word : List ℕ) (words : List (List ℕ)) (bytes more rest : List ℕ)
+  next_part : (part : lexis.Part) (text : List ℕ) (ps : List lexis.Spelled) (word : List ℕ) (words : List (List ℕ)) (bytes more rest : List ℕ)
       → (tokens_among ps ≡ map (λ w. kind.Word w) (word ∷ words) → Next word words more)
       → bytes ≡ text ++ more → lexis.IsPart part text more → lexis.Stand ps more rest → token_of part ++ tokens_among ps ≡ map (λ w. kind.Word w) (word ∷ words) → Next word words bytes
   next_part lexis.White text ps word words bytes more rest ih e h s t = next_over White word words bytes text more e h (ih t)
@@ -229,7 +229,7 @@ front_by v bytes text after e h =
 
 pub first : (word : List ℕ) (words : List (List ℕ)) (bytes : List ℕ) → BeginsWith (word ∷ words) bytes → First word words bytes
 first word words bytes b =
-    let x = next_by b.pieces word words bytes b.rest b.stand b.told in
+    let x = next_by b.parts word words bytes b.rest b.stand b.spells in
     let n = blanks_length bytes in
     let skipped = x.skipped (length bytes) (omega arith) in
     let some = first_some is_letter x.text x.fits.letter in
@@ -237,6 +237,6 @@ first word words bytes b =
     record {
       long = n + length x.text;
       some = omega (arith, some);
-      front = λ v. front_by v bytes x.text x.after skipped x.fits ∙ ap (λ (k : List ℕ). cond (bytes_eq k v) (n + length x.text) 0) (sym x.told);
+      front = λ v. front_by v bytes x.text x.after skipped x.fits ∙ ap (λ (k : List ℕ). cond (bytes_eq k v) (n + length x.text) 0) (sym x.spells);
       rest = subst (BeginsWith words) (sym after) x.rest;
     }

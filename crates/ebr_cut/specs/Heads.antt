@@ -12,17 +12,17 @@ abbrev pub token_of : lexis.Part → List TokenKind
 token_of (lexis.Lexeme k) = k ∷ []
 token_of part = []
 
--- the tokens among pieces of a text
-abbrev pub tokens_among : List lexis.Piece → List TokenKind
+-- the tokens among parts of a text
+abbrev pub tokens_among : List lexis.Spelled → List TokenKind
 tokens_among [] = []
 tokens_among (p ∷ ps) = token_of p.part ++ tokens_among ps
 
 -- The first tokens are these words; white bytes and comments may stand before each.
 pub record BeginsWith (words : List (List ℕ)) (bytes : List ℕ) : Type 0 where
-  pub pieces : List lexis.Piece
+  pub parts : List lexis.Spelled
   pub rest : List ℕ
-  pub stand : lexis.Stand pieces bytes rest
-  pub told : tokens_among pieces ≡ map kind.Word words
+  pub stand : lexis.Stand parts bytes rest
+  pub spells : tokens_among parts ≡ map kind.Word words
 
 -- the objects that are made of PL/SQL
 pub data Object : Type 0 where

@@ -3,3 +3,4 @@ pub mod Heads
 pub mod Sections
 pub mod Scans
 pub mod Reading
+pub mod inside

@@ -1,11 +1,10 @@
 -- Cutting a script from left to right.
-use Rattle.std.specs.Prelude.{◌≡◌, ℕ, zero, suc, ◌+◌, ◌-◌, ◌≤◌, ◌<◌, nat_lt, Bool, true, false, ◌&&◌, ◌||◌, if◌then◌else◌, List, [], ◌∷◌, ◌++◌, map, length, get_or, take, drop, codes, Option, Some, None}
+use Rattle.std.specs.Prelude.{ℕ, zero, suc, ◌+◌, nat_lt, Bool, true, false, ◌&&◌, ◌||◌, if◌then◌else◌, List, [], ◌∷◌, ◌++◌, map, length, take, drop, codes, Option, Some, None}
 use Rattle.std.specs.List.{prefix_len}
 use Rattle.std.specs.Str.{bytes_eq}
 use Rattle.ebr_base.specs.Word.{is_letter, is_word_byte, is_white, upper}
 use Rattle.ebr_lexer.specs.Lexis.{is_quote, in_line, first_is, begins}
-use Rattle.ebr_lexer.specs.Reading.{string_length, comment_length}
-use Rattle.ebr_cut.specs.declared.blank.Seen.{Seen}
+use Rattle.ebr_lexer.specs.Extents.{string_length, comment_length}
 use Rattle.ebr_cut.specs.declared.span.Span.{Span}
 use Rattle.ebr_cut.specs.declared.span.Lead.{Lead}
 use Rattle.ebr_cut.specs.declared.span.Lead.TheVariants as lead
@@ -53,30 +52,6 @@ passed front (suc n) bytes = front bytes + passed front n (drop (front bytes) by
 -- how many bytes of blanks stand in front
 abbrev pub blanks_length : List ℕ → ℕ
 blanks_length bytes = passed blank_front (length bytes) bytes
-
--- The list tells how many bytes of blanks stand in front of each rest of the bytes, by how many bytes the rest has.
-pub record Knows (lengths bytes : List ℕ) : Type 0 where
-  pub long : length bytes < length lengths
-  pub each : (k : ℕ) → k ≤ length bytes → get_or lengths k 0 ≡ blanks_length (drop (length bytes - k) bytes)
-
--- how many bytes stand in front of the line's end, and up to the next `*/` and with it, from the first byte on and
--- from the second one on
-pub record Sees (bytes : List ℕ) (seen : Seen) : Type 0 where
-  pub line : seen.line ≡ prefix_len in_line bytes
-  pub end : seen.end ≡ comment_length false 0 bytes
-  pub later : seen.later ≡ comment_length false 0 (drop 1 bytes)
-
--- how many bytes stand before the line's end, one byte further in front
-abbrev pub line_behind : ℕ → ℕ → ℕ
-line_behind b line = if in_line b then line + 1 else 0
-
-abbrev pub one_more : Option ℕ → Option ℕ
-one_more None = None
-one_more (Some n) = Some (n + 1)
-
--- how many bytes stand up to the next `*/` and with it, one byte further in front
-abbrev pub end_behind : List ℕ → Option ℕ → Option ℕ
-end_behind bytes end = if begins 42 47 bytes then Some 2 else one_more end
 
 -- how many bytes stand before the piece's semicolon, or the script's end
 abbrev pub statement_length : List ℕ → ℕ

@@ -38,7 +38,7 @@ is_too_deep ended count (t ∷ ts) =
     let after = count_behind ended count t.what in
     nat_lt 64 after || is_too_deep (is_word (codes "END") t.what) after ts
 
--- what a text that has a fault is told by: its first lexical fault, or that its tokens are nested too deep
+-- why a text has a fault: its first lexical fault, or that its tokens are nested too deep
 pub data Cause : Type 0 where
   Lexical : Cause
   TooDeep : Cause
@@ -73,7 +73,7 @@ BeginsInFront script s = (tokens : List Token) → Scans (slice_range script s.f
 
 -- The stored text of a piece has the tokens of the piece's text, each at its place.
 abbrev pub KeepsTokens : List ℕ → List Token → List ℕ → Type 0
-KeepsTokens text tokens kept = Scans text (scanned.Tokens tokens) → StandsInFront tokens → Scans kept (scanned.Tokens tokens)
+KeepsTokens text tokens part = Scans text (scanned.Tokens tokens) → StandsInFront tokens → Scans part (scanned.Tokens tokens)
 
 -- what a text with these tokens is: its tokens, unless they are nested too deep
 abbrev pub with_depth : List Token → Scanned

@@ -1,15 +1,17 @@
 //! White bytes and comments.
 
 ghost use Rattle.std.specs.Prelude.{◌≡◌, ◌≤◌, ◌<◌, length, drop, Some, None, IfSome, IfOk};
-ghost use Rattle.ebr_cut.specs.Reading.{blank_front, blanks_length, line_behind, end_behind, Knows, Sees};
+ghost use Rattle.ebr_cut.specs.Reading.{blank_front, blanks_length};
+ghost use Rattle.ebr_cut.specs.inside.Ahead.{line_behind, end_behind, Knows, Sees};
 
-use crate::comment::{begins, comment_length};
-use ebr_base::{List, NoMemory, is_white};
+use crate::comment::comment_length;
+use ebr_base::{List, MAX_COUNT, NoMemory, is_white, rest_from};
+use ebr_lexer::begins;
 use std::alloc::Global;
 
 /// How many bytes the white byte or comment in front has; 0 where none stands there.
 pub fn blank_length(bytes: &[u8]) -> usize
-    requires { length bytes.now < 4294967295 }
+    requires { length bytes.now < MAX_COUNT }
     ensures value { result ≡ blank_front bytes.now }
     ensures within { result ≤ length bytes.now }
 {
@@ -31,7 +33,7 @@ pub fn blank_length(bytes: &[u8]) -> usize
 /// The first words of many pieces may stand behind the same comments, since a line with `/` ends a
 /// unit within a comment too. So these are counted once, from the end.
 pub fn blank_lengths(alloc: Global, script: &[u8]) -> Result<List<u32>, NoMemory>
-    requires { length script.now < 4294967295 }
+    requires { length script.now < MAX_COUNT }
     ensures { IfOk result (λ lengths. Knows lengths script.now) }
 {
     let mut lengths = List::new(alloc);
@@ -42,7 +44,7 @@ pub fn blank_lengths(alloc: Global, script: &[u8]) -> Result<List<u32>, NoMemory
         later: None,
     };
     for count in 0..script.len() {
-        let rest = after(script, script.len() - 1 - count);
+        let rest = rest_from(script, script.len() - 1 - count);
         let length = blanks_before(rest, seen, lengths.as_slice());
         lengths.push(length)?;
         seen = seen_from(rest, seen);
@@ -64,7 +66,7 @@ pub struct Seen {
 /// How many bytes of blanks stand in front, where those of the shorter rests are known.
 fn blanks_before(rest: &[u8], seen: Seen, lengths: &[u32]) -> u32
     requires some { 0 < length rest.now }
-    requires small { length rest.now < 4294967295 }
+    requires small { length rest.now < MAX_COUNT }
     requires seen { Sees (drop 1 rest.now) seen }
     requires known { Knows lengths.now (drop 1 rest.now) }
     ensures { result ≡ blanks_length rest.now }
@@ -80,7 +82,7 @@ fn blanks_before(rest: &[u8], seen: Seen, lengths: &[u32]) -> u32
 /// How many bytes the blank in front has, as what stands ahead of the second byte tells.
 fn blank_ahead(rest: &[u8], seen: Seen) -> usize
     requires some { 0 < length rest.now }
-    requires small { length rest.now < 4294967295 }
+    requires small { length rest.now < MAX_COUNT }
     requires seen { Sees (drop 1 rest.now) seen }
     ensures value { result ≡ blank_front rest.now }
     ensures within { result ≤ length rest.now }
@@ -103,7 +105,7 @@ fn blank_ahead(rest: &[u8], seen: Seen) -> usize
 /// What stands ahead of a place, as what stands ahead of the next one tells.
 fn seen_from(rest: &[u8], seen: Seen) -> Seen
     requires some { 0 < length rest.now }
-    requires small { length rest.now < 4294967295 }
+    requires small { length rest.now < MAX_COUNT }
     requires seen { Sees (drop 1 rest.now) seen }
     ensures { Sees rest.now result }
 {
@@ -116,7 +118,7 @@ fn seen_from(rest: &[u8], seen: Seen) -> Seen
 
 /// How many bytes stand before the line's end, one byte further in front.
 fn line_behind(byte: u8, line: usize) -> usize
-    requires { line < 4294967295 }
+    requires { line < MAX_COUNT }
     ensures { result ≡ line_behind byte line }
 {
     if byte == b'\n' { 0 } else { line + 1 }
@@ -124,7 +126,7 @@ fn line_behind(byte: u8, line: usize) -> usize
 
 /// How many bytes stand up to the next `*/` and with it, one byte further in front.
 fn end_behind(bytes: &[u8], end: Option<usize>) -> Option<usize>
-    requires { IfSome end (λ n. n < 4294967295) }
+    requires { IfSome end (λ n. n < MAX_COUNT) }
     ensures { result ≡ end_behind bytes.now end }
 {
     if begins(b'*', b'/', bytes) {
@@ -143,12 +145,4 @@ pub fn blanks_length(bytes: &[u8], lengths: &[u32]) -> usize
     ensures within { result ≤ length bytes.now }
 {
     lengths[bytes.len()] as usize
-}
-
-/// What stands from a place on.
-pub fn after(bytes: &[u8], place: usize) -> &[u8]
-    requires { place ≤ length bytes.now }
-    ensures { result.now ≡ drop place bytes.now }
-{
-    &bytes[place..]
 }

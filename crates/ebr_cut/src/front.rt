@@ -2,20 +2,21 @@
 
 ghost use Rattle.std.specs.Prelude.{◌≡◌, ◌≤◌, ◌<◌, length, slice_index, IfSome};
 ghost use Rattle.ebr_cut.specs.Lines.{fresh_behind};
-ghost use Rattle.ebr_cut.specs.Reading.{front, piece_front, skipped_front, unit_front, statement_front, Knows};
+ghost use Rattle.ebr_cut.specs.Reading.{front, piece_front, skipped_front, unit_front, statement_front};
+ghost use Rattle.ebr_cut.specs.inside.Ahead.{Knows};
 
 use crate::blank::blank_length;
 use crate::head::lead_of;
 use crate::line::{begins_slash, unit_length};
 use crate::span::{Front, Lead};
 use crate::statement::statement_length;
-use ebr_base::is_white;
+use ebr_base::{MAX_COUNT, is_white};
 
 /// What stands in front; `fresh` tells that only white bytes have come since the line began.
 #[tactic(auto, unfolding(crate::specs::Reading::front))]
 pub fn front(fresh: bool, bytes: &[u8], lengths: &[u32]) -> Front
     requires some { 0 < length bytes.now }
-    requires small { length bytes.now < 4294967295 }
+    requires small { length bytes.now < MAX_COUNT }
     requires known { Knows lengths.now bytes.now }
     ensures value { result ≡ front fresh (slice_index bytes.now 0) bytes.now }
     ensures within { result.length ≤ length bytes.now }
@@ -51,7 +52,7 @@ fn skipped(length: usize, fresh: bool) -> Front
 
 /// The piece in front, which begins so.
 fn piece_front(lead: Lead, bytes: &[u8]) -> Front
-    requires { length bytes.now < 4294967295 }
+    requires { length bytes.now < MAX_COUNT }
     ensures value { result ≡ piece_front lead bytes.now }
     ensures within { result.length ≤ length bytes.now }
     ensures piece { IfSome result.piece (λ p. p.1 ≤ result.length) }
@@ -78,7 +79,7 @@ fn unit(lead: Lead, length: usize) -> Front
 /// A piece with the semicolon behind it, where that isn't the end.
 fn statement(lead: Lead, length: usize, all: usize) -> Front
     requires within { length ≤ all }
-    requires small { all < 4294967295 }
+    requires small { all < MAX_COUNT }
     ensures value { result ≡ statement_front lead length all }
     ensures within { result.length ≤ all }
 {

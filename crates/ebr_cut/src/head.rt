@@ -5,11 +5,12 @@ ghost use Rattle.std.specs.List.{prefix_len};
 ghost use Rattle.std.specs.Str.{bytes_eq};
 ghost use Rattle.ebr_base.specs.Word.{is_letter, is_word_byte, upper};
 ghost use Rattle.ebr_lexer.specs.Lexis.{first_is};
-ghost use Rattle.ebr_cut.specs.Reading.{is_spelled, word_front, begins_with, without, without_or_replace, begins_object, names_object, begins_unit, lead_of, Knows};
+ghost use Rattle.ebr_cut.specs.Reading.{is_spelled, word_front, begins_with, without, without_or_replace, begins_object, names_object, begins_unit, lead_of};
+ghost use Rattle.ebr_cut.specs.inside.Ahead.{Knows};
 
-use crate::blank::{after, blanks_length};
+use crate::blank::blanks_length;
 use crate::span::Lead;
-use ebr_base::{is_letter, is_word_byte};
+use ebr_base::{is_letter, is_word_byte, rest_from};
 
 /// What the bytes begin with.
 #[tactic(auto, unfolding(crate::specs::Reading::lead_of))]
@@ -82,7 +83,7 @@ fn without<'a>(word: &[u8], bytes: &'a [u8], lengths: &[u32]) -> &'a [u8]
     ensures value { result.now ≡ without word.now bytes.now }
     ensures known { Knows lengths.now result.now }
 {
-    after(bytes, word_length(word, bytes, lengths))
+    rest_from(bytes, word_length(word, bytes, lengths))
 }
 
 /// Whether the word is the first token.
@@ -101,7 +102,7 @@ fn word_length(word: &[u8], bytes: &[u8], lengths: &[u32]) -> usize
     ensures within { result ≤ length bytes.now }
 {
     let blanks = blanks_length(bytes, lengths);
-    if is_spelled(word, after(bytes, blanks)) {
+    if is_spelled(word, rest_from(bytes, blanks)) {
         blanks + word.len()
     } else {
         0

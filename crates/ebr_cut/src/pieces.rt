@@ -6,10 +6,10 @@ ghost use Rattle.ebr_cut.specs.Sections.{Cut, LiesWithin, Precedes};
 ghost use Rattle.ebr_cut.specs.Scans.{BeginsInFront};
 ghost use Rattle.ebr_cut.specs.Reading.{cut, span_there};
 
-use crate::blank::{after, blank_lengths};
+use crate::blank::blank_lengths;
 use crate::front::front;
 use crate::span::{Front, Span};
-use ebr_base::{List, NoMemory};
+use ebr_base::{List, MAX_COUNT, NoMemory, rest_from};
 use std::alloc::Global;
 
 /// The pieces of a script, in order.
@@ -22,7 +22,7 @@ use std::alloc::Global;
 /// Its work is linear in the script. It takes memory for the list, and four bytes for each byte of
 /// the script while it works.
 pub fn cut(alloc: Global, script: &[u8]) -> Result<List<Span>, NoMemory>
-    requires { length script.now < 4294967295 }
+    requires { length script.now < MAX_COUNT }
     // The script is cut so.
     ensures found { IfOk result (Cut script.now) }
     // Whichever way it is cut, it is cut so.
@@ -38,7 +38,7 @@ pub fn cut(alloc: Global, script: &[u8]) -> Result<List<Span>, NoMemory>
 
 /// Reads from left to right.
 fn read(alloc: Global, script: &[u8]) -> Result<List<Span>, NoMemory>
-    requires { length script.now < 4294967295 }
+    requires { length script.now < MAX_COUNT }
     ensures { IfOk result (λ spans. spans ≡ cut script.now) }
 {
     let lengths = blank_lengths(alloc, script)?;
@@ -46,12 +46,12 @@ fn read(alloc: Global, script: &[u8]) -> Result<List<Span>, NoMemory>
     let mut place = 0;
     let mut fresh = true;
     for _ in 0..script.len() {
-        let rest = after(script, place);
+        let rest = rest_from(script, place);
         if rest.is_empty() {
             return Ok(spans);
         }
         let next = front(fresh, rest, lengths.as_slice());
-        keep(&mut spans, next, place)?;
+        add_span(&mut spans, next, place)?;
         place += next.length;
         fresh = next.fresh;
     }
@@ -59,9 +59,9 @@ fn read(alloc: Global, script: &[u8]) -> Result<List<Span>, NoMemory>
 }
 
 /// Adds the piece that begins at a place, if one does.
-fn keep(spans: &mut List<Span>, front: Front, at: usize) -> Result<(), NoMemory>
+fn add_span(spans: &mut List<Span>, front: Front, at: usize) -> Result<(), NoMemory>
     requires piece { IfSome front.piece (λ p. p.1 ≤ front.length) }
-    requires small { at + front.length < 4294967295 }
+    requires small { at + front.length < MAX_COUNT }
     ensures { OnOk result (spans.new ≡ spans.old ++ span_there at front.piece) }
 {
     match front.piece {

@@ -1,13 +1,13 @@
 //! The tokens of a piece, its fault, and its stored text.
 
-ghost use Rattle.std.specs.Prelude.{◌≡◌, ◌≤◌, ◌<◌, length, false, IfOk, All, AllPairs};
+ghost use Rattle.std.specs.Prelude.{◌≡◌, ◌≤◌, ◌<◌, ℕ, List as Sequence, length, take, false, IfOk, All, AllPairs};
 ghost use Rattle.std.specs.Str.{bytes_eq};
 ghost use Rattle.ebr_lexer.specs.Lexis.{LiesWithin, Precedes};
 ghost use Rattle.ebr_cut.specs.declared.scanned.Scanned.{Scanned};
-ghost use Rattle.ebr_cut.specs.Scans.{Scans, IfTokens, KeepsTokens, is_word, opens, closes, count_behind, is_too_deep, with_depth, stored};
+ghost use Rattle.ebr_cut.specs.Scans.{Scans, IfTokens, KeepsTokens, StandsInFront, end_of, is_word, opens, closes, count_behind, is_too_deep, with_depth, stored};
 
 use crate::pieces::between;
-use ebr_base::{Code, List, NoMemory};
+use ebr_base::{Code, List, MAX_COUNT, NoMemory};
 use ebr_lexer::{LexStop, Symbol, Token, TokenKind, lex};
 use std::alloc::Global;
 
@@ -29,7 +29,7 @@ pub enum Scanned {
 /// The nesting count goes through the tokens from 0: `(`, `BEGIN`, and `LOOP` or `IF` not directly
 /// after `END` add 1; `)` and `END` take 1 away, never below 0.
 pub fn scan(alloc: Global, text: &[u8]) -> Result<Scanned, NoMemory>
-    requires { length text.now < 4294967295 }
+    requires { length text.now < MAX_COUNT }
     // The text has what is answered.
     ensures found { IfOk result (Scans text.now) }
     // What the text has is answered.
@@ -129,5 +129,23 @@ pub fn stored_text<'a>(text: &'a [u8], tokens: &[Token]) -> &'a [u8]
     match (tokens.first(), tokens.last()) {
         (Some(first), Some(last)) => between(text, first.from, last.to),
         _ => &text[..0],
+    }
+}
+
+/// The place behind the last token; 0 where there is none.
+///
+/// In a piece's text it ends the stored text, which begins in front.
+pub fn end_of(tokens: &[Token]) -> u32
+    ensures value { result ≡ end_of 0 tokens.now }
+    // It stands within each text that has the tokens within.
+    ensures within { (text : Sequence ℕ) → All (LiesWithin text) tokens.now → result ≤ length text }
+    // Where the first token stands in front, the stored text is what stands before this place.
+    ensures stored { (text : Sequence ℕ) → StandsInFront tokens.now → take result text ≡ stored text tokens.now }
+    // It has the same tokens.
+    ensures tokens { (text : Sequence ℕ) → KeepsTokens text tokens.now (take result text) }
+{
+    match tokens.last() {
+        Some(last) => last.to,
+        None => 0,
     }
 }

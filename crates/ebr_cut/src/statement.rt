@@ -1,21 +1,21 @@
 //! Pieces that end with a semicolon.
 
-ghost use Rattle.std.specs.Prelude.{◌≡◌, ◌≤◌, ◌<◌, length, false, IfSome};
-ghost use Rattle.ebr_lexer.specs.Reading.{string_length};
+ghost use Rattle.std.specs.Prelude.{◌≡◌, ◌≤◌, ◌<◌, length};
 ghost use Rattle.ebr_cut.specs.Reading.{bit_front, plain_front, statement_length};
 
-use crate::blank::after;
-use crate::comment::{begins, comment_length};
+use crate::comment::comment_length;
+use ebr_base::{MAX_COUNT, rest_from};
+use ebr_lexer::{begins, string_length};
 
 /// How many bytes stand before the first semicolon outside strings and comments, or the end.
 pub fn statement_length(bytes: &[u8]) -> usize
-    requires { length bytes.now < 4294967295 }
+    requires { length bytes.now < MAX_COUNT }
     ensures value { result ≡ statement_length bytes.now }
     ensures within { result ≤ length bytes.now }
 {
     let mut place = 0;
     for _ in 0..bytes.len() {
-        let length = bit_length(after(bytes, place));
+        let length = bit_length(rest_from(bytes, place));
         if length == 0 {
             return place;
         }
@@ -27,7 +27,7 @@ pub fn statement_length(bytes: &[u8]) -> usize
 /// How many bytes the string, comment or other byte in front has, up to the end where a string or
 /// comment has none of its own; 0 before a semicolon.
 fn bit_length(bytes: &[u8]) -> usize
-    requires { length bytes.now < 4294967295 }
+    requires { length bytes.now < MAX_COUNT }
     ensures value { result ≡ bit_front bytes.now }
     ensures within { result ≤ length bytes.now }
 {
@@ -44,7 +44,7 @@ fn bit_length(bytes: &[u8]) -> usize
 /// How many bytes the comment or other byte in front has.
 fn plain_length(bytes: &[u8]) -> usize
     requires some { 0 < length bytes.now }
-    requires small { length bytes.now < 4294967295 }
+    requires small { length bytes.now < MAX_COUNT }
     ensures value { result ≡ plain_front bytes.now }
     ensures within { result ≤ length bytes.now }
 {
@@ -57,20 +57,4 @@ fn plain_length(bytes: &[u8]) -> usize
     } else {
         1
     }
-}
-
-/// How many bytes there are up to the closing quote and with it.
-fn string_length(bytes: &[u8]) -> Option<usize>
-    ensures value { result ≡ string_length false 0 bytes.now }
-    ensures within { IfSome result (λ n. n ≤ length bytes.now) }
-{
-    let mut pending = false;
-    for (i, byte) in bytes.iter().enumerate() {
-        let quote = *byte == b'\'';
-        if pending && !quote {
-            return Some(i);
-        }
-        pending = quote && !pending;
-    }
-    if pending { Some(bytes.len()) } else { None }
 }

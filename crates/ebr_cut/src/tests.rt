@@ -3,7 +3,7 @@
 ghost use Rattle.std.specs.Prelude.{◌<◌, length};
 
 use crate::{Lead, Scanned, cut, scan, stored_text, text_of};
-use ebr_base::{Bytes, Code, List, NoMemory};
+use ebr_base::{Bytes, Code, List, MAX_COUNT, NoMemory};
 use std::alloc::Global;
 use std::process::Abort;
 use std::test::Fail;
@@ -14,7 +14,7 @@ mod hostile;
 type Row = (&'static [u8], Lead);
 
 fn check(rt: &impl Abort, alloc: Global, script: &[u8], rows: &[Row]) -> Result<(), NoMemory>
-    requires { length script.now < 4294967295 }
+    requires { length script.now < MAX_COUNT }
 {
     let pieces = cut(alloc, script)?;
     assert_eq!(rt; pieces.len(), rows.len(), "pieces of {script:?}");

@@ -6,63 +6,63 @@ use Rattle.ebr_lexer.specs.declared.token.Token.{Token}
 use Rattle.ebr_lexer.specs.declared.token.Front.{Front}
 use Rattle.ebr_lexer.specs.declared.token.LexStop.{LexStop}
 use Rattle.ebr_lexer.specs.declared.token.LexStop.TheVariants as lex
-use Rattle.ebr_lexer.specs.Lexis.{Fault, Piece, IsPart, Stand, token_of, tokens_at, Tokens, Wrong, IsWrong, code_of, FirstFault, Found, Tells, Has, TokensOrFault, OneReading, OneFault, NeverBoth}
+use Rattle.ebr_lexer.specs.Lexis.{Fault, Spelled, IsPart, Stand, token_of, tokens_at, Tokens, Wrong, IsWrong, code_of, FirstFault, Found, Tells, Has, TokensOrFault, OneReading, OneFault, NeverBoth}
 use Rattle.ebr_lexer.specs.Reading.{front, read, after_front, with_front}
 use Rattle.ebr_lexer.proofs.Scanning.{read-suc, read-nil, with_front-twice}
 use Rattle.ebr_lexer.proofs.Fronts.{Sound, front_sound}
 use Rattle.ebr_lexer.proofs.Complete.{part_front, part_same, Reads, part_reads, part_some, wrong_reads}
 
--- pieces stand up to the place of a fault
+-- parts stand up to the place of a fault
 pub record FaultAt (at : ℕ) (bytes : List ℕ) (fault : Fault) : Type 0 where
-  pub pieces : List Piece
+  pub parts : List Spelled
   pub rest : List ℕ
   pub wrong : Wrong
-  pub stand : Stand pieces bytes rest
+  pub stand : Stand parts bytes rest
   pub fits : IsWrong wrong rest
   pub place : fault.0 + length rest ≡ at + length bytes
-  pub told : fault.1 ≡ code_of wrong
+  pub has_code : fault.1 ≡ code_of wrong
 
 pub record TokensAt (at : ℕ) (bytes : List ℕ) (tokens : List Token) : Type 0 where
-  pub pieces : List Piece
-  pub stand : Stand pieces bytes []
-  pub listed : tokens ≡ tokens_at at pieces
+  pub parts : List Spelled
+  pub stand : Stand parts bytes []
+  pub listed : tokens ≡ tokens_at at parts
 
 abbrev pub ReadIs : ℕ → List ℕ → Result (List Token) Fault → Type 0
 ReadIs at bytes (Ok ts) = TokensAt at bytes ts
 ReadIs at bytes (Err e) = FaultAt at bytes e
 
--- one more piece in front
-piece_before : (at next : ℕ) (bytes more : List ℕ) (p : Piece) (r : Result (List Token) Fault) → bytes ≡ p.text ++ more → IsPart p.part p.text more → next ≡ at + length p.text
+-- one more part in front
+part_before : (at next : ℕ) (bytes more : List ℕ) (p : Spelled) (r : Result (List Token) Fault) → bytes ≡ p.text ++ more → IsPart p.part p.text more → next ≡ at + length p.text
     → ReadIs next more r → ReadIs at bytes (with_front (token_of p.part at next) r)
-piece_before at next bytes more p (Ok ts) split w e s = record {
-  pieces = p ∷ s.pieces;
+part_before at next bytes more p (Ok ts) split w e s = record {
+  parts = p ∷ s.parts;
   stand = (more, split, w, s.stand);
-  listed = ap (λ k. token_of p.part at next ++ k) s.listed ∙ ap (λ k. token_of p.part at k ++ tokens_at k s.pieces) e;
+  listed = ap (λ k. token_of p.part at next ++ k) s.listed ∙ ap (λ k. token_of p.part at k ++ tokens_at k s.parts) e;
 }
-piece_before at next bytes more p (Err f) split w e s =
+part_before at next bytes more p (Err f) split w e s =
     let len : length bytes ≡ length p.text + length more = ap length split ∙ length-append p.text more in
     let place = s.place in
-    record { pieces = p ∷ s.pieces; rest = s.rest; wrong = s.wrong; stand = (more, split, w, s.stand); fits = s.fits; place = omega (arith, place, len, e); told = s.told }
+    record { parts = p ∷ s.parts; rest = s.rest; wrong = s.wrong; stand = (more, split, w, s.stand); fits = s.fits; place = omega (arith, place, len, e); has_code = s.has_code }
 
 after_sound : (n at : ℕ) (bytes : List ℕ) (r : Result Front Code) → ((place : ℕ) (rest : List ℕ) → length rest ≤ n → ReadIs place rest (read n place rest)) → length bytes ≤ suc n
     → Sound bytes r → ReadIs at bytes (after_front (read n) at bytes r)
-after_sound n at bytes (Err code) ih l s = record { pieces = []; rest = bytes; wrong = s.wrong; stand = refl; fits = s.fits; place = refl; told = s.told }
+after_sound n at bytes (Err code) ih l s = record { parts = []; rest = bytes; wrong = s.wrong; stand = refl; fits = s.fits; place = refl; has_code = s.has_code }
 after_sound n at bytes (Ok f) ih l s =
     let next = at + f.length in
     let len : length bytes ≡ length s.text + length s.more = ap length s.split ∙ length-append s.text s.more in
     let some = s.some in
     let left : length s.more ≤ n = omega (arith, len, some, l) in
     let rest : drop f.length bytes ≡ s.more = ap (drop f.length) s.split ∙ drop_at s.text s.more f.length (sym s.long) in
-    let p : Piece = record { part = s.part; text = s.text } in
-    let whole = piece_before at next bytes s.more p (read n next s.more) s.split s.fits (ap (λ k. at + k) s.long) (ih next s.more left) in
+    let p : Spelled = record { part = s.part; text = s.text } in
+    let whole = part_before at next bytes s.more p (read n next s.more) s.split s.fits (ap (λ k. at + k) s.long) (ih next s.more left) in
     rw (rest, s.same) whole
 
 -- what is read is what the bytes have
 pub read_sound : (n at : ℕ) (bytes : List ℕ) → length bytes ≤ n → ReadIs at bytes (read n at bytes)
 unfolding read
 read_sound zero at bytes l =
-    record { pieces = []; stand = nil_from_length bytes (omega (arith, l)); listed = refl }
-read_sound (suc n) at [] l = record { pieces = []; stand = refl; listed = refl }
+    record { parts = []; stand = nil_from_length bytes (omega (arith, l)); listed = refl }
+read_sound (suc n) at [] l = record { parts = []; stand = refl; listed = refl }
 read_sound (suc n) at (b ∷ bs) l = after_sound n at (b ∷ bs) (front b (b ∷ bs)) (read_sound n) l (front_sound b bs)
 
 -- one step of reading
@@ -72,8 +72,8 @@ read_of zero at bytes r l w = let some = w.some in absurd (omega (arith, l, some
 read_of (suc m) at [] r l w = let some = w.some in absurd (omega (arith, some))
 read_of (suc m) at (b ∷ bs) r l w = let one : suc m ≡ m + 1 = omega arith in (m, one, read-suc (suc m) m at (b ∷ bs) one ∙ ap (after_front (read m) at (b ∷ bs)) w.same)
 
--- Reading goes over pieces that stand in front.
-pub record Passes (n at : ℕ) (bytes rest : List ℕ) (ps : List Piece) : Type 0 where
+-- Reading goes over parts that stand in front.
+pub record Passes (n at : ℕ) (bytes rest : List ℕ) (ps : List Spelled) : Type 0 where
   pub left : ℕ
   pub next : ℕ
   pub enough : length rest ≤ left
@@ -84,35 +84,35 @@ with_none : (r : Result (List Token) Fault) → with_front [] r ≡ r
 with_none (Ok ts) = refl
 with_none (Err e) = refl
 
--- reading goes over a piece in front
-over_piece : (m at : ℕ) (bytes more : List ℕ) (p : Piece) → bytes ≡ p.text ++ more
+-- reading goes over a part in front
+over_part : (m at : ℕ) (bytes more : List ℕ) (p : Spelled) → bytes ≡ p.text ++ more
     → after_front (read m) at bytes (Ok (part_front p.part p.text)) ≡ with_front (token_of p.part at (at + length p.text)) (read m (at + length p.text) more)
-over_piece m at bytes more p e =
+over_part m at bytes more p e =
     let next = at + length p.text in
     let after : drop (length p.text) bytes ≡ more = ap (drop (length p.text)) e ∙ drop_at p.text more (length p.text) refl in
     ap (λ k. with_front k (read m next (drop (length p.text) bytes))) (part_same p.part p.text at next)
     ∙ ap (λ (k : List ℕ). with_front (token_of p.part at next) (read m next k)) after
 
-over_pieces : (ts us : List Token) (r q : Result (List Token) Fault) → r ≡ with_front us q → with_front ts r ≡ with_front (ts ++ us) q
-over_pieces ts us r q e = ap (with_front ts) e ∙ sym (with_front-twice ts us q)
+over_parts : (ts us : List Token) (r q : Result (List Token) Fault) → r ≡ with_front us q → with_front ts r ≡ with_front (ts ++ us) q
+over_parts ts us r q e = ap (with_front ts) e ∙ sym (with_front-twice ts us q)
 
--- over one piece more
-passes_more : (n m at : ℕ) (bytes more rest : List ℕ) (p : Piece) (ps : List Piece) → bytes ≡ p.text ++ more → Passes m (at + length p.text) more rest ps
+-- over one part more
+passes_more : (n m at : ℕ) (bytes more rest : List ℕ) (p : Spelled) (ps : List Spelled) → bytes ≡ p.text ++ more → Passes m (at + length p.text) more rest ps
     → read n at bytes ≡ after_front (read m) at bytes (Ok (part_front p.part p.text)) → Passes n at bytes rest (p ∷ ps)
 passes_more n m at bytes more rest p ps split t step =
     let next = at + length p.text in
     let len : length bytes ≡ length p.text + length more = ap length split ∙ length-append p.text more in
     let place = t.place in
-    let over : read n at bytes ≡ with_front (token_of p.part at next) (read m next more) = step ∙ over_piece m at bytes more p split in
+    let over : read n at bytes ≡ with_front (token_of p.part at next) (read m next more) = step ∙ over_part m at bytes more p split in
     record {
       left = t.left;
       next = t.next;
       enough = t.enough;
       place = omega (arith, place, len);
-      same = over ∙ over_pieces (token_of p.part at next) (tokens_at next ps) (read m next more) (read t.left t.next rest) t.same;
+      same = over ∙ over_parts (token_of p.part at next) (tokens_at next ps) (read m next more) (read t.left t.next rest) t.same;
     }
 
-pub passes : (ps : List Piece) (n at : ℕ) (bytes rest : List ℕ) → length bytes ≤ n → Stand ps bytes rest → Passes n at bytes rest ps
+pub passes : (ps : List Spelled) (n at : ℕ) (bytes rest : List ℕ) → length bytes ≤ n → Stand ps bytes rest → Passes n at bytes rest ps
 passes [] n at bytes rest l s =
     let len = ap length s in
     record { left = n; next = at; enough = omega (arith, len, l); place = omega (arith, len); same = ap (read n at) s ∙ sym (with_none (read n at rest)) }
@@ -128,26 +128,26 @@ passes (p ∷ ps) n at bytes rest l s =
 -- the tokens that bytes have are read
 pub read_tokens : (bytes : List ℕ) (ts : List Token) → Tokens bytes ts → read (length bytes) 0 bytes ≡ Ok ts
 read_tokens bytes ts t =
-    let p = passes t.pieces (length bytes) 0 bytes [] (omega arith) t.stand in
-    p.same ∙ ap (with_front (tokens_at 0 t.pieces)) (read-nil p.left p.next) ∙ ap Ok (append-nil (tokens_at 0 t.pieces) ∙ sym t.listed)
+    let p = passes t.parts (length bytes) 0 bytes [] (omega arith) t.stand in
+    p.same ∙ ap (with_front (tokens_at 0 t.parts)) (read-nil p.left p.next) ∙ ap Ok (append-nil (tokens_at 0 t.parts) ∙ sym t.listed)
 
 -- the first fault of bytes is told
 pub read_fault : (bytes : List ℕ) (at : ℕ) (code : Code) → FirstFault bytes at code → read (length bytes) 0 bytes ≡ Err (at, code)
 read_fault bytes at code f =
-    let p = passes f.pieces (length bytes) 0 bytes f.rest (omega arith) f.stand in
+    let p = passes f.parts (length bytes) 0 bytes f.rest (omega arith) f.stand in
     let step = read_of p.left p.next f.rest (Err (code_of f.wrong)) p.enough (wrong_reads f.wrong f.rest f.fits) in
     let here : p.next ≡ at = (let a = p.place in let b = f.place in omega (arith, a, b)) in
-    p.same ∙ ap (with_front (tokens_at 0 f.pieces)) step.2 ∙ ap (λ k. Err (k, code_of f.wrong)) here ∙ ap (λ k. Err (at, k)) (sym f.told)
+    p.same ∙ ap (with_front (tokens_at 0 f.parts)) step.2 ∙ ap (λ k. Err (k, code_of f.wrong)) here ∙ ap (λ k. Err (at, k)) (sym f.has_code)
 
 -- the answer is what the text has
 pub found : (bytes : List ℕ) (answer : Result (List Token) LexStop) → Tells answer (read (length bytes) 0 bytes) → Found bytes answer
 found bytes (Ok ts) t =
     let s = subst (ReadIs 0 bytes) t (read_sound (length bytes) 0 bytes (omega arith)) in
-    record { pieces = s.pieces; stand = s.stand; listed = s.listed }
+    record { parts = s.parts; stand = s.stand; listed = s.listed }
 found bytes (Err lex.NoMemory) t = tt
 found bytes (Err (lex.Fault at code)) t =
     let s = subst (ReadIs 0 bytes) t (read_sound (length bytes) 0 bytes (omega arith)) in
-    record { pieces = s.pieces; rest = s.rest; wrong = s.wrong; stand = s.stand; fits = s.fits; place = (let p = s.place in omega (arith, p)); told = s.told }
+    record { parts = s.parts; rest = s.rest; wrong = s.wrong; stand = s.stand; fits = s.fits; place = (let p = s.place in omega (arith, p)); has_code = s.has_code }
 
 abbrev SameOk : Result (List Token) Fault → List Token → Type 0
 SameOk (Ok ts) us = us ≡ ts
@@ -167,10 +167,10 @@ ok_not_err : (ts : List Token) (e : Fault) (r : Result (List Token) Fault) → r
 ok_not_err ts e r t u = subst (λ k. SameOk k ts) (sym t ∙ u) refl
 
 has_by : (bytes : List ℕ) (r : Result (List Token) Fault) → ReadIs 0 bytes r → Has bytes r
-has_by bytes (Ok ts) s = record { pieces = s.pieces; stand = s.stand; listed = s.listed }
+has_by bytes (Ok ts) s = record { parts = s.parts; stand = s.stand; listed = s.listed }
 has_by bytes (Err e) s =
     let p = s.place in
-    record { pieces = s.pieces; rest = s.rest; wrong = s.wrong; stand = s.stand; fits = s.fits; place = omega (arith, p); told = s.told }
+    record { parts = s.parts; rest = s.rest; wrong = s.wrong; stand = s.stand; fits = s.fits; place = omega (arith, p); has_code = s.has_code }
 
 -- each text has its tokens or a first fault
 pub has_one : TokensOrFault

@@ -32,7 +32,7 @@ pub record Stands (f : Front) (bytes : List ℕ) : Type 0 where
 pub record Faulty (code : Code) (bytes : List ℕ) : Type 0 where
   pub wrong : Wrong
   pub fits : IsWrong wrong bytes
-  pub told : code ≡ code_of wrong
+  pub has_code : code ≡ code_of wrong
 
 abbrev pub Sound : List ℕ → Result Front Code → Type 0
 Sound bytes (Ok f) = Stands f bytes
@@ -58,7 +58,7 @@ word_sound bytes h =
       some = omega (arith, l, some);
       same = λ from to. refl;
     })
-    (λ e. let many = leb-false n 128 e in record { wrong = LongWord; fits = (take n bytes, drop n bytes, sym (take-append-drop n bytes), w, omega (arith, l, many)); told = refl })
+    (λ e. let many = leb-false n 128 e in record { wrong = LongWord; fits = (take n bytes, drop n bytes, sym (take-append-drop n bytes), w, omega (arith, l, many)); has_code = refl })
 
 number_sound : (bytes : List ℕ) → first_is is_digit bytes ≡ true → Sound bytes (number_front bytes)
 number_sound bytes h =
@@ -77,17 +77,17 @@ number_sound bytes h =
       some = omega (arith, l, some);
       same = λ from to. refl;
     })
-    (λ e. let many = leb-false n 18 e in record { wrong = LongNumber; fits = (take n bytes, drop n bytes, sym (take-append-drop n bytes), w, omega (arith, l, many)); told = refl })
+    (λ e. let many = leb-false n 18 e in record { wrong = LongNumber; fits = (take n bytes, drop n bytes, sym (take-append-drop n bytes), w, omega (arith, l, many)); has_code = refl })
 
 content_sound : (content spelled bytes text more : List ℕ) (n : ℕ) → spelled ≡ content → bytes ≡ text ++ more → IsString content text more → n ≡ length text → 0 < length text
     → Sound bytes (content_front spelled n)
 content_sound content spelled bytes text more n c split w l some =
     subst (λ k. Sound bytes (content_front k n)) (sym c) (cond_both (nat_le (length content) 32767) _ _ (Sound bytes)
     (λ e. record { part = Lexeme (kind.Text content); text = text; more = more; split = split; fits = (w, leb-true _ _ e); long = l; some = some; same = λ from to. refl })
-    (λ e. record { wrong = LongString; fits = (content, text, more, split, w, leb-false _ _ e); told = refl }))
+    (λ e. record { wrong = LongString; fits = (content, text, more, split, w, leb-false _ _ e); has_code = refl }))
 
 text_sound : (bytes : List ℕ) (r : Option ℕ) → StringAt false 0 bytes r → Sound (39 ∷ bytes) (text_of bytes r)
-text_sound bytes None s = record { wrong = OpenString; fits = (s.0, ap (λ k. 39 ∷ k) s.1); told = refl }
+text_sound bytes None s = record { wrong = OpenString; fits = (s.0, ap (λ k. 39 ∷ k) s.1); has_code = refl }
 text_sound bytes (Some m) s =
     let d = doubled s.0 in
     let at : m - 1 ≡ length d = omega (arith, s.4) in
@@ -121,7 +121,7 @@ line_sound bytes e =
     }
 
 comment_sound : (bytes rest : List ℕ) (r : Option ℕ) → bytes ≡ 47 ∷ 42 ∷ rest → CommentAt false 0 rest r → Sound bytes (comment_of r)
-comment_sound bytes rest None e s = record { wrong = OpenComment; fits = (rest, e, s); told = refl }
+comment_sound bytes rest None e s = record { wrong = OpenComment; fits = (rest, e, s); has_code = refl }
 comment_sound bytes rest (Some m) e s =
     let len : length (s.0 ++ 47 ∷ []) ≡ length s.0 + 1 = length-append s.0 (47 ∷ []) in
     record {
@@ -156,7 +156,7 @@ symbol_fits (a ∷ b ∷ bs) =
 
 symbol_sound : (bytes : List ℕ) (r : Option (Symbol × ℕ)) → first_is is_other bytes ≡ true → begins_comment bytes ≡ false → symbol_of bytes ≡ r → Fits r (length bytes)
     → Sound bytes (symbol_found r)
-symbol_sound bytes None o c e f = record { wrong = OtherByte; fits = record { other = o; plain = c; none = e }; told = refl }
+symbol_sound bytes None o c e f = record { wrong = OtherByte; fits = record { other = o; plain = c; none = e }; has_code = refl }
 symbol_sound bytes (Some s) o c e f =
     let n = s.1 in
     let l : length (take n bytes) ≡ n = length-take-le n bytes f.1 in

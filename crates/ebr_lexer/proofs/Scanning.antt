@@ -7,7 +7,8 @@ use Rattle.ebr_lexer.specs.declared.token.Front.{Front}
 use Rattle.ebr_lexer.specs.declared.token.LexStop.{LexStop}
 use Rattle.ebr_lexer.specs.declared.token.LexStop.TheVariants as lex
 use Rattle.ebr_lexer.specs.Lexis.{Fault, Tells}
-use Rattle.ebr_lexer.specs.Reading.{Places, front, read, read_then, after_front, with_front, token_there}
+use Rattle.ebr_lexer.specs.inside.Places.{Places}
+use Rattle.ebr_lexer.specs.Reading.{front, read, read_then, after_front, with_front, token_there}
 
 pub read-zero : (n at : ℕ) (rest : List ℕ) → n ≡ 0 → read n at rest ≡ Ok []
 unfolding read
@@ -37,7 +38,7 @@ pub tells_end : (ts : List Token) (n at : ℕ) (rest : List ℕ) (r : Result (Li
 tells_end ts n at rest r e z =
     sym e ∙ ap (λ (k : List ℕ). with_front ts (read n at k)) (nil_from_length rest z) ∙ ap (with_front ts) (read-nil n at) ∙ ap Ok (append-nil ts)
 
--- so many pieces were read
+-- so many parts were read
 pub tells_all : (ts : List Token) (n i at : ℕ) (rest : List ℕ) (r : Result (List Token) Fault) → with_front ts (read (n - i) at rest) ≡ r → n ≤ i → r ≡ Ok ts
 tells_all ts n i at rest r e l = sym e ∙ ap (with_front ts) (read-zero (n - i) at rest (omega arith)) ∙ ap Ok (append-nil ts)
 
@@ -50,7 +51,7 @@ pub with_front-twice : (ts us : List Token) (r : Result (List Token) Fault) → 
 with_front-twice ts us (Ok vs) = ap Ok (append_assoc ts us vs)
 with_front-twice ts us (Err e) = refl
 
--- one more piece
+-- one more part
 pub tells_more : (ts more : List Token) (n i at next : ℕ) (bytes rest : List ℕ) (f : Front) (r : Result (List Token) Fault) → i < n
     → with_front ts (read (n - i) at (drop at bytes)) ≡ r → rest ≡ drop at bytes → 0 < length rest → front (get_or rest 0 0) rest ≡ Ok f → next ≡ at + f.length
     → more ≡ ts ++ token_there f.what at next → with_front more (read (n - (i + 1)) next (drop next bytes)) ≡ r

@@ -3,7 +3,8 @@ use Rattle.std.proofs.Common.{ℕ, suc, ◌≡◌, ◌+◌, Bool, true, false, �
 use Rattle.std.proofs.lemmas.List.{length-append}
 use Rattle.std.proofs.lemmas.Bool.{and_parts, or_from, or_right, or_parts, eqb-true, false≢true, cond-true, cond-false, cond_both, not_from_false}
 use Rattle.ebr_lexer.specs.Lexis.{first_is, is_quote, is_star, is_slash, quoted, doubled, has_end}
-use Rattle.ebr_lexer.specs.Reading.{string_length, undoubled, comment_length}
+use Rattle.ebr_lexer.specs.Extents.{string_length, comment_length}
+use Rattle.ebr_lexer.specs.Reading.{undoubled}
 
 -- the bytes, with the quote before them that may be a doubled one
 abbrev held : Bool → List ℕ → List ℕ

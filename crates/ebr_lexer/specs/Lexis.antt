@@ -130,12 +130,12 @@ IsPart BlockComment text more = IsBlockComment text
 IsPart (Lexeme k) text more = IsLexeme k text more
 
 -- a part and its bytes
-pub record Piece : Type 0 where
+pub record Spelled : Type 0 where
   pub part : Part
   pub text : List ℕ
 
--- The bytes are these pieces, one after the other, and then `rest`.
-abbrev pub Stand : List Piece → List ℕ → List ℕ → Type 0
+-- The bytes are these parts, one after the other, and then `rest`.
+abbrev pub Stand : List Spelled → List ℕ → List ℕ → Type 0
 Stand [] bytes rest = bytes ≡ rest
 Stand (p ∷ ps) bytes rest = (more : List ℕ) × (bytes ≡ p.text ++ more) × IsPart p.part p.text more × Stand ps more rest
 
@@ -144,16 +144,16 @@ abbrev pub token_of : Part → ℕ → ℕ → List Token
 token_of (Lexeme k) from to = record { from = from; to = to; what = k } ∷ []
 token_of part from to = []
 
--- the tokens among pieces of which the first begins at a place
-abbrev pub tokens_at : ℕ → List Piece → List Token
+-- the tokens among parts of which the first begins at a place
+abbrev pub tokens_at : ℕ → List Spelled → List Token
 tokens_at at [] = []
 tokens_at at (p ∷ ps) = token_of p.part at (at + length p.text) ++ tokens_at (at + length p.text) ps
 
--- The text has these tokens: it consists of pieces, and these are its tokens.
+-- The text has these tokens: it consists of parts, and these are its tokens.
 pub record Tokens (bytes : List ℕ) (tokens : List Token) : Type 0 where
-  pub pieces : List Piece
-  pub stand : Stand pieces bytes []
-  pub listed : tokens ≡ tokens_at 0 pieces
+  pub parts : List Spelled
+  pub stand : Stand parts bytes []
+  pub listed : tokens ≡ tokens_at 0 parts
 
 -- a token that is not empty and stands within the text
 abbrev pub LiesWithin : List ℕ → Token → Type 0
@@ -195,15 +195,15 @@ IsWrong LongNumber bytes = (text more : List ℕ) × (bytes ≡ text ++ more) ×
 IsWrong LongWord bytes = (text more : List ℕ) × (bytes ≡ text ++ more) × IsWord text more × (128 < length text)
 IsWrong LongString bytes = (content text more : List ℕ) × (bytes ≡ text ++ more) × IsString content text more × (32767 < length content)
 
--- The text's first fault: pieces stand up to its place, and there something is wrong.
+-- The text's first fault: parts stand up to its place, and there something is wrong.
 pub record FirstFault (bytes : List ℕ) (at : ℕ) (code : Code) : Type 0 where
-  pub pieces : List Piece
+  pub parts : List Spelled
   pub rest : List ℕ
   pub wrong : Wrong
-  pub stand : Stand pieces bytes rest
+  pub stand : Stand parts bytes rest
   pub fits : IsWrong wrong rest
   pub place : at + length rest ≡ length bytes
-  pub told : code ≡ code_of wrong
+  pub has_code : code ≡ code_of wrong
 
 -- The answer is what the text has: its tokens, or its first fault. Want of memory says nothing.
 abbrev pub Found : List ℕ → Result (List Token) LexStop → Type 0
@@ -217,9 +217,9 @@ Fault = ℕ × Code
 
 -- The answer is these tokens, or this fault, unless memory ran out.
 abbrev pub Tells : Result (List Token) LexStop → Result (List Token) Fault → Type 0
-Tells (Ok ts) told = told ≡ Ok ts
-Tells (Err lex.NoMemory) told = Unit {0}
-Tells (Err (lex.Fault at code)) told = told ≡ Err (at, code)
+Tells (Ok ts) wanted = wanted ≡ Ok ts
+Tells (Err lex.NoMemory) wanted = Unit {0}
+Tells (Err (lex.Fault at code)) wanted = wanted ≡ Err (at, code)
 
 -- The laws of tokens and first faults.
 abbrev pub OneReading : Type 0

@@ -1,3 +1,5 @@
 pub mod Symbols
 pub mod Lexis
+pub mod Extents
 pub mod Reading
+pub mod inside

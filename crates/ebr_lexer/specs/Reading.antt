@@ -1,5 +1,5 @@
 -- Reading the tokens from left to right, up to the first fault.
-use Rattle.std.specs.Prelude.{◌≡◌, ℕ, zero, suc, ◌+◌, ◌-◌, nat_le, Bool, true, false, not, ◌&&◌, if◌then◌else◌, List, [], ◌∷◌, ◌++◌, map, length, take, drop, Option, Some, None, Result, Ok, Err}
+use Rattle.std.specs.Prelude.{ℕ, zero, suc, ◌+◌, ◌-◌, nat_le, Bool, true, false, not, ◌&&◌, if◌then◌else◌, List, [], ◌∷◌, ◌++◌, map, length, take, drop, Option, Some, None, Result, Ok, Err}
 use Rattle.std.specs.List.{prefix_len}
 use Rattle.ebr_base.specs.Word.{is_letter, is_word_byte, is_white, is_digit, upper}
 use Rattle.ebr_base.specs.declared.code.Code.{Code}
@@ -9,18 +9,9 @@ use Rattle.ebr_lexer.specs.declared.token.Token.{Token}
 use Rattle.ebr_lexer.specs.declared.token.TokenKind.{TokenKind}
 use Rattle.ebr_lexer.specs.declared.token.TokenKind.TheVariants as kind
 use Rattle.ebr_lexer.specs.declared.token.Front.{Front}
-use Rattle.ebr_lexer.specs.declared.token.Stop.{Stop}
-use Rattle.ebr_lexer.specs.declared.token.Stop.TheVariants as stop
-use Rattle.ebr_lexer.specs.declared.token.LexStop.{LexStop}
-use Rattle.ebr_lexer.specs.declared.token.LexStop.TheVariants as lex
 use Rattle.ebr_lexer.specs.Symbols.{symbol_of}
-use Rattle.ebr_lexer.specs.Lexis.{is_quote, is_star, is_slash, in_line, begins, decimal, Fault}
-
--- What a function returned is what reading gives, unless memory ran out.
-abbrev pub Gives : Result Front Stop → Result Front Code → Type 0
-Gives (Ok f) read = read ≡ Ok f
-Gives (Err stop.NoMemory) read = Unit {0}
-Gives (Err (stop.Fault code)) read = read ≡ Err code
+use Rattle.ebr_lexer.specs.Lexis.{is_quote, in_line, begins, decimal, Fault}
+use Rattle.ebr_lexer.specs.Extents.{string_length, comment_length}
 
 abbrev pub blank : ℕ → Front
 blank n = record { what = None; length = n }
@@ -35,13 +26,6 @@ word_front bytes = let n = prefix_len is_word_byte bytes in
 abbrev pub number_front : List ℕ → Result Front Code
 number_front bytes = let n = prefix_len is_digit bytes in
     if nat_le n 18 then Ok (lexeme (kind.Number (decimal (take n bytes))) n) else Err (Ebr 22)
-
--- How many bytes there are up to the closing quote and with it, and n before them; `pending` tells that a quote
--- stands just before, which is the closing one if no other follows.
-abbrev pub string_length : Bool → ℕ → List ℕ → Option ℕ
-string_length pending n [] = if pending then Some n else None
-string_length pending n (b ∷ bs) =
-    if pending && not (is_quote b) then Some n else string_length (is_quote b && not pending) (suc n) bs
 
 -- the content that is spelled so, of two quotes the second
 abbrev pub undoubled : Bool → List ℕ → List ℕ
@@ -58,11 +42,6 @@ text_of bytes (Some n) = content_front (undoubled false (take (n - 1) bytes)) (n
 -- the string whose opening quote stands just before
 abbrev pub text_front : List ℕ → Result Front Code
 text_front bytes = text_of bytes (string_length false 0 bytes)
-
--- how many bytes there are up to the next `*/` and with it, and n before them; `star` tells that a `*` stands just before
-abbrev pub comment_length : Bool → ℕ → List ℕ → Option ℕ
-comment_length star n [] = None
-comment_length star n (b ∷ bs) = if star && is_slash b then Some (suc n) else comment_length (is_star b) (suc n) bs
 
 abbrev pub comment_of : Option ℕ → Result Front Code
 comment_of None = Err (Ebr 21)
@@ -114,13 +93,7 @@ abbrev pub read_then : (ℕ → List ℕ → Result (List Token) Fault) → ℕ 
 read_then k at [] = Ok []
 read_then k at (b ∷ bs) = after_front k at (b ∷ bs) (front b (b ∷ bs))
 
--- the tokens of bytes that begin at a place, of at most so many pieces
+-- the tokens of bytes that begin at a place, of at most so many parts
 unfoldable pub read : ℕ → ℕ → List ℕ → Result (List Token) Fault
 read zero at bytes = Ok []
 read (suc n) at bytes = read_then (read n) at bytes
-
--- What a function returned is what reading gives in front of bytes at a place, unless memory ran out.
-abbrev pub Places : ℕ → Result Front LexStop → Result Front Code → Type 0
-Places at (Ok f) read = read ≡ Ok f
-Places at (Err lex.NoMemory) read = Unit {0}
-Places at (Err (lex.Fault there code)) read = (there ≡ at) × (read ≡ Err code)

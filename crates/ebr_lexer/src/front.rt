@@ -1,23 +1,25 @@
 //! What stands in front of a text.
 
 ghost use Rattle.std.specs.Prelude.{◌≡◌, ◌≤◌, ◌<◌, length, slice_index, IfOk};
-ghost use Rattle.ebr_lexer.specs.Reading.{front, other_front, Gives};
+ghost use Rattle.ebr_base.specs.Answers.{Answers};
+ghost use Rattle.ebr_lexer.specs.Reading.{front, other_front};
 
-use crate::blank::{begins, blank, comment_front, line_front};
+use crate::blank::{blank, comment_front, line_front};
+use crate::extent::{begins, is_quote};
 use crate::number::{is_digit, number_front};
 use crate::symbol::symbol_front;
-use crate::text::{is_quote, text_front};
-use crate::token::{Front, Stop};
+use crate::text::text_front;
+use crate::token::Front;
 use crate::word::word_front;
-use ebr_base::{is_letter, is_white};
+use ebr_base::{MAX_COUNT, Stop, is_letter, is_white};
 use std::alloc::Global;
 
 /// What stands in front.
 #[tactic(auto, using(crate::proofs::Runs::first_is_at), unfolding(crate::specs::Reading::front))]
 pub fn front(alloc: Global, bytes: &[u8]) -> Result<Front, Stop>
     requires some { 0 < length bytes.now }
-    requires small { length bytes.now < 4294967295 }
-    ensures value { Gives result (front (slice_index bytes.now 0) bytes.now) }
+    requires small { length bytes.now < MAX_COUNT }
+    ensures value { Answers result (front (slice_index bytes.now 0) bytes.now) }
     ensures within { IfOk result (λ f. f.length ≤ length bytes.now) }
     ensures some { IfOk result (λ f. 0 < f.length) }
 {
@@ -39,8 +41,8 @@ pub fn front(alloc: Global, bytes: &[u8]) -> Result<Front, Stop>
 
 /// The comment or symbol in front.
 fn other_front(bytes: &[u8]) -> Result<Front, Stop>
-    requires { length bytes.now < 4294967295 }
-    ensures value { Gives result (other_front bytes.now) }
+    requires { length bytes.now < MAX_COUNT }
+    ensures value { Answers result (other_front bytes.now) }
     ensures within { IfOk result (λ f. f.length ≤ length bytes.now) }
     ensures some { IfOk result (λ f. 0 < f.length) }
 {

@@ -4,10 +4,11 @@ ghost use Rattle.std.specs.Prelude.{◌≡◌, ◌≤◌, ◌<◌, length, true,
 ghost use Rattle.std.specs.List.{prefix_len, list_all};
 ghost use Rattle.ebr_base.specs.Word.{is_digit};
 ghost use Rattle.ebr_lexer.specs.Lexis.{decimal, first_is};
-ghost use Rattle.ebr_lexer.specs.Reading.{number_front, Gives};
+ghost use Rattle.ebr_base.specs.Answers.{Answers};
+ghost use Rattle.ebr_lexer.specs.Reading.{number_front};
 
-use crate::token::{Front, Stop, TokenKind};
-use ebr_base::Code;
+use crate::token::{Front, TokenKind};
+use ebr_base::{Code, Stop};
 
 /// The most digits that a number has.
 const MAX_DIGITS: usize = 18;
@@ -23,13 +24,13 @@ pub fn is_digit(byte: u8) -> bool
 #[tactic(auto, using(crate::proofs::Runs::prefix_some))]
 pub fn number_front(bytes: &[u8]) -> Result<Front, Stop>
     requires { first_is is_digit bytes.now ≡ true }
-    ensures value { Gives result (number_front bytes.now) }
+    ensures value { Answers result (number_front bytes.now) }
     ensures within { IfOk result (λ f. f.length ≤ length bytes.now) }
     ensures some { IfOk result (λ f. 0 < f.length) }
 {
     let length = digit_count(bytes);
     if length > MAX_DIGITS {
-        return Err(Stop::Fault(Code::Ebr(22)));
+        return Err(Stop::Raised(Code::Ebr(22)));
     }
     Ok(Front {
         what: Some(TokenKind::Number(decimal(&bytes[..length]))),

@@ -1,14 +1,15 @@
 //! The tokens of a text.
 
-ghost use Rattle.std.specs.Prelude.{◌≡◌, ◌≤◌, ◌<◌, ◌+◌, ◌++◌, length, drop, slice_index, List as Sequence, ℕ, Ok, Err, IfOk, OnOk, All, AllPairs};
+ghost use Rattle.std.specs.Prelude.{◌≡◌, ◌≤◌, ◌<◌, ◌+◌, ◌++◌, length, slice_index, List as Sequence, ℕ, Ok, Err, IfOk, OnOk, All, AllPairs};
 ghost use Rattle.ebr_base.specs.declared.code.Code.{Code};
 ghost use Rattle.ebr_lexer.specs.declared.token.Token.{Token};
 ghost use Rattle.ebr_lexer.specs.Lexis.{Tokens, FirstFault, Found, Tells, LiesWithin, Precedes};
-ghost use Rattle.ebr_lexer.specs.Reading.{front, read, token_there, Places};
+ghost use Rattle.ebr_lexer.specs.Reading.{front, read, token_there};
+ghost use Rattle.ebr_lexer.specs.inside.Places.{Places};
 
 use crate::front::front;
-use crate::token::{Front, LexStop, Stop, Token, TokenKind};
-use ebr_base::{List, NoMemory};
+use crate::token::{Front, LexStop, Token, TokenKind};
+use ebr_base::{List, MAX_COUNT, NoMemory, Stop, rest_from};
 use std::alloc::Global;
 
 /// The tokens of a text, in order, or its first fault.
@@ -17,7 +18,7 @@ use std::alloc::Global;
 ///
 /// Oracle Database PL/SQL Language Reference 19c, Lexical Units.
 pub fn lex(alloc: Global, bytes: &[u8]) -> Result<List<Token>, LexStop>
-    requires { length bytes.now < 4294967295 }
+    requires { length bytes.now < MAX_COUNT }
     // What is read is what the text has, and a fault is its first.
     ensures found { Found bytes.now result }
     // No token is empty; each stands within the text, and ends before the next begins.
@@ -33,37 +34,29 @@ pub fn lex(alloc: Global, bytes: &[u8]) -> Result<List<Token>, LexStop>
 
 /// Reads from left to right.
 fn scan(alloc: Global, bytes: &[u8]) -> Result<List<Token>, LexStop>
-    requires { length bytes.now < 4294967295 }
+    requires { length bytes.now < MAX_COUNT }
     ensures { Tells result (read (length bytes.now) 0 bytes.now) }
 {
     let mut tokens = List::new(alloc);
     let mut place = 0;
     for _ in 0..bytes.len() {
-        let rest = after(bytes, place);
+        let rest = rest_from(bytes, place);
         if rest.is_empty() {
             return Ok(tokens);
         }
         let Front { what, length } = front_at(alloc, place, rest)?;
         let from = place;
         place = from + length;
-        keep(&mut tokens, what, from, place)?;
+        add_token(&mut tokens, what, from, place)?;
     }
     Ok(tokens)
 }
 
-/// What stands from a place on.
-fn after(bytes: &[u8], place: usize) -> &[u8]
-    requires { place ≤ length bytes.now }
-    ensures { result.now ≡ drop place bytes.now }
-{
-    &bytes[place..]
-}
-
 /// What stands in front of bytes that begin at a place.
 fn front_at(alloc: Global, at: usize, bytes: &[u8]) -> Result<Front, LexStop>
-    requires place { at < 4294967295 }
+    requires place { at < MAX_COUNT }
     requires some { 0 < length bytes.now }
-    requires small { length bytes.now < 4294967295 }
+    requires small { length bytes.now < MAX_COUNT }
     ensures value { Places at result (front (slice_index bytes.now 0) bytes.now) }
     ensures within { IfOk result (λ f. f.length ≤ length bytes.now) }
     ensures some { IfOk result (λ f. 0 < f.length) }
@@ -71,7 +64,7 @@ fn front_at(alloc: Global, at: usize, bytes: &[u8]) -> Result<Front, LexStop>
     match front(alloc, bytes) {
         Ok(front) => Ok(front),
         Err(Stop::NoMemory) => Err(LexStop::NoMemory),
-        Err(Stop::Fault(code)) => Err(LexStop::Fault {
+        Err(Stop::Raised(code)) => Err(LexStop::Fault {
             at: at as u32,
             code,
         }),
@@ -79,13 +72,13 @@ fn front_at(alloc: Global, at: usize, bytes: &[u8]) -> Result<Front, LexStop>
 }
 
 /// Adds the token that stands from one place to another, if there is one.
-fn keep(
+fn add_token(
     tokens: &mut List<Token>,
     what: Option<TokenKind>,
     from: usize,
     to: usize,
 ) -> Result<(), NoMemory>
-    requires small { to < 4294967296 }
+    requires small { to ≤ MAX_COUNT }
     requires ordered { from ≤ to }
     ensures { OnOk result (tokens.new ≡ tokens.old ++ token_there what from to) }
 {

@@ -2,10 +2,11 @@
 
 ghost use Rattle.std.specs.Prelude.{◌≡◌, ◌≤◌, ◌<◌, length, IfOk};
 ghost use Rattle.ebr_lexer.specs.Symbols.{single, double, alone, symbol_of};
-ghost use Rattle.ebr_lexer.specs.Reading.{symbol_front, Gives};
+ghost use Rattle.ebr_base.specs.Answers.{Answers};
+ghost use Rattle.ebr_lexer.specs.Reading.{symbol_front};
 
-use crate::token::{Front, Stop, TokenKind};
-use ebr_base::Code;
+use crate::token::{Front, TokenKind};
+use ebr_base::{Code, Stop};
 
 /// A delimiter.
 ///
@@ -56,7 +57,7 @@ pub enum Symbol {
 
 /// The symbol in front.
 pub fn symbol_front(bytes: &[u8]) -> Result<Front, Stop>
-    ensures value { Gives result (symbol_front bytes.now) }
+    ensures value { Answers result (symbol_front bytes.now) }
     ensures within { IfOk result (λ f. f.length ≤ length bytes.now) }
     ensures some { IfOk result (λ f. 0 < f.length) }
 {
@@ -65,7 +66,7 @@ pub fn symbol_front(bytes: &[u8]) -> Result<Front, Stop>
             what: Some(TokenKind::Symbol(symbol)),
             length,
         }),
-        None => Err(Stop::Fault(Code::Ebr(20))),
+        None => Err(Stop::Raised(Code::Ebr(20))),
     }
 }
 

@@ -3,7 +3,7 @@
 ghost use Rattle.std.specs.Prelude.{◌<◌, length};
 
 use crate::{LexStop, Symbol, TokenKind, lex};
-use ebr_base::{Bytes, Code, NoMemory};
+use ebr_base::{Bytes, Code, MAX_COUNT, NoMemory};
 use std::alloc::Global;
 use std::process::Abort;
 use std::test::Fail;
@@ -33,7 +33,7 @@ fn is_kind(found: &TokenKind, kind: Kind) -> bool {
 }
 
 fn check(rt: &impl Abort, alloc: Global, text: &[u8], rows: &[Row]) -> Result<(), NoMemory>
-    requires { length text.now < 4294967295 }
+    requires { length text.now < MAX_COUNT }
 {
     let tokens = match lex(alloc, text) {
         Ok(tokens) => tokens,
@@ -55,7 +55,7 @@ fn fails(
     place: u32,
     number: u32,
 ) -> Result<(), NoMemory>
-    requires { length text.now < 4294967295 }
+    requires { length text.now < MAX_COUNT }
 {
     match lex(alloc, text) {
         Ok(tokens) => panic!(rt; "{tokens:?} of {text:?}"),

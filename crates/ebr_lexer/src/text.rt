@@ -1,67 +1,44 @@
 //! Strings.
 
-ghost use Rattle.std.specs.Prelude.{◌≡◌, ◌≤◌, ◌<◌, ◌+◌, length, false, IfSome, IfOk};
-ghost use Rattle.ebr_lexer.specs.Lexis.{is_quote};
-ghost use Rattle.ebr_lexer.specs.Reading.{string_length, undoubled, content_front, text_front, Gives};
+ghost use Rattle.std.specs.Prelude.{◌≡◌, ◌≤◌, ◌<◌, ◌+◌, length, false, IfOk};
+ghost use Rattle.ebr_base.specs.Answers.{Answers};
+ghost use Rattle.ebr_lexer.specs.Reading.{undoubled, content_front, text_front};
 
-use crate::token::{Front, Stop, TokenKind};
-use ebr_base::{Bytes, Code, NoMemory};
+use crate::extent::{is_quote, string_length};
+use crate::token::{Front, TokenKind};
+use ebr_base::{Bytes, Code, MAX_COUNT, NoMemory, Stop};
 use std::alloc::Global;
 
 /// The most bytes that a string's content has.
 const MAX_CONTENT: usize = 32767;
 
-/// Whether a byte is a quote.
-pub fn is_quote(byte: u8) -> bool
-    ensures { result ≡ is_quote byte }
-{
-    byte == b'\''
-}
-
 /// The string whose opening quote stands just before.
 pub fn text_front(alloc: Global, bytes: &[u8]) -> Result<Front, Stop>
-    requires { length bytes.now < 4294967295 }
-    ensures value { Gives result (text_front bytes.now) }
+    requires { length bytes.now < MAX_COUNT }
+    ensures value { Answers result (text_front bytes.now) }
     ensures within { IfOk result (λ f. f.length ≤ length bytes.now + 1) }
     ensures some { IfOk result (λ f. 0 < f.length) }
 {
     match string_length(bytes) {
         Some(length) => content_front(alloc, &bytes[..length - 1], length),
-        None => Err(Stop::Fault(Code::Ebr(21))),
+        None => Err(Stop::Raised(Code::Ebr(21))),
     }
 }
 
 /// The string that is spelled so, where it has so many bytes behind its opening quote.
 fn content_front(alloc: Global, spelled: &[u8], length: usize) -> Result<Front, Stop>
-    requires { length < 4294967296 }
-    ensures value { Gives result (content_front (undoubled false spelled.now) (length + 1)) }
+    requires { length ≤ MAX_COUNT }
+    ensures value { Answers result (content_front (undoubled false spelled.now) (length + 1)) }
     ensures length { IfOk result (λ f. f.length ≡ length + 1) }
 {
     if content_length(spelled) > MAX_CONTENT {
-        return Err(Stop::Fault(Code::Ebr(24)));
+        return Err(Stop::Raised(Code::Ebr(24)));
     }
     let content = undoubled(alloc, spelled)?;
     Ok(Front {
         what: Some(TokenKind::Text(content)),
         length: length + 1,
     })
-}
-
-/// How many bytes there are up to the closing quote and with it.
-fn string_length(bytes: &[u8]) -> Option<usize>
-    ensures value { result ≡ string_length false 0 bytes.now }
-    ensures within { IfSome result (λ n. n ≤ length bytes.now) }
-    ensures some { IfSome result (λ n. 0 < n) }
-{
-    let mut pending = false;
-    for (i, byte) in bytes.iter().enumerate() {
-        let quote = is_quote(*byte);
-        if pending && !quote {
-            return Some(i);
-        }
-        pending = quote && !pending;
-    }
-    if pending { Some(bytes.len()) } else { None }
 }
 
 /// How many bytes the content has that is spelled so.

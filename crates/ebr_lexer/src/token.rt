@@ -52,24 +52,6 @@ impl From<NoMemory> for LexStop {
     }
 }
 
-/// Why nothing is read in front of a text.
-#[derive(Clone, Copy, Debug, PartialEq, Eq)]
-pub enum Stop {
-    Fault(Code),
-    NoMemory,
-}
-
-impl From<NoMemory> for Stop {
-    ghost use Rattle.std.specs.Prelude.{◌≡◌};
-    ghost use Rattle.ebr_lexer.specs.declared.token.Stop.TheVariants.{NoMemory};
-
-    ghost from_gives = { λ _ e. e ≡ NoMemory };
-
-    fn from(_: NoMemory) -> Stop {
-        Stop::NoMemory
-    }
-}
-
 /// What stands in front of a text, and how many bytes it takes: a token, or none where it is a
 /// white byte or a comment.
 #[derive(Debug, Drop)]

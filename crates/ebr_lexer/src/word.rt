@@ -4,10 +4,11 @@ ghost use Rattle.std.specs.Prelude.{◌≡◌, ◌≤◌, ◌<◌, length, true,
 ghost use Rattle.std.specs.List.{prefix_len};
 ghost use Rattle.ebr_base.specs.Word.{is_letter, is_word_byte};
 ghost use Rattle.ebr_lexer.specs.Lexis.{first_is};
-ghost use Rattle.ebr_lexer.specs.Reading.{word_front, Gives};
+ghost use Rattle.ebr_base.specs.Answers.{Answers};
+ghost use Rattle.ebr_lexer.specs.Reading.{word_front};
 
-use crate::token::{Front, Stop, TokenKind};
-use ebr_base::{Code, is_word_byte, to_upper_case};
+use crate::token::{Front, TokenKind};
+use ebr_base::{Code, Stop, is_word_byte, to_upper_case};
 use std::alloc::Global;
 
 /// The most bytes that a word has.
@@ -17,13 +18,13 @@ const MAX_WORD: usize = 128;
 #[tactic(auto, using(crate::proofs::Runs::word_some))]
 pub fn word_front(alloc: Global, bytes: &[u8]) -> Result<Front, Stop>
     requires { first_is is_letter bytes.now ≡ true }
-    ensures value { Gives result (word_front bytes.now) }
+    ensures value { Answers result (word_front bytes.now) }
     ensures within { IfOk result (λ f. f.length ≤ length bytes.now) }
     ensures some { IfOk result (λ f. 0 < f.length) }
 {
     let length = word_length(bytes);
     if length > MAX_WORD {
-        return Err(Stop::Fault(Code::Ebr(23)));
+        return Err(Stop::Raised(Code::Ebr(23)));
     }
     let word = to_upper_case(alloc, &bytes[..length])?;
     Ok(Front {

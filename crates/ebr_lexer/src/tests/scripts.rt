@@ -4,7 +4,7 @@ ghost use Rattle.std.specs.Prelude.{◌<◌, length};
 
 use crate::tests::{Kind, fails, is_kind};
 use crate::{LexStop, Symbol, lex};
-use ebr_base::NoMemory;
+use ebr_base::{MAX_COUNT, NoMemory};
 use std::alloc::Global;
 use std::process::Abort;
 use std::test::Fail;
@@ -19,7 +19,7 @@ const SEMICOLON: Kind = Kind::Symbol(Symbol::Semicolon);
 
 /// The text has tokens of these kinds.
 fn reads(rt: &impl Abort, alloc: Global, text: &[u8], kinds: &[Kind]) -> Result<(), NoMemory>
-    requires { length text.now < 4294967295 }
+    requires { length text.now < MAX_COUNT }
 {
     let tokens = match lex(alloc, text) {
         Ok(tokens) => tokens,

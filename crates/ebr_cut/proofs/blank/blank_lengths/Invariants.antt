@@ -1,5 +1,5 @@
 use Rattle.std.proofs.Common.{◌≡◌, ◌+◌, ◌-◌, length, drop}
-use Rattle.ebr_cut.specs.Reading.{Sees}
+use Rattle.ebr_cut.specs.inside.Ahead.{Sees}
 use Rattle.ebr_cut.proofs.Lengths.{KnowsLast}
 use Rattle.ebr_cut.proofs.blank.blank_lengths.Given as goal
 

@@ -1,6 +1,6 @@
 use Rattle.std.proofs.Common.{◌≡◌, ◌<◌, drop, true, false}
-use Rattle.ebr_lexer.specs.Reading.{string_length}
-use Rattle.ebr_lexer.proofs.text.string_length.Given as goal
+use Rattle.ebr_lexer.specs.Extents.{string_length}
+use Rattle.ebr_lexer.proofs.extent.string_length.Given as goal
 
 abbrev pub invariant-loop-i : goal.invariant-loop-i
 invariant-loop-i l = record {
