@@ -1,5 +1,10 @@
 //! The outside: what the server reads from and writes to, as traits, their forms in memory, and those
 //! that are files and the standard output.
+//!
+//! The crates above use the contracts of the traits `Host`, `Source` and `Sink`: a failure comes only where the
+//! object's count of faults rose, and what a host, source or sink that tells its bytes gave or took is known.
+//!
+//! Tests alone show what files and the standard output do.
 #![tactic(auto)]
 
 mod count;

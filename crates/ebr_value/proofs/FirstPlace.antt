@@ -17,7 +17,7 @@ list-same (x ∷ xs) = and_from (nat_eq x x) (pointwise nat_eq xs xs) (eq-eqb x 
 begins_is : (y rest : List ℕ) → starts_with nat_eq rest y ≡ true → rest ≡ y ++ drop (length y) rest
 begins_is y rest h = sym (take-append-drop (length y) rest) ∙ ap (λ xs. xs ++ drop (length y) rest) (sym (same_text y (take (length y) rest) (sym h)))
 
-begins_with : (y after : List ℕ) → starts_with nat_eq (y ++ after) y ≡ true
+pub begins_with : (y after : List ℕ) → starts_with nat_eq (y ++ after) y ≡ true
 begins_with y after = ap (pointwise nat_eq y) (take-append_seam y after) ∙ list-same y
 
 -- a place that was found, and one that comes before it

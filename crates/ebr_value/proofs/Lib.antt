@@ -3,4 +3,5 @@ pub mod Places
 pub mod FirstPlace
 pub mod Numbers
 pub mod Numerals
-pub mod Told
+pub mod Relations
+pub mod Search

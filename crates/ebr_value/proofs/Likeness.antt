@@ -6,7 +6,7 @@ use Rattle.std.proofs.Common.{not, length-take, length-drop, take_all, drop-drop
 use Rattle.ebr_value.proofs.Places.{place_none}
 use Rattle.std.proofs.lemmas.Bool.{and_parts, and_from, and_left, or_cases, or_left, or_right, not-true, leb-true, le-leb, lt-leb, eqb-true, eq-eqb, cases_Bool, cases_lt, cases_order, and_right, false_from_ne_true, cond-true, cond-false, false≢true}
 use Rattle.ebr_value.specs.Patterns.{StandsFor, IsLike, suffixes, is_empty, after_one, like}
-use Rattle.ebr_value.specs.Parts.{in_part, fits}
+use Rattle.ebr_value.specs.inside.Parts.{in_part, fits}
 use Rattle.ebr_value.specs.Places.{first_place}
 
 -- two tests that pass together are equal

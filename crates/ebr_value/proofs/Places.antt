@@ -8,7 +8,8 @@ use Rattle.std.proofs.lemmas.Bool.{cond-true, cond-false, cases_Bool, cases_lt, 
 use Rattle.std.specs.List.{starts_with}
 use Rattle.ebr_base.specs.declared.value.Value.{Value}
 use Rattle.ebr_base.specs.Values.{text_value}
-use Rattle.ebr_value.specs.Places.{first_place, start, is_place, skipped, counted, place_of}
+use Rattle.ebr_value.specs.Places.{first_place, start, is_place, counted, place_of}
+use Rattle.ebr_value.specs.inside.Skips.{skipped}
 use Rattle.ebr_value.specs.Texts.{part}
 
 -- no suffix before passes, and this one does

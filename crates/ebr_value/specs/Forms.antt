@@ -1,6 +1,5 @@
 -- What each operator and each built-in function gives, and what a column or a variable takes.
 use Rattle.std.specs.Prelude.{◌≡◌, ℕ, ℤ, pos, ◌^◌, Bool, true, false, if◌then◌else◌, nat_lt, nat_le, unsigned_abs, List, [], ◌∷◌, length, Option, Some, None, Result, Ok, Err}
-use Rattle.ebr_base.specs.declared.clone_in.NoMemory as base
 use Rattle.ebr_base.specs.declared.code.Code.{Code}
 use Rattle.ebr_base.specs.declared.code.Code.TheVariants.{Ora}
 use Rattle.ebr_base.specs.declared.code.Stop.{Stop}
@@ -16,7 +15,7 @@ use Rattle.ebr_value.specs.declared.form.Builtin.TheVariants as builtin
 use Rattle.ebr_value.specs.declared.form.Place.{Place}
 use Rattle.ebr_value.specs.declared.form.Place.TheVariants as place
 use Rattle.ebr_value.specs.declared.comparison.Comparison.TheVariants as comparison
-use Rattle.ebr_value.specs.Outcomes.{Outcome, answer, wrong_operands}
+use Rattle.ebr_value.specs.Outcomes.{Outcome, wrong_operands}
 use Rattle.ebr_value.specs.Numbers.{sum, difference, product, quotient, remainder, negation, absolute, sign}
 use Rattle.ebr_value.specs.Logic.{conjunction, disjunction, inverse, is_null, same_type}
 use Rattle.ebr_value.specs.Comparisons.{compare}
@@ -81,11 +80,6 @@ function f (a ∷ []) at = of_one f a at
 function f (a ∷ b ∷ []) at = of_two f a b
 function f (a ∷ b ∷ c ∷ []) at = of_three f a b c
 function f args at = wrong_operands
-
--- a word of private contracts: the answer that an outcome is, if there was memory for it
-abbrev pub kept : Result Outcome base.NoMemory → Result Value Stop
-kept (Ok outcome) = answer outcome
-kept (Err none) = Err NoMemory
 
 -- Where the answer is want of memory, this holds.
 abbrev pub OnWant : Result Value Stop → Type 0 → Type 0

@@ -3,8 +3,8 @@ pub mod Numbers
 pub mod Logic
 pub mod Comparisons
 pub mod Patterns
-pub mod Parts
 pub mod Places
 pub mod Texts
 pub mod Numerals
 pub mod Forms
+pub mod inside

@@ -77,11 +77,12 @@ abbrev pub no_number : Place → Code
 no_number place.Sql = Ora 1722
 no_number place.Code = Ora 6502
 
-abbrev pub told : Place → Option ℤ → Outcome
-told at (Some n) = Ok (value.Num n)
-told at None = Err (no_number at)
+-- that number, or the code of a text that writes none
+abbrev pub number_or_fault : Place → Option ℤ → Outcome
+number_or_fault at (Some n) = Ok (value.Num n)
+number_or_fault at None = Err (no_number at)
 
 -- TO_NUMBER(x)
 abbrev pub to_number : Place → Value → Outcome
-to_number at (value.Text t) = told at (read_number t)
+to_number at (value.Text t) = number_or_fault at (read_number t)
 to_number at v = null_if (fits_text v)

@@ -1,26 +1,13 @@
 -- What an operator or a function gives.
-use Rattle.std.specs.Prelude.{◌≡◌, ℕ, ℤ, if◌then◌else◌, nat_le, unsigned_abs, Result, Ok, Err}
+use Rattle.std.specs.Prelude.{ℕ, ℤ, if◌then◌else◌, nat_le, unsigned_abs, Result, Ok, Err}
 use Rattle.ebr_base.specs.declared.code.Code.{Code}
 use Rattle.ebr_base.specs.declared.code.Code.TheVariants.{Ora}
-use Rattle.ebr_base.specs.declared.code.Stop.{Stop}
-use Rattle.ebr_base.specs.declared.code.Stop.TheVariants.{Raised, NoMemory}
 use Rattle.ebr_base.specs.declared.value.Value.{Value}
 use Rattle.ebr_base.specs.declared.value.Value.TheVariants.{Num}
 
 -- a value, or the code that is raised
 abbrev pub Outcome : Type 0
 Outcome = Result Value Code
-
--- The answer is just this outcome, or want of memory.
-abbrev pub Gives : Result Value Stop → Outcome → Type 0
-Gives (Ok v) outcome = outcome ≡ Ok v
-Gives (Err (Raised code)) outcome = outcome ≡ Err code
-Gives (Err NoMemory) outcome = Unit {0}
-
--- a word of private contracts: the answer that an outcome is
-abbrev pub answer : Outcome → Result Value Stop
-answer (Ok v) = Ok v
-answer (Err code) = Err (Raised code)
 
 -- An operand isn't of the type that the form takes, or there are too many or too few.
 abbrev pub wrong_operands : Outcome

@@ -1,5 +1,5 @@
 -- Places in texts, counted in bytes from 1.
-use Rattle.std.specs.Prelude.{◌≡◌, ℕ, zero, suc, ◌<◌, ℤ, pos, negsuc, ◌+ℤ◌, ◌+◌, ◌-◌, unsigned_abs, int_le, Bool, ◌&&◌, if◌then◌else◌, nat_eq, List, [], ◌∷◌, ◌++◌, length, Option, Some, None}
+use Rattle.std.specs.Prelude.{◌≡◌, ℕ, zero, suc, ◌<◌, ℤ, pos, negsuc, ◌+ℤ◌, ◌+◌, int_le, Bool, ◌&&◌, if◌then◌else◌, nat_eq, List, [], ◌∷◌, ◌++◌, length, Option, Some, None}
 use Rattle.std.specs.Option.{option_map}
 use Rattle.std.specs.List.{starts_with}
 
@@ -34,7 +34,3 @@ counted (Some n) = n + 1
 
 abbrev pub place_of : List ℕ → List ℕ → ℕ
 place_of text y = counted (first_place (λ rest. starts_with nat_eq rest y) text)
-
--- A word of private contracts: how many bytes stand before the place where a part begins; none where that lies outside.
-abbrev pub skipped : ℕ → ℤ → Option ℕ
-skipped n p = if is_place n (start n p) then Some (unsigned_abs (start n p) - 1) else None

@@ -1,7 +1,8 @@
 //! The calls that compute operators and built-in functions.
 
 ghost use Rattle.std.specs.Prelude.{◌≡◌, ◌∷◌, [], ◌<◌, ℕ, List, length, true, IfOk, OnErr};
-ghost use Rattle.ebr_value.specs.Outcomes.{Gives, answer};
+ghost use Rattle.ebr_base.specs.Answers.{Answers};
+ghost use Rattle.ebr_value.specs.inside.Answers.{answer, answer_of};
 ghost use Rattle.ebr_value.specs.Forms as spec;
 
 use crate::comparison::{Comparison, compare};
@@ -26,18 +27,18 @@ use std::alloc::Global;
 /// Oracle Database SQL Language Reference 19c, Operators and Conditions.
 pub fn binary(alloc: Global, op: BinOp, a: &Value, b: &Value, place: Place) -> Result<Value, Stop>
     // The answer is what the operator gives, unless memory runs out.
-    ensures value { Gives result (spec.binary op a.now b.now place) }
+    ensures value { Answers result (spec.binary op a.now b.now place) }
     // Only `||` takes memory.
     ensures memory { spec.OnWant result (spec.joins op ≡ true) }
     // LIKE is TRUE of just the texts that are like the pattern.
     ensures like { (text pattern : List ℕ) → op ≡ BinOp.Like → a.now ≡ Value.Text text → b.now ≡ Value.Text pattern → spec.TellsLike result text pattern }
 {
-    told(match op {
+    answer(match op {
         BinOp::Add => sum(a, b),
         BinOp::Subtract => difference(a, b),
         BinOp::Multiply => product(a, b),
         BinOp::Quotient => quotient(a, b),
-        BinOp::Concatenate => return kept(concatenation(alloc, a, b, place)),
+        BinOp::Concatenate => return answer_of(concatenation(alloc, a, b, place)),
         BinOp::Equal => compare(Comparison::Equal, a, b),
         BinOp::NotEqual => compare(Comparison::NotEqual, a, b),
         BinOp::Less => compare(Comparison::Less, a, b),
@@ -58,7 +59,7 @@ pub fn binary(alloc: Global, op: BinOp, a: &Value, b: &Value, place: Place) -> R
 /// Oracle Database SQL Language Reference 19c, Functions.
 pub fn function(alloc: Global, f: Builtin, args: &[Value], place: Place) -> Result<Value, Stop>
     // The answer is what the function gives, unless memory runs out.
-    ensures value { Gives result (spec.function f args.now place) }
+    ensures value { Answers result (spec.function f args.now place) }
     // Only what makes a text or a copy takes memory.
     ensures memory { spec.OnWant result (spec.makes_text f ≡ true) }
     // TO_NUMBER gives just the number that the text writes.
@@ -67,15 +68,15 @@ pub fn function(alloc: Global, f: Builtin, args: &[Value], place: Place) -> Resu
     ensures place { (text y : List ℕ) → f ≡ Builtin.Instr → args.now ≡ Value.Text text ∷ Value.Text y ∷ [] → length text < 999999999999999999 → spec.TellsPlace result text y }
 {
     match args {
-        [a] => kept(of_one(alloc, f, a, place)),
-        [a, b] => kept(of_two(alloc, f, a, b)),
-        [a, b, c] => kept(of_three(alloc, f, a, b, c)),
-        _ => told(Err(WRONG_OPERANDS)),
+        [a] => answer_of(of_one(alloc, f, a, place)),
+        [a, b] => answer_of(of_two(alloc, f, a, b)),
+        [a, b, c] => answer_of(of_three(alloc, f, a, b, c)),
+        _ => answer(Err(WRONG_OPERANDS)),
     }
 }
 
 /// The answer that an outcome is.
-fn told(outcome: Outcome) -> Result<Value, Stop>
+fn answer(outcome: Outcome) -> Result<Value, Stop>
     ensures { result ≡ answer outcome }
 {
     match outcome {
@@ -85,11 +86,11 @@ fn told(outcome: Outcome) -> Result<Value, Stop>
 }
 
 /// The answer that an outcome is, if there was memory for it.
-fn kept(outcome: Result<Outcome, NoMemory>) -> Result<Value, Stop>
-    ensures { result ≡ spec.kept outcome }
+fn answer_of(outcome: Result<Outcome, NoMemory>) -> Result<Value, Stop>
+    ensures { result ≡ answer_of outcome }
 {
     match outcome {
-        Ok(outcome) => told(outcome),
+        Ok(outcome) => answer(outcome),
         Err(NoMemory) => Err(Stop::NoMemory),
     }
 }

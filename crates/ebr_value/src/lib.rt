@@ -1,4 +1,10 @@
 //! The operators, built-in functions and printed texts of SQL and PL/SQL values.
+//!
+//! The crates above use the contracts of `binary` and `function`: the answer is what `specs/Forms.antt` defines
+//! for the operator or function, and only what makes a text takes memory. `fits` tells what the assignment of
+//! a value raises, and `text_of` prints a value.
+//!
+//! Tests alone show that the calls succeed where memory is ample.
 #![tactic(auto)]
 
 mod assign;
@@ -11,7 +17,6 @@ mod numeral;
 mod outcome;
 mod part;
 mod pattern;
-mod suffix;
 #[cfg(test)]
 mod tests;
 mod text;

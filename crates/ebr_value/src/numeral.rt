@@ -10,8 +10,7 @@ ghost use Rattle.ebr_value.specs.Numerals as spec;
 
 use crate::form::Place;
 use crate::outcome::{Outcome, WRONG_OPERANDS};
-use crate::suffix::from;
-use ebr_base::{Code, Value};
+use ebr_base::{Code, Value, rest_from};
 
 /// The most digits of a number.
 const MOST_DIGITS: usize = 18;
@@ -44,7 +43,7 @@ fn no_number(place: Place) -> Code
 fn read_number(text: &[u8]) -> Option<i64>
     ensures { result ≡ spec.read_number text.now }
 {
-    read_signed(from(text, space_count(text)))
+    read_signed(rest_from(text, space_count(text)))
 }
 
 /// The number behind the spaces in front.
@@ -55,8 +54,8 @@ fn read_signed(text: &[u8]) -> Option<i64>
         return None;
     }
     let n = match text[0] {
-        b'+' => read_digits(from(text, 1))? as i64,
-        b'-' => -(read_digits(from(text, 1))? as i64),
+        b'+' => read_digits(rest_from(text, 1))? as i64,
+        b'-' => -(read_digits(rest_from(text, 1))? as i64),
         _ => read_digits(text)? as i64,
     };
     Some(n)
@@ -68,7 +67,7 @@ fn read_digits(text: &[u8]) -> Option<u64>
     ensures small { IfSome result (λ n. n < 1000000000000000000) }
 {
     let length = digit_count(text);
-    if length == 0 || length > MOST_DIGITS || !is_blank(from(text, length)) {
+    if length == 0 || length > MOST_DIGITS || !is_blank(rest_from(text, length)) {
         return None;
     }
     Some(decimal(&text[..length]))

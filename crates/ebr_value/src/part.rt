@@ -3,13 +3,14 @@
 //! Oracle Database SQL Language Reference 19c, SUBSTR and INSTR. Places are counted in bytes.
 
 ghost use Rattle.std.specs.Prelude.{◌≡◌, ◌≢◌, [], pos, length, IfOk};
-ghost use Rattle.ebr_value.specs.Places.{start, place_of, skipped};
+ghost use Rattle.ebr_value.specs.Places.{start, place_of};
+ghost use Rattle.ebr_value.specs.inside.Skips.{skipped};
 ghost use Rattle.ebr_value.specs.Texts as spec;
 
 use crate::number::count;
 use crate::outcome::{Outcome, WRONG_OPERANDS};
-use crate::suffix::from;
-use ebr_base::{Bytes, NoMemory, Value};
+use ebr_base::{Bytes, NoMemory, Value, rest_from};
+use memchr::memmem;
 use std::alloc::Global;
 
 /// `SUBSTR(x, p, c)`
@@ -66,7 +67,7 @@ fn part(alloc: Global, text: &[u8], p: i64, c: i64) -> Result<Value, NoMemory>
 {
     match skipped(text.len(), p) {
         Some(skipped) if c > 0 => {
-            let rest = from(text, skipped);
+            let rest = rest_from(text, skipped);
             let count = (c.unsigned_abs() as usize).min(rest.len());
             Ok(Value::text(Bytes::from_slice(alloc, &rest[..count])?))
         }
@@ -79,7 +80,7 @@ fn rest(alloc: Global, text: &[u8], p: i64) -> Result<Value, NoMemory>
     ensures { IfOk result (λ v. v ≡ spec.part text.now (start (length text.now) p) (pos (length text.now))) }
 {
     match skipped(text.len(), p) {
-        Some(skipped) => Ok(Value::text(Bytes::from_slice(alloc, from(text, skipped))?)),
+        Some(skipped) => Ok(Value::text(Bytes::from_slice(alloc, rest_from(text, skipped))?)),
         None => Ok(Value::Null),
     }
 }
@@ -100,10 +101,8 @@ fn place_of(text: &[u8], some: &[u8]) -> usize
     requires { some.now ≢ [] }
     ensures { result ≡ place_of text.now some.now }
 {
-    for i in 0..text.len() {
-        if from(text, i).starts_with(some) {
-            return i + 1;
-        }
+    match memmem::find(text, some) {
+        Some(skipped) => skipped + 1,
+        None => 0,
     }
-    0
 }

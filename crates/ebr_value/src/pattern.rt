@@ -5,12 +5,11 @@
 ghost use Rattle.std.specs.Prelude.{◌≡◌, ◌∷◌, ◌≤◌, ◌+◌, true, length, drop, IfSome, ◌==◌, ◌||◌};
 ghost use Rattle.std.specs.List.{prefix_len, list_all};
 ghost use Rattle.ebr_value.specs.Patterns.{like, likeness};
-ghost use Rattle.ebr_value.specs.Parts.{in_part, fits};
+ghost use Rattle.ebr_value.specs.inside.Parts.{in_part, fits};
 ghost use Rattle.ebr_value.specs.Places.{first_place};
 
 use crate::outcome::{Outcome, WRONG_OPERANDS};
-use crate::suffix::from;
-use ebr_base::Value;
+use ebr_base::{Value, rest_from};
 
 /// `x LIKE y`
 pub fn likeness(x: &Value, y: &Value) -> Outcome
@@ -37,8 +36,8 @@ fn like(pattern: &[u8], text: &[u8]) -> bool
     if !fits(&pattern[..first], text) {
         return false;
     }
-    let more = from(pattern, first + 1);
-    let rest = from(text, first);
+    let more = rest_from(pattern, first + 1);
+    let rest = rest_from(text, first);
     like_after(more, rest)
 }
 
@@ -49,12 +48,12 @@ fn like_after(pattern: &[u8], text: &[u8]) -> bool
     let mut at = 0;
     let mut place = 0;
     loop {
-        let rest = from(pattern, at);
+        let rest = rest_from(pattern, at);
         let length = part_length(rest);
         if length == rest.len() {
-            return ends_like(rest, from(text, place));
+            return ends_like(rest, rest_from(text, place));
         }
-        match first_fit(&rest[..length], from(text, place)) {
+        match first_fit(&rest[..length], rest_from(text, place)) {
             Some(skipped) => {
                 at += length + 1;
                 place += skipped + length;
@@ -99,7 +98,7 @@ fn ends_like(part: &[u8], text: &[u8]) -> bool
     requires { list_all in_part part.now ≡ true }
     ensures { result ≡ like (37 ∷ part.now) text.now }
 {
-    part.len() <= text.len() && fits(part, from(text, text.len() - part.len()))
+    part.len() <= text.len() && fits(part, rest_from(text, text.len() - part.len()))
 }
 
 /// How many bytes of a text stand before the first place where a part of a pattern fits.
@@ -108,7 +107,7 @@ fn first_fit(part: &[u8], text: &[u8]) -> Option<usize>
     ensures within { IfSome result (λ place. place + length part.now ≤ length text.now) }
 {
     for place in 0..text.len() {
-        if fits(part, from(text, place)) {
+        if fits(part, rest_from(text, place)) {
             return Some(place);
         }
     }

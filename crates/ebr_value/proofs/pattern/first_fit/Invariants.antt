@@ -1,5 +1,5 @@
 use Rattle.std.proofs.Common.{◌≡◌, ℕ, ◌<◌, drop, false}
-use Rattle.ebr_value.specs.Parts.{fits}
+use Rattle.ebr_value.specs.inside.Parts.{fits}
 use Rattle.ebr_value.proofs.pattern.first_fit.Given as goal
 
 -- the part fits at no place before

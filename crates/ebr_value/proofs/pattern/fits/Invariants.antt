@@ -1,5 +1,5 @@
 use Rattle.std.proofs.Common.{◌≡◌, drop}
-use Rattle.ebr_value.specs.Parts.{fits}
+use Rattle.ebr_value.specs.inside.Parts.{fits}
 use Rattle.ebr_value.proofs.pattern.fits.Given as goal
 
 -- what is left of the part has to fit what is left of the text

@@ -13,10 +13,10 @@ returns-then-not-fits c =
     let l : c.part_length-first.result < length c.args.pattern.now = omega arith in
     sym (first_not c.args.pattern.now c.args.text.now c.part_length-first.result c.part_length-first.ensures.value l (sym c.fits-2.ensures ∙ c.if-not-fits.true))
 
-pub from-rest-requires : goal.from-rest-requires
-from-rest-requires c = part_within c.args.pattern.now c.args.text.now c.part_length-first.result c.part_length-first.ensures.within (sym c.fits-2.ensures ∙ c.if-not-fits.false)
+pub rest_from-rest-requires : goal.rest_from-rest-requires
+rest_from-rest-requires c = part_within c.args.pattern.now c.args.text.now c.part_length-first.result c.part_length-first.ensures.within (sym c.fits-2.ensures ∙ c.if-not-fits.false)
 
 pub returns : goal.returns
 returns c =
     let l : c.part_length-first.result < length c.args.pattern.now = omega arith in
-    c.like_after.ensures ∙ first_there c.args.pattern.now c.args.text.now c.from-more.result.now c.from-rest.result.now c.part_length-first.result c.part_length-first.ensures.value l (sym c.fits-2.ensures ∙ c.if-not-fits.false) c.from-more.ensures c.from-rest.ensures
+    c.like_after.ensures ∙ first_there c.args.pattern.now c.args.text.now c.rest_from-more.result.now c.rest_from-rest.result.now c.part_length-first.result c.part_length-first.ensures.value l (sym c.fits-2.ensures ∙ c.if-not-fits.false) c.rest_from-more.ensures c.rest_from-rest.ensures

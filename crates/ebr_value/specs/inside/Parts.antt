@@ -1,4 +1,4 @@
--- How LIKE is computed: words of private contracts. No promise rests on them.
+-- How LIKE is computed.
 use Rattle.std.specs.Prelude.{ℕ, Bool, true, not, ◌==◌, List, [], ◌∷◌}
 use Rattle.ebr_value.specs.Patterns.{after_one}
 
