@@ -1,18 +1,23 @@
 -- What the calls on the map do to the list of tables.
-use Rattle.std.proofs.Common.{◌≡◌, ℕ, suc, length, Bool, true, false, not, cond, List, [], ◌∷◌, ◌++◌, map, refl, sym, ap, subst, ◌∙◌, arith}
-use Rattle.std.specs.Prelude.{Option, Some, None, is_some, if◌then◌else◌, filter}
+use Rattle.std.proofs.Common.{◌≡◌, ℕ, suc, Bool, true, false, not, cond, List, [], ◌∷◌, ◌++◌, map, refl, sym, ap, subst, ◌∙◌, arith}
+use Rattle.std.specs.Prelude.{◌≤◌, Option, Some, None, if◌then◌else◌, filter, All}
 use Rattle.std.specs.Str.{bytes_eq}
 use Rattle.std.specs.Map.{values_of, lookup, remove_entry, set_value}
 use Rattle.std.specs.List.{list_any}
 use Rattle.std.proofs.lemmas.Bool.{or_parts, cond_both}
-use Rattle.std.proofs.lemmas.List.{map-append}
+use Rattle.std.proofs.lemmas.Cmp.{nat_list_eq_equiv}
+use Rattle.std.proofs.lemmas.List.{map-append, length-map, length_push}
+use Rattle.std.proofs.lemmas.List.Elements.{All-cons, All-head, All-tail, All-push, All-filter}
+use Rattle.std.proofs.lemmas.List.Sums.{length-filter, count_by-le-length}
 use Rattle.std.proofs.lemmas.Option.{same_Some}
+use Rattle.ebr_base.specs.declared.numbers.TheConstants.{MAX_COUNT}
 use Rattle.ebr_base.specs.declared.table.Column.{Column}
 use Rattle.ebr_base.specs.declared.table.TableDef.{TableDef}
 use Rattle.ebr_tables.specs.Definitions.{has_repetition}
-use Rattle.ebr_tables.specs.Tables.{AllTables, IdsAscend, same_table_name, table_named, create_refusal, refusal_of, widened, with_column, without_table}
-use Rattle.ebr_tables.specs.Keyed.{Entries, by_name, tables_of, Keyed, widened_in}
-use Rattle.ebr_tables.proofs.Names.{has, none-any, others-none, filter-none, map-none, distinct-filter, distinct-map, distinct-push, ascend-filter, ascend-map, ascend-push}
+use Rattle.ebr_tables.specs.Tables.{AreTables, IsTable, same_table_name, table_named, next_id, kept_as, add_refusal, widened, with_column, without_table}
+use Rattle.ebr_tables.specs.inside.Keyed.{Entries, by_name, tables_of, Keyed, widened_in}
+use Rattle.ebr_tables.proofs.Names.{has, none-any, others-none, filter-none, map-none, distinct-filter, distinct-map, once-push, ascend-filter, ascend-map, ascend-push}
+use Rattle.ebr_tables.proofs.Allowed.{IsAllowed, kept-is, widened-is}
 
 pub values-by_name : (ts : List TableDef) → values_of (by_name ts) ≡ ts
 values-by_name [] = refl
@@ -55,15 +60,12 @@ widened-by_name n c t (u ∷ ts) e found =
     by false is others at rest = ap (λ l. (u.name, u) ∷ l) (rest at)
 
 -- Keyed entries over a list are what `by_name` makes of it.
-keyed-from : (made : ℕ) (es : Entries) (ts : List TableDef) → es ≡ by_name ts → has_repetition same_table_name ts ≡ false → IdsAscend 0 made ts → Keyed made es
-keyed-from made es ts is names ids =
+keyed-from : (made : ℕ) (es : Entries) (ts : List TableDef) → es ≡ by_name ts → AreTables (record { made = made; living = ts }) → Keyed made es
+keyed-from made es ts is tables =
     let vs : values_of es ≡ ts = ap values_of is ∙ values-by_name ts in
     record {
       by = is ∙ ap by_name (sym vs);
-      tables = record {
-        names = subst (λ l. has_repetition same_table_name l ≡ false) (sym vs) names;
-        ids = subst (λ l. IdsAscend 0 made l) (sym vs) ids;
-      };
+      tables = subst (λ l. AreTables (record { made = made; living = l })) (sym vs) tables;
     }
 
 -- a value that is written back where it was found changes nothing
@@ -86,6 +88,21 @@ same-name n c t = cond_both (has n t) (widened c t) t (λ u. u.name ≡ t.name) 
 same-id : (n : List ℕ) (c : Column) (t : TableDef) → (widened_if n c t).id ≡ t.id
 same-id n c t = cond_both (has n t) (widened c t) t (λ u. u.id ≡ t.id) (λ e. refl) (λ e. refl)
 
+-- the tables after a column was added to one of them, which refused nothing
+each-widened : (n : List ℕ) (c : Column) (ts : List TableDef) → has_repetition same_table_name ts ≡ false → add_refusal (table_named n ts) c ≡ None → All IsTable ts → All IsTable (map (widened_if n c) ts)
+each-widened n c [] e none all = all
+each-widened n c (t ∷ ts) e none all =
+    let s = or_parts (list_any (same_table_name t) ts) (has_repetition same_table_name ts) e in
+    by (has n t) refl s.0 none (each-widened n c ts s.1)
+  where
+    by : (b : Bool) → has n t ≡ b → list_any (same_table_name t) ts ≡ false → add_refusal (cond b (Some t) (table_named n ts)) c ≡ None
+        → (add_refusal (table_named n ts) c ≡ None → All IsTable ts → All IsTable (map (widened_if n c) ts))
+        → All IsTable (cond b (widened c t) t ∷ map (widened_if n c) ts)
+    by true is others none rest =
+        All-cons IsTable (widened c t) (map (widened_if n c) ts) (widened-is c t (All-head IsTable t ts all) none)
+        (subst (All IsTable) (sym (map-none n (widened c) ts (others-none n t ts is others))) (All-tail IsTable t ts all))
+    by false is others none rest = All-cons IsTable t (map (widened_if n c) ts) (All-head IsTable t ts all) (rest none (All-tail IsTable t ts all))
+
 -- What each call leaves of the entries: they are keyed still, and stand for the tables that the definitions give.
 module _ (made : ℕ) (n : List ℕ) (c : Column) (es : Entries) (k : Keyed made es) where
   widened-entries : widened_in (lookup (bytes_eq n) es) n c es ≡ by_name (map (widened_if n c) (values_of es))
@@ -98,11 +115,16 @@ module _ (made : ℕ) (n : List ℕ) (c : Column) (es : Entries) (k : Keyed made
   pub widened-tables : tables_of made (widened_in (lookup (bytes_eq n) es) n c es) ≡ with_column (tables_of made es) n c
   widened-tables = ap (tables_of made) widened-entries ∙ ap (λ ts. record { made = made; living = ts }) (values-by_name (map (widened_if n c) (values_of es)))
 
-  pub widened-keyed : Keyed made (widened_in (lookup (bytes_eq n) es) n c es)
-  widened-keyed =
+  pub widened-keyed : add_refusal (lookup (bytes_eq n) es) c ≡ None → Keyed made (widened_in (lookup (bytes_eq n) es) n c es)
+  widened-keyed none =
       keyed-from made (widened_in (lookup (bytes_eq n) es) n c es) (map (widened_if n c) (values_of es)) widened-entries
-      (distinct-map (widened_if n c) (values_of es) (same-name n c) ∙ k.tables.names)
-      (ascend-map made (widened_if n c) 0 (values_of es) (same-id n c) k.tables.ids)
+      (record {
+        names = distinct-map (widened_if n c) (values_of es) (same-name n c) ∙ k.tables.names;
+        ids = ascend-map made (widened_if n c) 0 (values_of es) (same-id n c) k.tables.ids;
+        few = omega (arith, length-map (values_of es) (widened_if n c), k.tables.few);
+        each = each-widened n c (values_of es) k.tables.names (ap (λ o. add_refusal o c) (sym (lookup-keyed made n es k)) ∙ none) k.tables.each;
+        numbered = k.tables.numbered;
+      })
 
 module _ (made : ℕ) (n : List ℕ) (es : Entries) (k : Keyed made es) where
   removed-entries : remove_entry (bytes_eq n) es ≡ by_name (filter (λ t. not (has n t)) (values_of es))
@@ -114,25 +136,28 @@ module _ (made : ℕ) (n : List ℕ) (es : Entries) (k : Keyed made es) where
   pub removed-keyed : Keyed made (remove_entry (bytes_eq n) es)
   removed-keyed =
       keyed-from made (remove_entry (bytes_eq n) es) (filter (λ t. not (has n t)) (values_of es)) removed-entries
-      (distinct-filter (λ t. not (has n t)) (values_of es) k.tables.names)
-      (ascend-filter made (λ t. not (has n t)) 0 (values_of es) k.tables.ids)
+      (record {
+        names = distinct-filter (λ t. not (has n t)) (values_of es) k.tables.names;
+        ids = ascend-filter made (λ t. not (has n t)) 0 (values_of es) k.tables.ids;
+        few = omega (arith, length-filter (λ t. not (has n t)) (values_of es), count_by-le-length (λ t. not (has n t)) (values_of es), k.tables.few);
+        each = All-filter (λ t. not (has n t)) IsTable (values_of es) k.tables.each;
+        numbered = k.tables.numbered;
+      })
 
 -- a table of a new name, with the next id, goes last
-pub pushed-keyed : (made : ℕ) (t : TableDef) (es : Entries) → Keyed made es → table_named t.name (values_of es) ≡ None → t.id.0 ≡ suc made
-    → Keyed (suc made) (es ++ (t.name, t) ∷ [])
-pushed-keyed made t es k none is =
+pub pushed-keyed : (made : ℕ) (d : TableDef) (es : Entries) → Keyed made es → IsAllowed (tables_of made es) d → suc made ≤ MAX_COUNT
+    → (let t = kept_as (next_id (tables_of made es)) d in Keyed (suc made) (es ++ (t.name, t) ∷ []))
+pushed-keyed made d es k may few =
+    let t = kept_as (next_id (tables_of made es)) d in
     keyed-from (suc made) (es ++ (t.name, t) ∷ []) (values_of es ++ t ∷ [])
     (ap (λ l. l ++ (t.name, t) ∷ []) k.by ∙ sym (map-append (λ u. (u.name, u)) (values_of es) (t ∷ [])))
-    (distinct-push t (values_of es) k.tables.names (none-any t.name (values_of es) none))
-    (ascend-push made t 0 (values_of es) is (omega arith) k.tables.ids)
+    (record {
+      names = once-push same_table_name (λ a b. nat_list_eq_equiv.symm a.name b.name) t (values_of es) k.tables.names (none-any d.name (values_of es) may.new);
+      ids = ascend-push made t 0 (values_of es) refl (omega arith) k.tables.ids;
+      few = omega (arith, length_push (values_of es) t, may.room);
+      each = All-push IsTable (values_of es) t k.tables.each (kept-is (next_id (tables_of made es)) d may.good may.columns);
+      numbered = few;
+    })
 
 pub pushed-values : (t : TableDef) (es : Entries) → values_of (es ++ (t.name, t) ∷ []) ≡ values_of es ++ t ∷ []
 pushed-values t es = map-append (λ e. e.1) es ((t.name, t) ∷ [])
-
--- a definition that nothing refuses has a new name
-pub allowed-new : (s : AllTables) (d : TableDef) → create_refusal s d ≡ None → table_named d.name s.living ≡ None
-allowed-new s d e = by (table_named d.name s.living) e
-  where
-    by : (r : Option TableDef) → refusal_of (is_some r) d (length s.living) ≡ None → r ≡ None
-    by None e = refl
-    by (Some t) e = cc

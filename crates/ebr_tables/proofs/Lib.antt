@@ -1,3 +1,4 @@
 pub mod Names
+pub mod Allowed
 pub mod Entries
 pub mod Results

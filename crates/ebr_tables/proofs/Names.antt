@@ -4,7 +4,6 @@ use Rattle.std.specs.Prelude.{Some, None, is_some, if◌then◌else◌, filter}
 use Rattle.std.specs.List.{list_any}
 use Rattle.std.specs.Str.{bytes_eq}
 use Rattle.std.proofs.lemmas.Bool.{or_parts, or_from}
-use Rattle.std.proofs.lemmas.Cmp.{nat_list_eq_equiv}
 use Rattle.std.proofs.lemmas.List.Folds.{list_any-append}
 use Rattle.std.proofs.lemmas.Slice.Eq.{bytes_eq-Decides}
 use Rattle.ebr_base.specs.declared.table.TableDef.{TableDef}
@@ -82,17 +81,16 @@ distinct-map f (t ∷ ts) same =
     ∙ ap (λ m. list_any (has m) ts || has_repetition same_table_name (map f ts)) (same t)
     ∙ ap (λ b. list_any (same_table_name t) ts || b) (distinct-map f ts same)
 
--- a table of a new name goes last
-pub distinct-push : (t : TableDef) (ts : List TableDef) → has_repetition same_table_name ts ≡ false → list_any (has t.name) ts ≡ false
-    → has_repetition same_table_name (ts ++ t ∷ []) ≡ false
-distinct-push t [] e none = refl
-distinct-push t (u ∷ ts) e none =
-    let s = or_parts (list_any (same_table_name u) ts) (has_repetition same_table_name ts) e in
-    let n = or_parts (has t.name u) (list_any (has t.name) ts) none in
-    let back : bytes_eq u.name t.name ≡ false = sym (nat_list_eq_equiv.symm t.name u.name) ∙ n.0 in
-    or_from (list_any (same_table_name u) (ts ++ t ∷ [])) (has_repetition same_table_name (ts ++ t ∷ []))
-    (list_any-append (same_table_name u) ts (t ∷ []) ∙ or_from (list_any (same_table_name u) ts) (list_any (same_table_name u) (t ∷ [])) s.0 (or_from (same_table_name u t) false back refl))
-    (distinct-push t ts s.1 n.1)
+-- one more goes last, which none before it equals
+pub once-push : {A : Type 0} (eq : A → A → Bool) → ((a b : A) → eq a b ≡ eq b a) → (x : A) (xs : List A) → has_repetition eq xs ≡ false → list_any (eq x) xs ≡ false
+    → has_repetition eq (xs ++ x ∷ []) ≡ false
+once-push eq back x [] e none = refl
+once-push eq back x (y ∷ xs) e none =
+    let s = or_parts (list_any (eq y) xs) (has_repetition eq xs) e in
+    let n = or_parts (eq x y) (list_any (eq x) xs) none in
+    or_from (list_any (eq y) (xs ++ x ∷ [])) (has_repetition eq (xs ++ x ∷ []))
+    (list_any-append (eq y) xs (x ∷ []) ∙ or_from (list_any (eq y) xs) (list_any (eq y) (x ∷ [])) s.0 (or_from (eq y x) false (back y x ∙ n.0) refl))
+    (once-push eq back x xs s.1 n.1)
 
 module _ (made : ℕ) where
   ascend-from : (a b : ℕ) (ts : List TableDef) → a ≤ b → IdsAscend b made ts → IdsAscend a made ts

@@ -1,3 +1,3 @@
 pub mod Definitions
-pub mod Keyed
 pub mod Tables
+pub mod inside

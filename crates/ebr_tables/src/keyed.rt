@@ -1,10 +1,11 @@
 //! A map from the living tables' names to their definitions, in order of creation.
 
-ghost use Rattle.std.specs.Prelude.{◌≡◌, [], ◌∷◌, ◌++◌, None, Some, OnOk, OnErr, IfErr};
+ghost use Rattle.std.specs.Prelude.{◌≡◌, [], ◌∷◌, ◌++◌, None, Some, OnOk, OnErr};
 ghost use Rattle.std.specs.Str.{bytes_eq};
 ghost use Rattle.indexmap.specs.IndexMap.{get};
-ghost use Rattle.ebr_tables.specs.Tables.{add_refusal, widened, StopsBy};
-ghost use Rattle.ebr_tables.specs.Keyed.{widened_in};
+ghost use Rattle.ebr_base.specs.Answers.{Answers};
+ghost use Rattle.ebr_tables.specs.Tables.{add_answer, widened};
+ghost use Rattle.ebr_tables.specs.inside.Keyed.{widened_in};
 
 use crate::definition::is_bad_column;
 use ebr_base::{CloneIn, Code, Column, Name, NoMemory, Stop, TableDef};
@@ -27,11 +28,10 @@ pub fn put(tables: &mut IndexMap<Name, TableDef>, def: TableDef) -> Result<(), N
 
 /// Adds a column at the end of the table of a name. An `Err` changes nothing.
 pub fn widen(tables: &mut IndexMap<Name, TableDef>, name: &Name, column: Column) -> Result<(), Stop>
-    ensures allowed { OnOk result (add_refusal (get bytes_eq tables.old name.now) column ≡ None) }
+    ensures answer { Answers result (add_answer (get bytes_eq tables.old name.now) column) }
     ensures tables { OnOk result (
         tables.new.entries
         ≡ widened_in (get bytes_eq tables.old name.now) name.now column tables.old.entries) }
-    ensures refused { IfErr result (StopsBy (add_refusal (get bytes_eq tables.old name.now) column)) }
     ensures unchanged { OnErr result (tables.new.entries ≡ tables.old.entries) }
 {
     match tables.get_mut(name) {
@@ -42,9 +42,8 @@ pub fn widen(tables: &mut IndexMap<Name, TableDef>, name: &Name, column: Column)
 
 /// Adds a column at the end of a definition. An `Err` changes nothing.
 fn widen_one(def: &mut TableDef, column: Column) -> Result<(), Stop>
-    ensures allowed { OnOk result (add_refusal (Some def.old) column ≡ None) }
+    ensures answer { Answers result (add_answer (Some def.old) column) }
     ensures table { OnOk result (def.new ≡ widened column def.old) }
-    ensures refused { IfErr result (StopsBy (add_refusal (Some def.old) column)) }
     ensures unchanged { OnErr result (def.new ≡ def.old) }
 {
     if is_bad_column(def.columns.as_slice(), &column) {
@@ -53,8 +52,6 @@ fn widen_one(def: &mut TableDef, column: Column) -> Result<(), Stop>
     if def.columns.len() >= MAX_COLUMNS {
         return Err(Stop::Raised(Code::Ebr(36)));
     }
-    match def.columns.push(column) {
-        Ok(()) => Ok(()),
-        Err(NoMemory) => Err(Stop::NoMemory),
-    }
+    def.columns.push(column)?;
+    Ok(())
 }

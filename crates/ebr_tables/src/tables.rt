@@ -1,12 +1,13 @@
 //! All tables: how many were made, and the living ones, found by name and in order of id.
 
-ghost use Rattle.std.specs.Prelude.{◌≡◌, ◌<◌, IfOk, IfErr, OnOk, OnErr, slice_get, None};
+ghost use Rattle.std.specs.Prelude.{◌≡◌, IfOk, OnOk, OnErr, slice_get};
 ghost use Rattle.std.specs.Option.{option_copied};
-ghost use Rattle.ebr_tables.specs.Tables.{AreTables, no_tables, next_id, table_named, create_refusal, with_table, add_refusal, with_column, remove_answer, refusal_of, without_table, StopsBy};
+ghost use Rattle.ebr_base.specs.Answers.{Answers};
+ghost use Rattle.ebr_tables.specs.Tables.{AreTables, no_tables, next_id, table_named, create_refusal, create_answer, with_table, add_answer, with_column, remove_answer, refusal_of, without_table};
 
 use crate::definition::{is_bad_table, with_key_not_null};
 use crate::keyed::{MAX_COLUMNS, put, widen};
-use ebr_base::{Code, Column, Name, NoMemory, Stop, TableDef, TableId};
+use ebr_base::{Code, Column, MAX_COUNT, Name, NoMemory, Stop, TableDef, TableId};
 use indexmap::IndexMap;
 use std::alloc::Global;
 use std::marker::Model;
@@ -24,7 +25,7 @@ pub struct Tables {
 
 impl Model for Tables {
     ghost use Rattle.ebr_tables.specs.Tables.{AllTables};
-    ghost use Rattle.ebr_tables.specs.Keyed.{tables_of, Keyed};
+    ghost use Rattle.ebr_tables.specs.inside.Keyed.{tables_of, Keyed};
 
     ghost Value = { AllTables };
 
@@ -49,33 +50,25 @@ impl Tables {
     ///
     /// Refused, in this order: ORA-00955 where a living table has the name; EBR-0029 where a column is named twice, a
     /// NUMBER's size is outside 1 to 18 or a VARCHAR2's outside 1 to 4,000, or the key names a column twice or a place
-    /// where there is no column; EBR-0036 where there are more than 64 columns; EBR-0037 where 1,000 tables live. Want
-    /// of memory comes only where nothing refuses, and an `Err` changes nothing.
+    /// where there is no column; EBR-0036 where there are more than 64 columns; EBR-0037 where 1,000 tables live. It
+    /// finds no memory where 4,294,967,295 tables were made. An `Err` changes nothing.
     ///
     /// Whether an object of some edition has the name, which is ORA-00955 too, is the caller's to test.
     pub fn create(&mut self, def: TableDef) -> Result<TableId, Stop>
-        requires { self.old.made < 4294967295 }
-        ensures id { IfOk result (λ id. id ≡ next_id self.old) }
-        ensures allowed { OnOk result (create_refusal self.old def ≡ None) }
+        ensures answer { Answers result (create_answer self.old def) }
         ensures tables { OnOk result (self.new ≡ with_table self.old def) }
-        ensures refused { IfErr result (StopsBy (create_refusal self.old def)) }
         ensures unchanged { OnErr result (self.new ≡ self.old) }
     {
         if let Some(code) = self.create_refusal(&def) {
             return Err(Stop::Raised(code));
         }
+        if self.made as usize >= MAX_COUNT {
+            return Err(Stop::NoMemory);
+        }
         let id = TableId(self.made + 1);
-        let Ok(columns) = with_key_not_null(
-            *self.living.allocator(),
-            def.columns.as_slice(),
-            def.key.as_slice(),
-        ) else {
-            return Err(Stop::NoMemory);
-        };
-        let kept = TableDef { id, columns, ..def };
-        let Ok(()) = put(&mut self.living, kept) else {
-            return Err(Stop::NoMemory);
-        };
+        let alloc = *self.living.allocator();
+        let columns = with_key_not_null(alloc, def.columns.as_slice(), def.key.as_slice())?;
+        put(&mut self.living, TableDef { id, columns, ..def })?;
         self.made = id.0;
         Ok(id)
     }
@@ -90,12 +83,10 @@ impl Tables {
     /// Adds a column, which goes last, to the table of a name.
     ///
     /// Refused, in this order: ORA-00942 where no living table has the name; EBR-0029 where a column of that name is
-    /// there or the size is out of its bounds; EBR-0036 where there are 64 columns. Want of memory comes only where
-    /// nothing refuses, and an `Err` changes nothing.
+    /// there or the size is out of its bounds; EBR-0036 where there are 64 columns. An `Err` changes nothing.
     pub fn add_column(&mut self, t: &Name, c: Column) -> Result<(), Stop>
-        ensures allowed { OnOk result (add_refusal (table_named t.now self.old.living) c ≡ None) }
+        ensures answer { Answers result (add_answer (table_named t.now self.old.living) c) }
         ensures tables { OnOk result (self.new ≡ with_column self.old t.now c) }
-        ensures refused { IfErr result (StopsBy (add_refusal (table_named t.now self.old.living) c)) }
         ensures unchanged { OnErr result (self.new ≡ self.old) }
     {
         widen(&mut self.living, t, c)
@@ -103,14 +94,14 @@ impl Tables {
 
     /// Takes the table of a name away; ORA-00942 where no living table has it, and then nothing changes. It takes no
     /// memory. The id isn't given again.
-    pub fn remove(&mut self, t: &Name) -> Result<TableId, Stop>
+    pub fn remove(&mut self, t: &Name) -> Result<TableId, Code>
         ensures answer { result ≡ remove_answer (table_named t.now self.old.living) }
         ensures tables { self.new ≡ without_table self.old t.now }
         ensures unchanged { OnErr result (self.new ≡ self.old) }
     {
         match self.living.shift_remove(t) {
             Some(def) => Ok(def.id),
-            None => Err(Stop::Raised(Code::Ora(942))),
+            None => Err(Code::Ora(942)),
         }
     }
 

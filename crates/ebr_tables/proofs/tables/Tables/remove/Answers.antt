@@ -1,5 +1,5 @@
 use Rattle.std.proofs.Common.{◌≡◌, ap, sym, subst, ◌∙◌}
-use Rattle.ebr_tables.specs.Keyed.{Keyed, tables_of}
+use Rattle.ebr_tables.specs.inside.Keyed.{Keyed, tables_of}
 use Rattle.ebr_tables.specs.Tables.{table_named, remove_answer, without_table}
 use Rattle.ebr_tables.proofs.Entries.{lookup-keyed, removed-keyed, removed-tables}
 use Rattle.ebr_tables.proofs.tables.Tables.remove.Goals as goal

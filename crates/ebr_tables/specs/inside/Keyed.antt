@@ -1,4 +1,4 @@
--- How the code stands to the model: a map from names to definitions. No public clause cites these words.
+-- How the code stands to the model: a map from names to definitions.
 use Rattle.std.specs.Prelude.{ℕ, List, map, Option, Some, None, ◌≡◌}
 use Rattle.std.specs.Map.{values_of, set_value}
 use Rattle.std.specs.Str.{bytes_eq}
