@@ -1,16 +1,19 @@
 -- How many objects an edition sees after one more definition: those under other keys, and the new one.
-use Rattle.std.proofs.Common.{◌≡◌, ℕ, suc, ◌<◌, Bool, true, false, cond, not, ◌&&◌, ◌||◌, List, [], ◌∷◌, ◌++◌, Option, Some, is_some, Ok, Err, fold, count_by, nat_lt, nat_le, refl, sym, ap, subst, ◌∙◌, arith}
+use Rattle.std.proofs.Common.{◌≡◌, ℕ, suc, ◌+◌, ◌<◌, Bool, true, false, cond, not, ◌&&◌, ◌||◌, List, [], ◌∷◌, ◌++◌, Option, Some, is_some, Ok, Err, fold, count_by, nat_lt, nat_le, refl, sym, ap, subst, ◌∙◌, arith}
 use Rattle.std.specs.List.{list_any}
 use Rattle.std.proofs.lemmas.Bool.Decides.{nat_tests}
+use Rattle.std.proofs.lemmas.List.Sums.{sum_by-append}
 use Rattle.ebr_base.specs.declared.numbers.EditionNo.{EditionNo}
 use Rattle.ebr_base.specs.declared.numbers.Stamp.{Stamp}
+use Rattle.ebr_base.specs.declared.numbers.TheConstants.{MAX_COUNT}
 use Rattle.ebr_base.specs.declared.object.ObjectKey.{ObjectKey}
 use Rattle.ebr_base.specs.declared.code.Code.TheVariants.{Ora, Ebr}
 use Rattle.ebr_editions.specs.declared.entry.EditionEntry.{EditionEntry}
 use Rattle.ebr_editions.specs.Editions.{is_edition, line_of, line_up, parent_of}
-use Rattle.ebr_editions.specs.Objects.{ObjectEntry, same_key, with_key, entry_or, nearest, is_in, next_stamp, with_entry, last_object, Visible, keys_of, visible_count, put_answer, hide_answer}
-use Rattle.ebr_editions.specs.Held.{Held, hold, held, held_object, held_visible, held_stamp, held_others, defined_in}
-use Rattle.ebr_editions.proofs.Lists.{by_test, cond-true, cond-false, count-true, count-false, count-same, false_true}
+use Rattle.ebr_editions.specs.Objects.{ObjectEntry, same_key, with_key, entry_or, nearest, is_in, entries_in, next_stamp, with_entry, last_object, Visible, keys_of, visible_count, put_answer, hide_answer}
+use Rattle.ebr_editions.specs.Held.{Held, HasEntries, hold, held, defined_in}
+use Rattle.ebr_editions.specs.inside.Held.{held_object, held_visible, held_stamp, held_others}
+use Rattle.ebr_editions.proofs.Lists.{by_test, same_edition, cond-true, cond-false, count-true, count-false, count-same, false_true}
 use Rattle.ebr_editions.proofs.Entries.{fold-push, key-same, key-itself, edition_itself, held-with_entry, object-after, object-held, keys-held, count-held, visible-held, nearest-same}
 
 or-left : (a b : Bool) → (a || b) ≡ false → a ≡ false
@@ -165,7 +168,29 @@ hide-seen made now entries e key b h seen =
 pub held-after : {O : Type 0} (now : Held O) (entries : List (ObjectEntry O)) (e : EditionNo) (key : ObjectKey) (object : Option O) → now ≡ held entries → hold now e key object ≡ held (with_entry entries e key object)
 held-after now entries e key object h = ap (λ k. hold k e key object) h ∙ sym (held-with_entry entries e key object)
 
-pub few-held : {O : Type 0} (now : Held O) (entries : List (ObjectEntry O)) (e : EditionNo) → now ≡ held entries → count_by (is_in e) entries < 4294967295 → (defined_in now.editions e).count < 4294967295
-few-held now entries e h few =
-    let count : (defined_in now.editions e).count ≡ count_by (is_in e) entries = ap (λ (k : Held _). (defined_in k.editions e).count) h ∙ count-held entries e in
-    omega (arith, count, few)
+-- one more entry in an edition that can have one
+pub few-after : {O : Type 0} (entries : List (ObjectEntry O)) (e : EditionNo) (key : ObjectKey) (object : Option O) → suc (entries_in entries e) < MAX_COUNT → ((d : EditionNo) → entries_in entries d < MAX_COUNT)
+    → (d : EditionNo) → entries_in (with_entry entries e key object) d < MAX_COUNT
+few-after {O} entries e key object here few d =
+    let x : ObjectEntry O = record { edition = e; key = key; object = object; stamp = next_stamp entries e } in
+    let sum : entries_in (entries ++ x ∷ []) d ≡ entries_in entries d + entries_in (x ∷ []) d = sum_by-append (λ (y : ObjectEntry O). cond (is_in d y) 1 0) entries (x ∷ []) in
+    by_test (is_edition d e)
+    (λ t.
+    let one = count-true (is_in {O = O} d) x [] t in
+    let same : entries_in entries d ≡ entries_in entries e = ap (entries_in entries) (same_edition d e t) in
+    omega (arith, sum, one, same, here))
+    (λ f. let none = count-false (is_in {O = O} d) x [] f in omega (arith, sum, none, few d))
+
+pub has-after : {O : Type 0} (now after : Held O) (e : EditionNo) (key : ObjectKey) (object : Option O) → HasEntries now → suc (defined_in now.editions e).count < MAX_COUNT → after ≡ hold now e key object → HasEntries after
+has-after now after e key object has room made =
+    let count : (defined_in now.editions e).count ≡ entries_in has.entries e = ap (λ (k : Held _). (defined_in k.editions e).count) has.is ∙ count-held has.entries e in
+    record {
+      entries = with_entry has.entries e key object;
+      is = made ∙ held-after now has.entries e key object has.is;
+      few = few-after has.entries e key object (omega (arith, count, room)) has.few;
+    }
+
+pub few-held : {O : Type 0} (now : Held O) (e : EditionNo) → HasEntries now → (defined_in now.editions e).count < MAX_COUNT
+few-held now e has =
+    let count : (defined_in now.editions e).count ≡ entries_in has.entries e = ap (λ (k : Held _). (defined_in k.editions e).count) has.is ∙ count-held has.entries e in
+    omega (arith, count, has.few e)

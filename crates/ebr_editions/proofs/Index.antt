@@ -1,18 +1,21 @@
 -- What the invariant of `Chain` gives its methods: the map of the living editions answers as the definitions do.
-use Rattle.std.proofs.Common.{◌≡◌, ◌≢◌, ℕ, suc, ◌-◌, ◌<◌, true, false, cond, List, [], ◌∷◌, ◌++◌, Option, Some, None, option_map, MatchOption, IfSome, IsSome, is_some, find, filter, map, length, position, get_or, refl, sym, ap, subst, ◌∙◌, arith}
+use Rattle.std.proofs.Common.{◌≡◌, ◌≢◌, ℕ, suc, ◌-◌, ◌<◌, ◌≤◌, true, false, cond, List, [], ◌∷◌, ◌++◌, Option, Some, None, option_map, MatchOption, IfSome, IsSome, is_some, find, filter, map, length, position, get_or, refl, sym, ap, subst, ◌∙◌, arith}
+use Rattle.std.specs.Prelude.{AllPairs}
 use Rattle.std.specs.List.{slice_get, IsDistinct}
 use Rattle.std.specs.Option.{option_to_list}
 use Rattle.std.specs.Map.{lookup, keys_of}
 use Rattle.std.specs.Str.{bytes_eq}
-use Rattle.std.proofs.lemmas.List.{length-map, map-append, same_from_push, get_or-map}
+use Rattle.std.proofs.lemmas.List.{length-map, length_push, map-append, same_from_push, get_or-map}
+use Rattle.std.proofs.lemmas.List.Kept.{AllPairs-filter}
 use Rattle.std.proofs.lemmas.List.Elements.{filter-append, All-push, All-map, All-weaker}
 use Rattle.std.proofs.lemmas.List.Quantifiers.{position-Some}
 use Rattle.std.proofs.lemmas.Option.{slice_get-map, slice_get-get_or, slice_get_within}
 use Rattle.ebr_base.specs.declared.numbers.EditionNo.{EditionNo}
 use Rattle.ebr_editions.specs.declared.entry.EditionEntry.{EditionEntry}
-use Rattle.ebr_editions.specs.Editions.{is_numbered, edition_of, edition_named, is_living, living, living_entry, name_of, child_of, leaf, gone, IsLineBelow, HasSmallerParent}
-use Rattle.ebr_editions.specs.Chain.{named, IsIndexed}
+use Rattle.ebr_editions.specs.Editions.{is_numbered, edition_of, edition_named, is_living, living, living_entry, name_of, child_of, leaf, gone, IsLineBelow, HasSmallerParent, max_editions}
+use Rattle.ebr_editions.specs.inside.Chain.{named, IsIndexed}
 use Rattle.ebr_editions.proofs.Lists.{by_option, some_same, none_some, false_true, each-find, each-get, find-append}
+use Rattle.ebr_editions.proofs.Names.{pairs-push, free-name, filter-fewer}
 use Rattle.ebr_editions.proofs.Line.{number_of, name_in, has_name, other_than, lookup-named, IsFound, each-found, found-lives, edition_of-living, living-entry, living-none, next_after, next_after-none, child-next, next-place, ends, below-push, below-front, living-gone, numbered-push, numbered-gone, smaller-gone, edition_of-gone, edition_of-bound, name-there, last-fold}
 
 map-some : {X Y : Type 0} (f : X → Y) (o : Option X) (y : Y) → option_map f o ≡ Some y → (x : X) × (o ≡ Some x) × (f x ≡ y)
@@ -22,6 +25,9 @@ map-some f (Some x) y h = (x, refl, some_same h)
 map-none : {X Y : Type 0} (f : X → Y) (o : Option X) → option_map f o ≡ None → o ≡ None
 map-none f None h = refl
 map-none f (Some x) h = none_some (sym h)
+
+abbrev pub other_names : EditionEntry → EditionEntry → Type 0
+other_names x y = x.name ≢ y.name
 
 names_of : (xs : List EditionEntry) → keys_of (map named xs) ≡ map name_in xs
 names_of [] = refl
@@ -118,8 +124,8 @@ module _ (made : List EditionEntry) (index : List (List ℕ × EditionNo)) (defa
   last-is e h = map-none number_of (next_after e (living made)) (sym (child-is e) ∙ h)
 
   -- a child of the last edition
-  pub added : (x : EditionEntry) (e : EditionNo) → is_living made e ≡ true → child_of made e ≡ None → x.parent ≡ Some e → x.living ≡ true → x.number.0 ≡ suc (length made) → IsIndexed (made ++ x ∷ []) (index ++ named x ∷ []) default
-  added x e l c p a n =
+  pub added : (x : EditionEntry) (e : EditionNo) → is_living made e ≡ true → child_of made e ≡ None → x.parent ≡ Some e → x.living ≡ true → x.number.0 ≡ suc (length made) → edition_named made x.name ≡ None → length (living made) < max_editions → IsIndexed (made ++ x ∷ []) (index ++ named x ∷ []) default
+  added x e l c p a n free room =
       let there = living-entry made e l in
       let after : living (made ++ x ∷ []) ≡ living made ++ x ∷ [] =
       filter-append (λ (z : EditionEntry). z.living) made (x ∷ []) ∙ ap (λ b. living made ++ cond b (x ∷ []) []) a in
@@ -131,6 +137,8 @@ module _ (made : List EditionEntry) (index : List (List ℕ × EditionNo)) (defa
           numbered = numbered-push 0 made x s.line.numbered (omega (arith, n));
           parents = All-push HasSmallerParent made x s.line.parents (smaller x.parent p (omega (arith, low, n)));
           line = subst (IsLineBelow None) (sym after) (below-push e None (living made) there.0 x there.2 (last-is e c) p line-is);
+          names = subst (AllPairs other_names) (sym after) (pairs-push other_names (living made) x s.line.names (free-name x.name (living made) free));
+          few = omega (arith, room, length_push (living made) x, ap length after);
           default_lives = ap living_entry (find-append (is_numbered default) made (x ∷ []) stays.0 stays.1) ∙ (sym (ap living_entry stays.1) ∙ s.line.default_lives);
         };
       }
@@ -153,6 +161,8 @@ module _ (made : List EditionEntry) (index : List (List ℕ × EditionNo)) (defa
           numbered = numbered-gone 0 e made s.line.numbered;
           parents = All-map HasSmallerParent (gone e) made (All-weaker HasSmallerParent (λ z. HasSmallerParent (gone e z)) (smaller-gone e) made s.line.parents);
           line = subst (IsLineBelow None) (sym after) (below-front None (filter (other_than e) (living made)) (there.0 ∷ []) (subst (IsLineBelow None) last line-is));
+          names = subst (AllPairs other_names) (sym after) (AllPairs-filter other_names (other_than e) (living made) s.line.names);
+          few = subst (λ xs. length xs ≤ max_editions) (sym after) (filter-fewer (other_than e) (living made) max_editions s.line.few);
           default_lives = ap living_entry (edition_of-gone e default made d) ∙ s.line.default_lives;
         };
       }

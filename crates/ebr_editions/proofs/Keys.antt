@@ -1,10 +1,13 @@
 -- The comparison that keys derive is that of the definitions.
-use Rattle.std.proofs.Common.{◌≡◌, ℕ, List, refl}
+use Rattle.std.proofs.Common.{◌≡◌, ℕ, List, Option, refl, ap, ◌∙◌}
+use Rattle.indexmap.specs.IndexSet.{insert_key}
+use Rattle.ebr_base.specs.declared.numbers.EditionNo.{EditionNo}
 use Rattle.ebr_base.specs.declared.object.Class.{Class}
 use Rattle.ebr_base.specs.declared.object.Class.TheVariants as class
 use Rattle.ebr_base.specs.declared.object.ObjectKey.{ObjectKey}
 use Rattle.ebr_base.specs.contracts.object.ObjectKeyPartialEq.TheImpl.{ghosts}
-use Rattle.ebr_editions.specs.Objects.{same_key}
+use Rattle.ebr_editions.specs.Objects.{same_key, with_key}
+use Rattle.ebr_editions.specs.Held.{Held, Defined, with_definition, hold}
 
 key : Class → List ℕ → ObjectKey
 key c n = record { class = c; name = n }
@@ -24,3 +27,13 @@ by_class class.Trigger class.Trigger m n = refl
 pub derived : ghosts.eq ≡ same_key
 unfolding key
 derived = λ i a b. by_class a.class b.class a.name b.name i
+
+-- what is held after a key and a definition went in
+pub held-more : {O : Type 0} (now : Held O) (keys reserved inserted : List ObjectKey) (editions defined : List (EditionNo × Defined O)) (e : EditionNo) (copy key : ObjectKey) (object : Option O)
+    → ◌≡◌ {A = Held O} (record { keys = keys; editions = editions }) now → reserved ≡ keys → copy ≡ key → inserted ≡ insert_key ghosts.eq reserved copy → defined ≡ with_definition editions e key object
+    → ◌≡◌ {A = Held O} (record { keys = inserted; editions = defined }) (hold now e key object)
+held-more {O} now keys reserved inserted editions defined e copy key object view same_keys same_copy put made =
+    let both : List ObjectKey → List (EditionNo × Defined O) → Held O = λ ks es. record { keys = ks; editions = es } in
+    let names : inserted ≡ with_key keys key =
+    put ∙ (ap (λ eq. insert_key eq reserved copy) derived ∙ (ap (λ ks. with_key ks copy) same_keys ∙ ap (with_key keys) same_copy)) in
+    ap (λ ks. both ks defined) names ∙ (ap (both (with_key keys key)) made ∙ ap (λ (h : Held O). hold h e key object) view)

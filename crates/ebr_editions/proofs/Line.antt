@@ -7,7 +7,7 @@ use Rattle.ebr_base.specs.declared.numbers.EditionNo.{EditionNo}
 use Rattle.ebr_editions.specs.declared.entry.EditionEntry.{EditionEntry}
 use Rattle.std.proofs.lemmas.List.Elements.{recursion_from_All}
 use Rattle.ebr_editions.specs.Editions.{Editions, IsLine, is_edition, is_numbered, edition_of, is_living, living, living_entry, parent_entry, parent_of, line_up, line_from, line_of, is_parent, gone, IsNumberedFrom, IsLineBelow, HasSmallerParent}
-use Rattle.ebr_editions.specs.Chain.{named}
+use Rattle.ebr_editions.specs.inside.Chain.{named}
 use Rattle.ebr_editions.proofs.Lists.{by_test, by_option, cond-true, cond-false, some_same, none_some, false_true, same_edition, is_edition-same, is_edition-other, same_name, name_itself, find-true, each-find, each-get, each-weaker}
 
 abbrev pub number_of : EditionEntry → EditionNo

@@ -1,13 +1,12 @@
 -- The line of editions.
 -- Oracle Database Development Guide 19c, Using Edition-Based Redefinition, Editions: a database begins with the edition
 -- `ORA$BASE`; each later edition is the child of exactly one edition, and an edition has at most one child.
-use Rattle.std.specs.Prelude.{◌≡◌, ℕ, zero, suc, ◌<◌, Bool, true, false, ◌==◌, if◌then◌else◌, nat_le, List, [], ◌∷◌, ◌++◌, Option, Some, None, option_map, is_some, MatchOption, Result, Ok, Err, find, filter, map, length, fold, codes, All}
+use Rattle.std.specs.Prelude.{◌≡◌, ◌≢◌, ℕ, zero, suc, ◌<◌, ◌≤◌, Bool, true, false, ◌==◌, if◌then◌else◌, nat_le, List, [], ◌∷◌, ◌++◌, Option, Some, None, option_map, is_some, MatchOption, Result, Ok, Err, find, filter, map, length, fold, codes, All, AllPairs}
+use Rattle.std.specs.Option.{unwrap_or}
 use Rattle.std.specs.Str.{bytes_eq}
 use Rattle.ebr_base.specs.declared.numbers.EditionNo.{EditionNo}
 use Rattle.ebr_base.specs.declared.code.Code.{Code}
 use Rattle.ebr_base.specs.declared.code.Code.TheVariants.{Ora, Ebr}
-use Rattle.ebr_base.specs.declared.code.Stop.{Stop}
-use Rattle.ebr_base.specs.declared.code.Stop.TheVariants.{Raised, NoMemory}
 use Rattle.ebr_editions.specs.declared.entry.EditionEntry.{EditionEntry}
 
 -- All editions ever made, in the order of creation, and the default edition.
@@ -121,22 +120,13 @@ gone e x = if is_numbered e x then record x { living = false } else x
 abbrev pub without_edition : Editions → EditionNo → Editions
 without_edition c e = record c { made = map (gone e) c.made }
 
-abbrev pub or_no_edition : Option EditionNo → Result EditionNo Code
-or_no_edition None = Err (Ora 38802)
-or_no_edition (Some e) = Ok e
+-- what ALTER DATABASE DEFAULT EDITION answers: ORA-38802 where no living edition has the name
+abbrev pub default_answer : List EditionEntry → List ℕ → Result (Unit {0}) Code
+default_answer made name = if is_some (edition_named made name) then Ok tt else Err (Ora 38802)
 
--- what ALTER DATABASE DEFAULT EDITION finds: the living edition of the name, or ORA-38802
-abbrev pub default_answer : List EditionEntry → List ℕ → Result EditionNo Code
-default_answer made name = or_no_edition (edition_named made name)
-
-abbrev pub with_default : Editions → EditionNo → Editions
-with_default c e = record c { default = e }
-
--- An answer is the one that is defined, a value or a refusal with its code; want of memory alone is free.
-abbrev pub Answers : {T : Type 0} → Result T Stop → Result T Code → Type 0
-Answers (Ok x) answer = answer ≡ Ok x
-Answers (Err (Raised code)) answer = answer ≡ Err code
-Answers (Err NoMemory) answer = Unit {0}
+-- the editions after it: the living edition of the name is the default
+abbrev pub with_default : Editions → List ℕ → Editions
+with_default c name = record c { default = unwrap_or (edition_named c.made name) c.default }
 
 -- each of these editions is the child of the one before it, and the first is the child of `parent`
 abbrev pub IsLineBelow : Option EditionNo → List EditionEntry → Type 0
@@ -153,12 +143,14 @@ abbrev pub HasSmallerParent : EditionEntry → Type 0
 HasSmallerParent x = MatchOption x.parent (x.number.0 ≡ 1) (λ p. p.0 < x.number.0)
 
 -- What holds of every database's editions: they are numbered from 1 in the order of creation, a parent has a smaller
--- number than its child, those that live form a line in which each is the child of the one before it, and the default
--- edition lives.
+-- number than its child, those that live form a line in which each is the child of the one before it, no two of them
+-- share a name, there are at most 256, and the default edition is one of them.
 pub record IsLine (c : Editions) : Type 0 where
   pub numbered : IsNumberedFrom 0 c.made
   pub parents : All HasSmallerParent c.made
   pub line : IsLineBelow None (living c.made)
+  pub names : AllPairs (λ (x y : EditionEntry). x.name ≢ y.name) (living c.made)
+  pub few : length (living c.made) ≤ max_editions
   pub default_lives : is_living c.made c.default ≡ true
 
 -- at most n editions of the line that begins with this one: itself, its parent, and so on up

@@ -1,17 +1,15 @@
 -- What a list of object entries leaves to be kept: the keys, and for each edition the count of its entries and the last
 -- object of each key. This is what contracts see of `Actuals`; what it means is said by the entries that leave it.
-use Rattle.std.specs.Prelude.{◌≡◌, ◌<◌, ℕ, suc, ◌&&◌, not, List, [], Option, is_some, count_by, fold}
+use Rattle.std.specs.Prelude.{◌≡◌, ◌<◌, ℕ, suc, List, [], Option, fold}
 use Rattle.std.specs.Option.{unwrap_or, option_copied}
 use Rattle.std.specs.Borrow.{Bor}
 use Rattle.std.specs.Map.{lookup}
-use Rattle.std.specs.List.{slice_get}
 use Rattle.indexmap.specs.IndexMap.{insert_entry}
 use Rattle.ebr_base.specs.declared.numbers.EditionNo.{EditionNo}
-use Rattle.ebr_base.specs.declared.numbers.Stamp.{Stamp}
+use Rattle.ebr_base.specs.declared.numbers.TheConstants.{MAX_COUNT}
 use Rattle.ebr_base.specs.declared.object.ObjectKey.{ObjectKey}
-use Rattle.ebr_editions.specs.declared.entry.EditionEntry.{EditionEntry}
-use Rattle.ebr_editions.specs.Editions.{is_edition, line_of}
-use Rattle.ebr_editions.specs.Objects.{ObjectEntry, entries_in, same_key, with_key, nearest}
+use Rattle.ebr_editions.specs.Editions.{is_edition}
+use Rattle.ebr_editions.specs.Objects.{ObjectEntry, entries_in, same_key, with_key}
 
 -- one edition's entries: how many, and the object of the last one for each key, in the order of the first ones
 pub record Defined (O : Type 0) : Type 0 where
@@ -48,23 +46,12 @@ module _ {O : Type 0} where
   abbrev pub held : List (ObjectEntry O) → Held O
   held entries = fold (λ h (x : ObjectEntry O). hold h x.edition x.key x.object) nothing_held entries
 
-  -- what is held, read as the definitions read the entries
-  abbrev pub held_object : Held O → EditionNo → ObjectKey → Option (Option O)
-  held_object h e key = lookup (same_key key) (defined_in h.editions e).objects
+-- Entries leave what is held, and those of each edition can be counted.
+pub record HasEntries {O : Type 0} (h : Held O) : Type 0 where
+  pub entries : List (ObjectEntry O)
+  pub is : h ≡ held entries
+  pub few : (e : EditionNo) → entries_in entries e < MAX_COUNT
 
-  abbrev pub held_visible : List EditionEntry → Held O → EditionNo → ObjectKey → Option O
-  held_visible made h e key = nearest (λ d. held_object h d key) (line_of made e)
-
-  abbrev pub held_stamp : Held O → EditionNo → Stamp
-  held_stamp h e = record { edition = e; count = suc (defined_in h.editions e).count }
-
-  abbrev pub held_at : Held O → EditionNo → ℕ → Option (ObjectKey × Option O)
-  held_at h e at = slice_get (defined_in h.editions e).objects at
-
-  -- how many objects an edition sees under other keys than this one
-  abbrev pub held_others : List EditionEntry → Held O → EditionNo → ObjectKey → ℕ
-  held_others made h e key = count_by (λ k. not (same_key k key) && is_some (held_visible made h e k)) h.keys
-
-  -- entries leave what is held, and fewer than n of them are of the edition
-  abbrev pub HasFewer : ℕ → Held O → EditionNo → Type 0
-  HasFewer n h e = (entries : List (ObjectEntry O)) × (h ≡ held entries) × (entries_in entries e < n)
+-- This is so of whichever entries leave what is held.
+abbrev pub ForEntries : {O : Type 0} → Held O → (List (ObjectEntry O) → Type 0) → Type 0
+ForEntries {O} h P = (entries : List (ObjectEntry O)) → h ≡ held entries → P entries

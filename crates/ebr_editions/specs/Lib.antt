@@ -1,5 +1,4 @@
 pub mod Editions
-pub mod Chain
 pub mod Objects
 pub mod Held
-pub mod Trial
+pub mod inside

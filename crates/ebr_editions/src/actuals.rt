@@ -1,14 +1,16 @@
 //! The objects that are actual in each edition.
 
-ghost use Rattle.std.specs.Prelude.{◌≡◌, ◌<◌, [], Some, None, nat_le, IfOk, IfSome, OnOk, OnErr, option_map, List};
+ghost use Rattle.std.specs.Prelude.{◌≡◌, ◌<◌, [], Some, None, nat_le, IfOk, IfSome, OnOk, OnErr, option_map};
 ghost use Rattle.std.specs.Option.{option_copied};
-ghost use Rattle.ebr_editions.specs.Editions.{Answers};
-ghost use Rattle.ebr_editions.specs.Objects.{ObjectEntry, next_stamp, with_entry, Visible, actual_object, actual_at, put_answer, hide_answer};
-ghost use Rattle.ebr_editions.specs.Held.{HasFewer, held, hold, deref_object, defined_in, with_definition, held_object, held_visible, held_stamp, held_at, held_others};
+ghost use Rattle.ebr_base.specs.Answers.{Answers};
+ghost use Rattle.ebr_base.specs.declared.numbers.TheConstants.{MAX_COUNT};
+ghost use Rattle.ebr_editions.specs.Objects.{next_stamp, with_entry, Visible, actual_object, actual_at, put_answer, hide_answer};
+ghost use Rattle.ebr_editions.specs.Held.{HasEntries, ForEntries, held, hold, deref_object, defined_in, with_definition};
+ghost use Rattle.ebr_editions.specs.inside.Held.{held_object, held_visible, held_stamp, held_at, held_others};
 
 use crate::chain::Chain;
 use crate::defined::Definitions;
-use ebr_base::{CloneIn, Code, EditionNo, NoMemory, ObjectKey, Stamp, Stop};
+use ebr_base::{CloneIn, Code, EditionNo, MAX_COUNT, NoMemory, ObjectKey, Stamp, Stop};
 use indexmap::{IndexMap, IndexSet};
 use std::alloc::Global;
 use std::marker::Model;
@@ -20,8 +22,8 @@ const MAX_OBJECTS: usize = 4096;
 ///
 /// Its contracts speak of the plain list of definitions and drops that led to it, in the order in which they were
 /// made. Contracts see what such a list leaves (`held`), and a replaced object is gone, so no value tells the list
-/// itself: each clause names any list that leaves what is held. There always is one, since `new` holds what the empty
-/// list leaves, and `put` and `hide` hold what the list with one more entry leaves.
+/// itself: each clause holds of whichever entries leave what is held (`ForEntries`), and there always are such entries
+/// (`HasEntries`).
 #[derive(Drop)]
 pub struct Actuals<O> {
     alloc: Global,
@@ -31,11 +33,13 @@ pub struct Actuals<O> {
 }
 
 impl<O> Model for Actuals<O> {
-    ghost use Rattle.ebr_editions.specs.Held.{Held};
+    ghost use Rattle.ebr_editions.specs.Held.{Held, HasEntries};
 
     ghost Value = { Held O };
 
     ghost view = { λ a. record { keys = a.keys.keys; editions = a.editions.entries } };
+
+    ghost invariant = { λ a. HasEntries (record { keys = a.keys.keys; editions = a.editions.entries }) };
 }
 
 impl<O: Drop> Actuals<O> {
@@ -52,7 +56,8 @@ impl<O: Drop> Actuals<O> {
 
     /// What the last definition of a key in an edition left.
     fn entry<'a>(&'a self, e: EditionNo, key: &ObjectKey) -> Option<&'a Option<O>>
-        ensures { option_copied result ≡ held_object self.now e key.now }
+        ensures object { option_copied result ≡ held_object self.now e key.now }
+        ensures entries { HasEntries self.now }
     {
         let definitions = self.editions.get(&e)?;
         definitions.get(key)
@@ -60,22 +65,23 @@ impl<O: Drop> Actuals<O> {
 
     /// The object that is actual in an edition itself.
     pub fn actual<'a>(&'a self, e: EditionNo, key: &ObjectKey) -> Option<&'a O>
-        ensures { (entries : List (ObjectEntry O)) → self.now ≡ held entries → option_copied result ≡ actual_object entries e key.now }
+        ensures object { ForEntries self.now (λ entries. option_copied result ≡ actual_object entries e key.now) }
+        ensures entries { HasEntries self.now }
     {
         self.entry(e, key)?.as_ref()
     }
 
     /// The stamp that the next definition or drop in an edition gets.
     pub fn next_stamp(&self, e: EditionNo) -> Stamp
-        requires { HasFewer 4294967295 self.now e }
-        ensures { (entries : List (ObjectEntry O)) → self.now ≡ held entries → result ≡ next_stamp entries e }
+        ensures stamp { ForEntries self.now (λ entries. result ≡ next_stamp entries e) }
+        ensures entries { HasEntries self.now }
     {
         self.stamp(e)
     }
 
     fn stamp(&self, e: EditionNo) -> Stamp
-        requires { (defined_in self.now.editions e).count < 4294967295 }
-        ensures { result ≡ held_stamp self.now e }
+        ensures stamp { result ≡ held_stamp self.now e }
+        ensures entries { HasEntries self.now }
     {
         Stamp {
             edition: e,
@@ -85,7 +91,9 @@ impl<O: Drop> Actuals<O> {
 
     /// How many definitions and drops an edition has had.
     fn count(&self, e: EditionNo) -> u32
-        ensures { result ≡ (defined_in self.now.editions e).count }
+        ensures count { result ≡ (defined_in self.now.editions e).count }
+        ensures few { result < MAX_COUNT }
+        ensures entries { HasEntries self.now }
     {
         match self.editions.get(&e) {
             Some(definitions) => definitions.count(),
@@ -96,7 +104,8 @@ impl<O: Drop> Actuals<O> {
     /// The key at a place among those with a definition or drop in an edition, in the order of their first ones there,
     /// with the object that is actual there; none where the last one was a drop.
     pub fn actual_in(&self, e: EditionNo, at: u32) -> Option<(&ObjectKey, Option<&O>)>
-        ensures { (entries : List (ObjectEntry O)) → self.now ≡ held entries → option_map deref_object result ≡ actual_at entries e at }
+        ensures entry { ForEntries self.now (λ entries. option_map deref_object result ≡ actual_at entries e at) }
+        ensures entries { HasEntries self.now }
     {
         self.at(e, at as usize)
     }
@@ -104,6 +113,7 @@ impl<O: Drop> Actuals<O> {
     fn at(&self, e: EditionNo, at: usize) -> Option<(&ObjectKey, Option<&O>)>
         ensures entry { option_map deref_object result ≡ held_at self.now e at }
         ensures last { IfSome result (λ p. held_object self.now e p.0.now ≡ Some (option_copied p.1)) }
+        ensures entries { HasEntries self.now }
     {
         let definitions = self.editions.get(&e)?;
         definitions.at(at)
@@ -111,7 +121,7 @@ impl<O: Drop> Actuals<O> {
 
     /// The object that an edition sees under a key: its own, or the nearest one up the line that isn't hidden.
     pub fn visible<'a>(&'a self, chain: &Chain, e: EditionNo, key: &ObjectKey) -> Option<&'a O>
-        ensures { (entries : List (ObjectEntry O)) → self.now ≡ held entries → option_copied result ≡ Visible chain.now.made entries e key.now }
+        ensures { ForEntries self.now (λ entries. option_copied result ≡ Visible chain.now.made entries e key.now) }
     {
         self.seen(chain, e, key)
     }
@@ -131,41 +141,33 @@ impl<O: Drop> Actuals<O> {
 
     /// Makes an object actual in an edition.
     ///
-    /// Refusal: EBR-0034 where more than 4,096 objects would be visible in the edition afterwards.
+    /// Refusal: EBR-0034 where more than 4,096 objects would be visible in the edition afterwards. It finds no memory
+    /// where the edition has had 4,294,967,294 definitions and drops. An `Err` changes nothing.
     pub fn put(&mut self, chain: &Chain, e: EditionNo, key: ObjectKey, o: O) -> Result<Stamp, Stop>
-        requires { HasFewer 4294967295 self.old e }
-        ensures answer { (entries : List (ObjectEntry O)) → self.old ≡ held entries → Answers result (put_answer chain.now.made entries e key o) }
-        ensures made { OnOk result ((entries : List (ObjectEntry O)) → self.old ≡ held entries → self.new ≡ held (with_entry entries e key (Some o))) }
+        ensures answer { ForEntries self.old (λ entries. Answers result (put_answer chain.now.made entries e key o)) }
+        ensures made { OnOk result (ForEntries self.old (λ entries. self.new ≡ held (with_entry entries e key (Some o)))) }
         ensures unchanged { OnErr result (self.new ≡ self.old) }
     {
         if self.is_full(chain, e, &key) {
             return Err(Stop::Raised(Code::Ebr(34)));
         }
-        match self.add(e, key, Some(o)) {
-            Ok(stamp) => Ok(stamp),
-            Err(NoMemory) => Err(Stop::NoMemory),
-        }
+        Ok(self.add(e, key, Some(o))?)
     }
 
     /// Hides a key in an edition and in what inherits from there. Its ancestors' objects stay visible in them.
     ///
-    /// Refusal: ORA-04043 where the key isn't visible in the edition.
+    /// Refusal: ORA-04043 where the key isn't visible in the edition. It finds no memory where the edition has had
+    /// 4,294,967,294 definitions and drops. An `Err` changes nothing.
     pub fn hide(&mut self, chain: &Chain, e: EditionNo, key: &ObjectKey) -> Result<Stamp, Stop>
-        requires { HasFewer 4294967295 self.old e }
-        ensures answer { (entries : List (ObjectEntry O)) → self.old ≡ held entries → Answers result (hide_answer chain.now.made entries e key.now) }
-        ensures hidden { OnOk result ((entries : List (ObjectEntry O)) → self.old ≡ held entries → self.new ≡ held (with_entry entries e key.now None)) }
+        ensures answer { ForEntries self.old (λ entries. Answers result (hide_answer chain.now.made entries e key.now)) }
+        ensures hidden { OnOk result (ForEntries self.old (λ entries. self.new ≡ held (with_entry entries e key.now None))) }
         ensures unchanged { OnErr result (self.new ≡ self.old) }
     {
         if self.seen(chain, e, key).is_none() {
             return Err(Stop::Raised(Code::Ora(4043)));
         }
-        let Ok(copy) = key.clone_in(self.alloc) else {
-            return Err(Stop::NoMemory);
-        };
-        match self.add(e, copy, None) {
-            Ok(stamp) => Ok(stamp),
-            Err(NoMemory) => Err(Stop::NoMemory),
-        }
+        let copy = key.clone_in(self.alloc)?;
+        Ok(self.add(e, copy, None)?)
     }
 
     /// Whether no other object than one under this key may become visible in an edition.
@@ -190,12 +192,14 @@ impl<O: Drop> Actuals<O> {
     }
 
     fn add(&mut self, e: EditionNo, key: ObjectKey, object: Option<O>) -> Result<Stamp, NoMemory>
-        requires { (defined_in self.old.editions e).count < 4294967295 }
         ensures stamp { IfOk result (λ stamp. stamp ≡ held_stamp self.old e) }
         ensures held { OnOk result (self.new ≡ hold self.old e key object) }
         ensures unchanged { OnErr result (self.new ≡ self.old) }
     {
         let stamp = self.stamp(e);
+        if stamp.count as usize >= MAX_COUNT {
+            return Err(NoMemory);
+        }
         self.keys.reserve(1)?;
         let copy = key.clone_in(self.alloc)?;
         define(self.alloc, &mut self.editions, e, key, object)?;
@@ -211,7 +215,7 @@ fn define<O: Drop>(
     key: ObjectKey,
     object: Option<O>,
 ) -> Result<(), NoMemory>
-    requires { (defined_in editions.old.entries e).count < 4294967295 }
+    requires { (defined_in editions.old.entries e).count < MAX_COUNT }
     ensures ok { OnOk result (editions.new.entries ≡ with_definition editions.old.entries e key object) }
     ensures err { OnErr result (editions.new.entries ≡ editions.old.entries) }
 {

@@ -2,10 +2,11 @@
 
 ghost use Rattle.std.specs.Prelude.{◌≡◌, ◌≢◌, ◌<◌, [], ◌∷◌, ◌++◌, Some, None, Ok, Err, true, length, slice_get, IfOk, IfErr, IfSome, OnOk, OnErr, codes};
 ghost use Rattle.std.specs.Option.{option_copied};
-ghost use Rattle.ebr_editions.specs.Editions.{IsLine, first_editions, edition_of, living, is_living, parent_of, name_of, edition_named, child_of, leaf, named_parent, next_edition, new_edition, create_answer, with_edition, drop_answer, without_edition, default_answer, Answers};
+ghost use Rattle.ebr_base.specs.Answers.{Answers};
+ghost use Rattle.ebr_editions.specs.Editions.{IsLine, first_editions, edition_of, living, is_living, parent_of, name_of, edition_named, child_of, leaf, named_parent, next_edition, new_edition, create_answer, with_edition, drop_answer, without_edition, default_answer, with_default, max_editions};
 
 use crate::entry::EditionEntry;
-use ebr_base::{CloneIn, Code, EditionNo, Name, NoMemory, Stop};
+use ebr_base::{CloneIn, Code, EditionNo, MAX_COUNT, Name, NoMemory, Stop};
 use indexmap::IndexMap;
 use std::alloc::Global;
 use std::marker::Model;
@@ -30,7 +31,7 @@ pub struct Chain {
 
 impl Model for Chain {
     ghost use Rattle.ebr_editions.specs.Editions.{Editions};
-    ghost use Rattle.ebr_editions.specs.Chain.{IsIndexed};
+    ghost use Rattle.ebr_editions.specs.inside.Chain.{IsIndexed};
 
     ghost Value = { Editions };
 
@@ -143,18 +144,15 @@ impl Chain {
     /// Makes an edition, as the child of the parent or else of the leaf.
     ///
     /// Refusals, in this order: EBR-0031 where a living edition has the name, ORA-38802 where none has the parent's
-    /// name, EBR-0030 where the parent has a living child, EBR-0035 where 256 editions live.
+    /// name, EBR-0030 where the parent has a living child, EBR-0035 where 256 editions live. It finds no memory where
+    /// 4,294,967,295 editions were made. An `Err` changes nothing.
     pub fn create(&mut self, n: Name, parent: Option<&Name>) -> Result<EditionNo, Stop>
-        requires { length self.old.made < 4294967295 }
         ensures answer { Answers result (create_answer self.old.made n (option_copied parent.entry)) }
         ensures made { OnOk result (self.new ≡ with_edition self.old n (option_copied parent.entry)) }
         ensures unchanged { OnErr result (self.new ≡ self.old) }
     {
         match self.place_for(&n, parent) {
-            Ok(p) => match self.add(n, p) {
-                Ok(e) => Ok(e),
-                Err(NoMemory) => Err(Stop::NoMemory),
-            },
+            Ok(p) => Ok(self.add(n, p)?),
             Err(code) => Err(Stop::Raised(code)),
         }
     }
@@ -167,6 +165,7 @@ impl Chain {
         ensures lives { IfOk result (λ p. is_living self.now.made p ≡ true) }
         ensures childless { IfOk result (λ p. child_of self.now.made p ≡ None) }
         ensures free { OnOk result (edition_named self.now.made n.now ≡ None) }
+        ensures room { OnOk result (length (living self.now.made) < max_editions) }
     {
         if self.number(n).is_some() {
             return Err(Code::Ebr(31));
@@ -203,14 +202,17 @@ impl Chain {
 
     /// Adds a child of the leaf, under a name that no living edition has.
     fn add(&mut self, n: Name, p: EditionNo) -> Result<EditionNo, NoMemory>
-        requires few { length self.old.made < 4294967295 }
         requires lives { is_living self.old.made p ≡ true }
         requires childless { child_of self.old.made p ≡ None }
         requires free { edition_named self.old.made n ≡ None }
+        requires room { length (living self.old.made) < max_editions }
         ensures number { IfOk result (λ e. e ≡ next_edition self.old.made) }
         ensures made { OnOk result (self.new ≡ record self.old { made = self.old.made ++ new_edition self.old.made n (Some p) ∷ [] }) }
         ensures unchanged { OnErr result (self.new ≡ self.old) }
     {
+        if self.made.len() >= MAX_COUNT {
+            return Err(NoMemory);
+        }
         self.made.reserve(1)?;
         let number = EditionNo(self.made.len() as u32 + 1);
         self.living.insert(n.clone_in(self.alloc)?, number)?;
@@ -254,11 +256,10 @@ impl Chain {
         self.made[e.0 as usize - 1].living = false;
     }
 
-    /// Makes the living edition of a name the default; ORA-38802 where there is none.
+    /// Makes the living edition of a name the default; ORA-38802 where there is none, and then nothing changes.
     pub fn set_default(&mut self, n: &Name) -> Result<(), Code>
-        ensures refused { IfErr result (λ code. default_answer self.old.made n.now ≡ Err code) }
-        ensures set { OnOk result (default_answer self.old.made n.now ≡ Ok self.new.default) }
-        ensures made { self.new.made ≡ self.old.made }
+        ensures answer { result ≡ default_answer self.old.made n.now }
+        ensures editions { self.new ≡ with_default self.old n.now }
         ensures unchanged { OnErr result (self.new ≡ self.old) }
     {
         match self.number(n) {

@@ -3,6 +3,7 @@
 ghost use Rattle.std.specs.Prelude.{◌≡◌, ◌<◌, Some, IfSome, OnOk, OnErr, slice_get, option_map};
 ghost use Rattle.std.specs.Option.{option_copied};
 ghost use Rattle.std.specs.Map.{lookup};
+ghost use Rattle.ebr_base.specs.declared.numbers.TheConstants.{MAX_COUNT};
 ghost use Rattle.ebr_editions.specs.Objects.{same_key};
 ghost use Rattle.ebr_editions.specs.Held.{Defined, nothing_defined, with_object, deref_object};
 
@@ -39,7 +40,7 @@ impl<O: Drop> Definitions<O> {
 
     /// Notes a definition, or a drop where there is no object.
     pub fn put(&mut self, key: ObjectKey, object: Option<O>) -> Result<(), NoMemory>
-        requires { self.old.count < 4294967295 }
+        requires { self.old.count < MAX_COUNT }
         ensures ok { OnOk result (self.new ≡ with_object self.old key object) }
         ensures err { OnErr result (self.new ≡ self.old) }
     {

@@ -1,21 +1,21 @@
-use Rattle.std.proofs.Common.{◌≡◌, ap, ◌∙◌, List}
-use Rattle.ebr_base.specs.declared.numbers.EditionNo.{EditionNo}
-use Rattle.ebr_base.specs.declared.object.ObjectKey.{ObjectKey}
-use Rattle.ebr_editions.specs.Held.{Held, Defined, with_definition}
-use Rattle.ebr_editions.specs.Objects.{with_key}
-use Rattle.indexmap.specs.IndexSet.{insert_key}
+use Rattle.std.proofs.Common.{◌<◌, suc, ap, subst, arith}
+use Rattle.ebr_base.specs.declared.numbers.Stamp.{Stamp}
+use Rattle.ebr_base.specs.declared.numbers.TheConstants.{MAX_COUNT}
+use Rattle.ebr_editions.specs.Held.{HasEntries, defined_in}
+use Rattle.ebr_editions.proofs.Count.{has-after}
 use Rattle.ebr_editions.proofs.Entries.{if_ok}
-use Rattle.ebr_editions.proofs.Keys.{derived}
+use Rattle.ebr_editions.proofs.Keys.{held-more}
 use Rattle.ebr_editions.proofs.actuals.Actuals.add.Goals as goal
 
 pub returns-clause-held : goal.returns-clause-held
 returns-clause-held g c =
-    let made : List ObjectKey → List (EditionNo × Defined g.row.O.Denot) → Held g.row.O.Denot = λ ks es. record { keys = ks; editions = es } in
-    let put : c.insert.new.self.keys ≡ with_key c.reserve.new.self.keys c.in_ok-copy.copy = if_ok c.insert.result c.unwrap.result _ c.unwrap.ensures c.insert.ensures.keys ∙ ap (λ eq. insert_key eq c.reserve.new.self.keys c.in_ok-copy.copy) derived in
-    let keys : c.insert.new.self.keys ≡ with_key c.args.self.now.keys c.args.key =
-    put
-    ∙ (ap (λ ks. with_key ks c.in_ok-copy.copy) (c.in_ok-reserve.ensures.keys ∙ ap (λ (h : Held g.row.O.Denot). h.keys) c.self.view_is)
-    ∙ ap (with_key c.args.self.now.keys) c.in_ok-copy.ensures) in
-    let editions : c.define.new.editions.entries ≡ with_definition c.args.self.now.editions c.args.e c.args.key c.args.object =
-    c.in_ok-define.ensures.ok ∙ ap (λ (h : Held g.row.O.Denot). with_definition h.editions c.args.e c.args.key c.args.object) c.self.view_is in
-    ap (λ ks. made ks c.define.new.editions.entries) keys ∙ ap (made (with_key c.args.self.now.keys c.args.key)) editions
+    held-more c.args.self.now _ _ _ _ _ c.args.e _ c.args.key c.args.object c.self.view_is c.in_ok-reserve.ensures.keys c.in_ok-copy.ensures
+    (if_ok c.insert.result c.unwrap.result _ c.unwrap.ensures c.insert.ensures.keys) c.in_ok-define.ensures.ok
+
+pub invariant_of-self-2 : goal.invariant_of-self-2
+invariant_of-self-2 g c =
+    let has : HasEntries c.args.self.now = subst HasEntries c.self.view_is c.self.invariant in
+    let room : suc (defined_in c.args.self.now.editions c.args.e).count < MAX_COUNT = omega (arith, c.if-stamp-ge-MAX_COUNT.false, ap (λ (s : Stamp). s.count) c.stamp-stamp.ensures.stamp) in
+    has-after c.args.self.now _ c.args.e c.args.key c.args.object has room
+    (held-more c.args.self.now _ _ _ _ _ c.args.e _ c.args.key c.args.object c.self.view_is c.in_ok-reserve.ensures.keys c.in_ok-copy.ensures
+    (if_ok c.insert.result c.unwrap.result _ c.unwrap.ensures c.insert.ensures.keys) c.in_ok-define.ensures.ok)

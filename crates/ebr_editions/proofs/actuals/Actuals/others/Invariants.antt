@@ -1,6 +1,6 @@
 use Rattle.std.proofs.Common.{◌≡◌, not, ◌&&◌, is_some, take, count_by}
 use Rattle.ebr_editions.specs.Objects.{same_key}
-use Rattle.ebr_editions.specs.Held.{held_visible}
+use Rattle.ebr_editions.specs.inside.Held.{held_visible}
 use Rattle.ebr_editions.proofs.actuals.Actuals.others.Given as goal
 
 -- the count of those among the keys so far

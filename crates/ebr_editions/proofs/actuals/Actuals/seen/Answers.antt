@@ -1,7 +1,7 @@
 use Rattle.std.proofs.Common.{rules, ◌≡◌, sym, subst, Option}
 use Rattle.ebr_base.specs.declared.numbers.EditionNo.{EditionNo}
 use Rattle.ebr_editions.specs.Editions.{line_from}
-use Rattle.ebr_editions.specs.Held.{held_object, held_visible}
+use Rattle.ebr_editions.specs.inside.Held.{held_object, held_visible}
 use Rattle.ebr_editions.specs.Objects.{nearest}
 use Rattle.ebr_editions.proofs.Entries.{seen-step}
 use Rattle.ebr_editions.proofs.actuals.Actuals.seen.Goals as goal

@@ -1,7 +1,7 @@
 use Rattle.std.proofs.Common.{◌≡◌}
 use Rattle.ebr_editions.specs.Editions.{line_from}
 use Rattle.ebr_editions.specs.Objects.{nearest}
-use Rattle.ebr_editions.specs.Held.{held_object, held_visible}
+use Rattle.ebr_editions.specs.inside.Held.{held_object, held_visible}
 use Rattle.ebr_editions.proofs.Entries.{above}
 use Rattle.ebr_editions.proofs.actuals.Actuals.seen.Given as goal
 

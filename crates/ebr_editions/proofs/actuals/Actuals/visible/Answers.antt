@@ -1,5 +1,5 @@
 use Rattle.std.proofs.Common.{ap, ◌∙◌}
-use Rattle.ebr_editions.specs.Held.{held_visible}
+use Rattle.ebr_editions.specs.inside.Held.{held_visible}
 use Rattle.ebr_editions.proofs.Entries.{visible-held}
 use Rattle.ebr_editions.proofs.actuals.Actuals.visible.Goals as goal
 

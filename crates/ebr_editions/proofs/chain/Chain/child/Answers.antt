@@ -3,7 +3,7 @@ use Rattle.std.specs.List.{slice_get}
 use Rattle.std.proofs.lemmas.Option.{slice_get_past}
 use Rattle.ebr_base.specs.declared.numbers.EditionNo.{EditionNo}
 use Rattle.ebr_editions.specs.Editions.{Editions}
-use Rattle.ebr_editions.specs.Chain.{IsIndexed}
+use Rattle.ebr_editions.specs.inside.Chain.{IsIndexed}
 use Rattle.ebr_editions.proofs.Lists.{false_true}
 use Rattle.ebr_editions.proofs.Index.{child-gone, child-at, name-found, index-length}
 use Rattle.ebr_editions.proofs.chain.Chain.child.Goals as goal

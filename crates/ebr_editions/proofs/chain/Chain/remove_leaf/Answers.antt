@@ -3,7 +3,7 @@ use Rattle.std.proofs.lemmas.Option.{slice_get_read}
 use Rattle.ebr_base.specs.declared.numbers.EditionNo.{EditionNo}
 use Rattle.ebr_editions.specs.declared.entry.EditionEntry.{EditionEntry}
 use Rattle.ebr_editions.specs.Editions.{Editions, is_living, child_of, gone, without_edition, IsNumberedFrom}
-use Rattle.ebr_editions.specs.Chain.{IsIndexed}
+use Rattle.ebr_editions.specs.inside.Chain.{IsIndexed}
 use Rattle.ebr_editions.proofs.Line.{living-entry, edition_of-above, edition_of-bound, gone-set}
 use Rattle.ebr_editions.proofs.Index.{removed}
 use Rattle.ebr_editions.proofs.chain.Chain.remove_leaf.Goals as goal

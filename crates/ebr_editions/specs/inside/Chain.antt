@@ -1,4 +1,4 @@
--- How the code of `Chain` stands to the editions. A private word: no promise rests on it.
+-- How the code of `Chain` stands to the editions.
 use Rattle.std.specs.Prelude.{◌≡◌, ℕ, List, map}
 use Rattle.ebr_base.specs.declared.numbers.EditionNo.{EditionNo}
 use Rattle.ebr_editions.specs.declared.entry.EditionEntry.{EditionEntry}
