@@ -3,6 +3,7 @@ use Rattle.std.proofs.Common.{◌≡◌, Bool, true, false, cond, ◌||◌, ◌=
 use Rattle.std.specs.Prelude.{Some, None, option_map, find}
 use Rattle.std.proofs.lemmas.Bool.{or_parts, or_from, and_parts, and_from, eqb-true, eq-eqb}
 use Rattle.std.proofs.lemmas.List.Folds.{list_any-append}
+use Rattle.ebr_base.specs.declared.numbers.TheConstants.{MAX_COUNT}
 use Rattle.ebr_base.specs.declared.row.RowId.{RowId}
 use Rattle.ebr_base.specs.declared.row.TxId.{TxId}
 use Rattle.ebr_locks.specs.Locks.{Lock, same_row, same_tx, holder_of, is_locked, IsLockedOnce, AreLocks}
@@ -59,7 +60,7 @@ once-push row tx (l ∷ taken) e once =
       once-push row tx taken p.1 once.1,
     )
 
-pub locks-push : (row : RowId) (tx : TxId) (taken : List Lock) → holder_of row taken ≡ None → length taken < 4294967295 → AreLocks taken → AreLocks (taken ++ (row, tx) ∷ [])
+pub locks-push : (row : RowId) (tx : TxId) (taken : List Lock) → holder_of row taken ≡ None → length taken < MAX_COUNT → AreLocks taken → AreLocks (taken ++ (row, tx) ∷ [])
 locks-push row tx taken none room are = record {
   once = once-push row tx taken (free-row row taken none) are.once;
   count = omega (arith, length-append taken ((row, tx) ∷ []));

@@ -2,6 +2,7 @@
 -- row lock is held until its transaction ends or goes back to a savepoint before it).
 use Rattle.std.specs.Prelude.{ℕ, zero, suc, Bool, not, ◌&&◌, ◌==◌, ◌<◌, ◌≤◌, ◌≡◌, false, if◌then◌else◌, List, [], ◌∷◌, ◌++◌, length, filter, find, Option, Some, None, option_map, Result, Ok, Err}
 use Rattle.std.specs.List.{list_any}
+use Rattle.ebr_base.specs.declared.numbers.TheConstants.{MAX_COUNT}
 use Rattle.ebr_base.specs.declared.row.RowId.{RowId}
 use Rattle.ebr_base.specs.declared.row.TxId.{TxId}
 use Rattle.ebr_locks.specs.declared.locks.Held.{Held}
@@ -70,4 +71,4 @@ IsLockedOnce (l ∷ taken) = (is_locked l.0 taken ≡ false) × IsLockedOnce tak
 -- What holds of the locks at all times: no row is there twice, and they can be counted.
 pub record AreLocks (taken : List Lock) : Type 0 where
   pub once : IsLockedOnce taken
-  pub count : length taken ≤ 4294967295
+  pub count : length taken ≤ MAX_COUNT

@@ -4,12 +4,9 @@ ghost use Rattle.std.specs.Prelude.{◌≡◌, ◌≤◌, ◌<◌, ◌+◌, [], 
 ghost use Rattle.std.specs.Option.{option_copied};
 ghost use Rattle.ebr_locks.specs.Locks.{HasRoom, AreLocks, same_row, holder_of, is_of, locks_of, others_than, take_answer, after_take, released};
 
-use ebr_base::{NoMemory, RowId, TxId};
+use ebr_base::{MAX_COUNT, NoMemory, RowId, TxId};
 use std::alloc::Global;
 use std::marker::Model;
-
-/// The most rows that are locked at one time; a reserve beyond it finds no memory.
-const MAX_LOCKS: usize = 4294967295;
 
 /// Another transaction holds the row.
 #[derive(Clone, Copy, Debug, PartialEq, Eq)]
@@ -25,11 +22,12 @@ pub struct Locks {
 
 impl Model for Locks {
     ghost use Rattle.std.specs.Prelude.{vec_capacity, min};
+    ghost use Rattle.ebr_base.specs.declared.numbers.TheConstants.{MAX_COUNT};
     ghost use Rattle.ebr_locks.specs.Locks.{LockTable, AreLocks};
 
     ghost Value = { LockTable };
 
-    ghost view = { λ s. record { taken = s.taken.items; room = min (vec_capacity s.taken) 4294967295 } };
+    ghost view = { λ s. record { taken = s.taken.items; room = min (vec_capacity s.taken) MAX_COUNT } };
 
     ghost invariant = { λ s. AreLocks s.taken.items };
 }
@@ -51,7 +49,7 @@ impl Locks {
         ensures room { OnOk result (HasRoom self.new row tx) }
         ensures taken { self.new.taken ≡ self.old.taken }
     {
-        if self.taken.len() >= MAX_LOCKS {
+        if self.taken.len() >= MAX_COUNT {
             return Err(NoMemory);
         }
         self.taken.reserve(1)?;

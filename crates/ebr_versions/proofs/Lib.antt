@@ -2,4 +2,3 @@ pub mod DataLemmas
 pub mod NumberLemmas
 pub mod KeyLemmas
 pub mod LawLemmas
-pub mod ApartLemmas

@@ -1,5 +1,6 @@
 -- The committed data with its tables, as contracts see it. (own)
 use Rattle.std.specs.Prelude.{◌≡◌, ◌≢◌, ◌<◌, ◌≤◌, ℕ, List, length, true, All, AllPairs}
+use Rattle.ebr_base.specs.declared.numbers.TheConstants.{MAX_COUNT}
 use Rattle.ebr_base.specs.declared.row.Change.{Change}
 use Rattle.ebr_versions.specs.declared.table.Table.{Table}
 use Rattle.ebr_versions.specs.Keys.{is_added, KeysDiffer}
@@ -10,10 +11,10 @@ pub record Store : Type 0 where
   pub tables : List Table
   pub room : ℕ
 
--- There is room for committing these changes. `reserve` makes it and `commit` asks for it; a caller doesn't look into this
--- word, which counts the commits that fit.
+-- There is room for committing these changes, and the commit can be counted. `reserve` makes it and `commit` asks for it;
+-- a caller doesn't look into this word, which counts the commits that fit.
 unfoldable pub HasRoom : Store → List Change → Type 0
-HasRoom store changes = 0 < store.room
+HasRoom store changes = (0 < store.room) × (length store.commits < MAX_COUNT)
 
 -- each change is of a table that was added
 abbrev pub OfAdded : List Table → List Change → Type 0
@@ -21,7 +22,7 @@ OfAdded tables changes = All (λ (c : Change). is_added tables c.row.table ≡ t
 
 -- what holds of the data at any time
 pub record IsSound (commits : List (List Change)) (tables : List Table) : Type 0 where
-  pub few : length commits ≤ 4294967295
+  pub few : length commits ≤ MAX_COUNT
   pub added : All (OfAdded tables) commits
   pub apart : AllPairs (λ (x y : Table). x.id ≢ y.id) tables
   pub keys : KeysDiffer commits tables

@@ -2,6 +2,7 @@
 
 ghost use Rattle.std.specs.Prelude.{◌≡◌, ◌≤◌, length, find, reverse, position};
 ghost use Rattle.std.specs.Option.{option_copied};
+ghost use Rattle.ebr_base.specs.declared.numbers.TheConstants.{MAX_COUNT};
 ghost use Rattle.ebr_versions.specs.Data.{is_of, Latest, At, changes_row, changed_since, lesser, next_number_in, next_number, next_row};
 
 use ebr_base::{Change, List, RowId, RowNo, TableId, Value};
@@ -35,7 +36,7 @@ pub fn at(commits: &[List<Change>], n: u32, row: RowId) -> Option<&List<Value>>
 
 /// The number, counted from 1, of the first commit after the first `n` that changes the row.
 pub fn changed_since(commits: &[List<Change>], row: RowId, n: u32) -> Option<u32>
-    requires { length commits.now ≤ 4294967295 }
+    requires { length commits.now ≤ MAX_COUNT }
     ensures { result ≡ changed_since commits.now row n }
 {
     let first = commits.len().min(n as usize);

@@ -6,7 +6,7 @@ ghost use Rattle.ebr_versions.specs.Data.{Latest, At, changed_since, next_row};
 
 use crate::table::{Table, key_places};
 use crate::{keys, rows};
-use ebr_base::{Change, List, NoMemory, RowId, RowNo, TableId, Value};
+use ebr_base::{Change, List, MAX_COUNT, NoMemory, RowId, RowNo, TableId, Value};
 use std::alloc::Global;
 use std::marker::Model;
 
@@ -56,7 +56,8 @@ impl Versions {
         Ok(())
     }
 
-    /// Makes room for committing just these changes. An `Err` changes nothing but room.
+    /// Makes room for committing just these changes. It finds no memory where there are 4,294,967,295 commits. An `Err`
+    /// changes nothing but room.
     #[tactic(auto, unfolding(crate::specs::Store::HasRoom))]
     pub fn reserve(&mut self, changes: &List<Change>) -> Result<(), NoMemory>
         ensures room { OnOk result (HasRoom self.new changes.now) }
@@ -65,6 +66,9 @@ impl Versions {
     {
         // The list of commits needs one more place, whatever the changes are.
         let _ = changes;
+        if self.commits.len() >= MAX_COUNT {
+            return Err(NoMemory);
+        }
         self.commits.reserve(1)?;
         Ok(())
     }
@@ -75,7 +79,6 @@ impl Versions {
     pub fn commit(&mut self, changes: List<Change>) -> u32
         requires room { HasRoom self.old changes }
         requires added { OfAdded self.old.tables changes }
-        requires few { length self.old.commits < 4294967295 }
         requires keys { KeysDiffer (self.old.commits ++ changes ∷ []) self.old.tables }
         ensures commits { self.new.commits ≡ self.old.commits ++ changes ∷ [] }
         ensures tables { self.new.tables ≡ self.old.tables }

@@ -1,5 +1,6 @@
 use Rattle.std.proofs.Common.{◌≡◌, ◌<◌, ◌++◌, ◌∷◌, [], length, ap, sym, subst, ◌∙◌, arith}
 use Rattle.std.specs.Prelude.{None, is_ok, if◌then◌else◌, vec_capacity, min}
+use Rattle.ebr_base.specs.declared.numbers.TheConstants.{MAX_COUNT}
 use Rattle.ebr_locks.specs.Locks.{holder_of, AreLocks, HasRoom}
 use Rattle.ebr_locks.proofs.Taken.{free-row, holder-push, locks-push}
 use Rattle.ebr_locks.proofs.locks.Locks.take.Goals as goal
@@ -9,7 +10,7 @@ unfolding HasRoom
 invariant_of-self c =
     let items = c.self.inside.taken.items in
     let none : holder_of c.args.row items ≡ None = ap (holder_of c.args.row) (sym c.as_slice.ensures.value) ∙ sym c.holder.ensures ∙ c.in-None.is in
-    let room : length items < min (vec_capacity c.self.inside.taken) 4294967295 = subst (λ s. length s.taken < s.room) (sym c.self.view_is) c.requires in
+    let room : length items < min (vec_capacity c.self.inside.taken) MAX_COUNT = subst (λ s. length s.taken < s.room) (sym c.self.view_is) c.requires in
     let pushed : c.push.new.self.items ≡ items ++ (c.args.row, c.args.tx) ∷ [] =
     c.push.ensures.items ∙ ap (λ r. if is_ok r then items ++ (c.args.row, c.args.tx) ∷ [] else items) c.unwrap.ensures
     in

@@ -1,0 +1,103 @@
+//! Locks: that the calls succeed with ample memory, and a short history worked out by hand.
+
+use ebr_base::{NoMemory, RowId, RowNo, SessionId, TableId, TxId};
+use ebr_locks::{Held, Locks};
+use std::test::Fail;
+
+fn row(n: u64) -> RowId {
+    RowId {
+        table: TableId(1),
+        row: RowNo(n),
+    }
+}
+
+/// One step of a history.
+#[derive(Clone, Copy)]
+enum Step {
+    /// A take of a row by a transaction, and the transaction that holds it where it is refused.
+    Take(u64, TxId, Result<(), Held>),
+    /// A release by a transaction down to a mark.
+    Release(TxId, u32),
+    /// How many rows a transaction holds.
+    Holds(TxId, u32),
+    /// The transaction that holds a row.
+    Holder(u64, Option<TxId>),
+}
+
+/// Whether a step answers as wanted.
+fn goes(locks: &mut Locks, step: Step) -> Result<bool, NoMemory> {
+    match step {
+        Step::Take(n, by, wanted) => {
+            locks.reserve(row(n), by)?;
+            Ok(locks.take(row(n), by) == wanted)
+        }
+        Step::Release(by, mark) => {
+            locks.release_to(by, mark);
+            Ok(true)
+        }
+        Step::Holds(by, wanted) => Ok(locks.held(by) == wanted),
+        Step::Holder(n, wanted) => Ok(locks.holder(row(n)) == wanted),
+    }
+}
+
+const A: TxId = TxId {
+    session: SessionId(1),
+    depth: 0,
+};
+
+/// An autonomous transaction of the same session.
+const INNER: TxId = TxId {
+    session: SessionId(1),
+    depth: 1,
+};
+
+const B: TxId = TxId {
+    session: SessionId(2),
+    depth: 0,
+};
+
+static STEPS: [Step; 29] = [
+    Step::Holder(1, None),
+    Step::Holds(A, 0),
+    Step::Take(1, A, Ok(())),
+    Step::Take(2, A, Ok(())),
+    Step::Take(3, B, Ok(())),
+    Step::Take(4, A, Ok(())),
+    // Another transaction, an autonomous one of the same session too, doesn't get the row.
+    Step::Take(2, B, Err(Held { by: A })),
+    Step::Take(2, INNER, Err(Held { by: A })),
+    Step::Holder(2, Some(A)),
+    // A row that is held already isn't counted twice.
+    Step::Take(1, A, Ok(())),
+    Step::Holds(A, 3),
+    Step::Holds(B, 1),
+    Step::Holds(INNER, 0),
+    // The first rows that were taken stay.
+    Step::Release(A, 2),
+    Step::Holds(A, 2),
+    Step::Holder(1, Some(A)),
+    Step::Holder(2, Some(A)),
+    Step::Holder(3, Some(B)),
+    Step::Holder(4, None),
+    // A freed row can be taken, and then is the last one.
+    Step::Take(4, B, Ok(())),
+    Step::Release(B, 1),
+    Step::Holder(3, Some(B)),
+    Step::Holder(4, None),
+    // A mark above the count frees nothing; 0 frees all.
+    Step::Release(A, 9),
+    Step::Holds(A, 2),
+    Step::Release(A, 0),
+    Step::Holder(1, None),
+    Step::Holds(A, 0),
+    Step::Holds(B, 1),
+];
+
+#[test]
+fn rows_are_held_until_they_are_released(rt: HostRuntime) -> Result<(), Fail> {
+    let mut locks = Locks::new(rt.alloc())?;
+    for step in &STEPS {
+        assert!(rt; goes(&mut locks, *step)?);
+    }
+    Ok(())
+}
