@@ -1,5 +1,6 @@
 -- Reading a definition is right.
-use Rattle.std.proofs.Common.{◌≡◌, List, [], ◌∷◌, length, Some, None, refl, ap, arith}
+use Rattle.std.proofs.Common.{◌≡◌, List, Option, Some, None, Result, Ok, Err, refl, sym, ◌∙◌}
+use Rattle.std.specs.Prelude.{IfOk, IfSome}
 use Rattle.ebr_lexer.specs.declared.token.Token.{Token}
 use Rattle.ebr_grammar.specs.Forms.{IsReader}
 use Rattle.ebr_grammar.specs.Reading.{nullable, first, whole}
@@ -27,21 +28,14 @@ reads_definitions = record {
       complete part_hints SpellsPart part_reader (λ part ts a s. (reads_parts part).begun ts a s) (λ part front rest a s stop. (reads_parts part).complete front rest a s stop) definition definition_is_clear front rest d s stop;
 }
 
-pub is_found : (ts : List Token) (d : Definition) → whole (reads_by definition ts) ≡ Some d → SpellsDefinition ts d
-is_found ts d e = depth.whole_sound (first part_hints definition) (after part_hints definition) SpellsDefinition (reads_by definition) reads_definitions ts d e
+pub is_found : {E : Type 0} (ts : List Token) (r : Result (Option Definition) E) → IfOk r (λ o. o ≡ whole (reads_by definition ts)) → IfOk r (λ o. IfSome o (SpellsDefinition ts))
+is_found ts (Err e) h = tt
+is_found ts (Ok None) h = tt
+is_found ts (Ok (Some d)) h = depth.whole_sound (first part_hints definition) (after part_hints definition) SpellsDefinition (reads_by definition) reads_definitions ts d (sym h)
 
-pub is_only : (ts : List Token) (d : Definition) → SpellsDefinition ts d → whole (reads_by definition ts) ≡ Some d
-is_only ts d s = depth.whole_complete (first part_hints definition) (after part_hints definition) SpellsDefinition (reads_by definition) reads_definitions ts d s
+pub is_only : {E : Type 0} (ts : List Token) (r : Result (Option Definition) E) → IfOk r (λ o. o ≡ whole (reads_by definition ts)) → (d : Definition) → SpellsDefinition ts d → IfOk r (λ o. o ≡ Some d)
+is_only ts (Err e) h d s = tt
+is_only ts (Ok o) h d s = h ∙ depth.whole_complete (first part_hints definition) (after part_hints definition) SpellsDefinition (reads_by definition) reads_definitions ts d s
 
 pub is_one : (ts : List Token) (a b : Definition) → SpellsDefinition ts a → SpellsDefinition ts b → a ≡ b
 is_one ts a b p q = depth.one_tree (first part_hints definition) (after part_hints definition) SpellsDefinition (reads_by definition) reads_definitions ts a b p q
-
-pub ended : (ts : List Token) (d : Definition) (rest : List Token) → reads_by definition ts ≡ Some (d, rest) → length rest ≡ 0 → whole (reads_by definition ts) ≡ Some d
-ended ts d rest e none = rw (e, none) refl
-
-pub unended : (ts : List Token) (d : Definition) (rest : List Token) → reads_by definition ts ≡ Some (d, rest) → (length rest ≡ 0 → ⊥) → whole (reads_by definition ts) ≡ None
-unended ts d [] e some = absurd (some refl)
-unended ts d (t ∷ rest) e some = rw e (grind arith)
-
-pub unread : (ts : List Token) → reads_by definition ts ≡ None → whole (reads_by definition ts) ≡ None
-unread ts e = ap whole e

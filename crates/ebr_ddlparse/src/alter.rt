@@ -7,7 +7,7 @@ ghost use Rattle.ebr_ddlparse.specs.Definitions as spec;
 use crate::types::declared_type;
 use ebr_ast::Definition;
 use ebr_base::Name;
-use ebr_grammar::{Kind, ReadStop, Tokens};
+use ebr_grammar::{Kind, ReadStop, Tokens, ended};
 use std::alloc::Global;
 
 /// What stands behind ALTER DATABASE.
@@ -37,8 +37,7 @@ fn closed_column(
     ensures { Reads (spec.behind table (spec.reads_by spec.closed_column tokens.old)) result tokens.new }
 {
     let added = new_column(alloc, tokens, table)?;
-    tokens.expect(Kind::RightParen)?;
-    Ok(added)
+    ended(tokens, Kind::RightParen, added)
 }
 
 /// What stands behind ADD.

@@ -5,7 +5,7 @@ ghost use Rattle.ebr_grammar.specs.Outcome.{Reads};
 ghost use Rattle.ebr_ddlparse.specs.Base as spec;
 
 use ebr_base::{List, Name};
-use ebr_grammar::{Kind, ReadStop, Tokens};
+use ebr_grammar::{Kind, ReadStop, Tokens, ended};
 use std::alloc::Global;
 
 fn one_name(alloc: Global, tokens: &mut Tokens<'_>) -> Result<Name, ReadStop>
@@ -43,6 +43,5 @@ pub fn closed_names(alloc: Global, tokens: &mut Tokens<'_>) -> Result<List<Name>
     ensures { Reads (spec.reading spec.closed_names tokens.old) result tokens.new }
 {
     let found = names(alloc, tokens)?;
-    tokens.expect(Kind::RightParen)?;
-    Ok(found)
+    ended(tokens, Kind::RightParen, found)
 }

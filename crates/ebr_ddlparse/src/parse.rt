@@ -2,7 +2,9 @@
 
 ghost use Rattle.std.specs.Prelude.{◌≡◌, List as Sequence, Some, IfOk, IfSome};
 ghost use Rattle.ebr_lexer.specs.declared.token.Token.{Token as Piece};
+ghost use Rattle.ebr_grammar.specs.Forms.{Found};
 ghost use Rattle.ebr_grammar.specs.Outcome.{Reads};
+ghost use Rattle.ebr_grammar.specs.Reading as reading;
 ghost use Rattle.ebr_ast.specs.declared.definition.Definition.{Definition as Tree};
 ghost use Rattle.ebr_ddlparse.specs.Types.{type_reader};
 ghost use Rattle.ebr_ddlparse.specs.Views.{view_reader};
@@ -14,7 +16,7 @@ use crate::drops::dropped;
 use crate::types::declared_type;
 use crate::views::editioning_view;
 use ebr_ast::{DeclaredType, Definition, EditioningView};
-use ebr_base::NoMemory;
+use ebr_base::{NoMemory, Shared};
 use ebr_grammar::{Kind, ReadStop, Tokens};
 use ebr_lexer::Token;
 use std::alloc::Global;
@@ -32,7 +34,7 @@ pub fn read_type(alloc: Global, tokens: &mut Tokens<'_>) -> Result<DeclaredType,
 pub fn read_editioning_view(
     alloc: Global,
     tokens: &mut Tokens<'_>,
-) -> Result<EditioningView, ReadStop>
+) -> Result<Shared<EditioningView>, ReadStop>
     ensures { Reads (view_reader tokens.old) result tokens.new }
 {
     editioning_view(alloc, tokens)
@@ -51,15 +53,11 @@ fn read_definition(alloc: Global, tokens: &mut Tokens<'_>) -> Result<Definition,
     }
 }
 
-/// The definition that the tokens spell, all of them; none where they spell none.
-pub fn definition(alloc: Global, tokens: &[Token]) -> Result<Option<Definition>, NoMemory>
-    // What is found is spelled by the tokens.
-    ensures found { IfOk result (λ r. IfSome r (λ d. spec.SpellsDefinition tokens.now d)) }
-    // What the tokens spell is found.
-    ensures only { (d : Tree) → spec.SpellsDefinition tokens.now d → IfOk result (λ r. r ≡ Some d) }
+/// What was read, where no token is left.
+fn whole<T: Drop>(read: Result<T, ReadStop>, rest: &Tokens<'_>) -> Result<Option<T>, NoMemory>
+    ensures { (found : Found T) → Reads found read rest.now → IfOk result (λ r. r ≡ reading.whole found) }
 {
-    let mut rest = Tokens::new(tokens);
-    match read_definition(alloc, &mut rest) {
+    match read {
         Ok(tree) => {
             if rest.left() == 0 {
                 Ok(Some(tree))
@@ -70,6 +68,18 @@ pub fn definition(alloc: Global, tokens: &[Token]) -> Result<Option<Definition>,
         Err(ReadStop::NoTree) => Ok(None),
         Err(ReadStop::NoMemory) => Err(NoMemory),
     }
+}
+
+/// The definition that the tokens spell, all of them; none where they spell none.
+pub fn definition(alloc: Global, tokens: &[Token]) -> Result<Option<Definition>, NoMemory>
+    // What is found is spelled by the tokens.
+    ensures found { IfOk result (λ r. IfSome r (λ d. spec.SpellsDefinition tokens.now d)) }
+    // What the tokens spell is found.
+    ensures only { (d : Tree) → spec.SpellsDefinition tokens.now d → IfOk result (λ r. r ≡ Some d) }
+{
+    let mut rest = Tokens::new(tokens);
+    let read = read_definition(alloc, &mut rest);
+    whole(read, &rest)
 }
 
 /// Tokens spell one definition at most.

@@ -7,8 +7,8 @@ ghost use Rattle.ebr_ddlparse.specs.Views as spec;
 
 use crate::names::closed_names;
 use ebr_ast::{EditioningView, ViewItem};
-use ebr_base::{List, Name};
-use ebr_grammar::{Kind, NAME_KINDS, ReadStop, Tokens};
+use ebr_base::{List, Name, Shared};
+use ebr_grammar::{Kind, NAME_KINDS, ReadStop, Tokens, ended, shared};
 use std::alloc::Global;
 
 fn alias(alloc: Global, tokens: &mut Tokens<'_>) -> Result<Option<Name>, ReadStop>
@@ -65,8 +65,7 @@ fn selected(alloc: Global, tokens: &mut Tokens<'_>) -> Result<List<ViewItem>, Re
     tokens.expect(Kind::As)?;
     tokens.expect(Kind::Select)?;
     let found = items(alloc, tokens)?;
-    tokens.expect(Kind::From)?;
-    Ok(found)
+    ended(tokens, Kind::From, found)
 }
 
 /// A view's items, and its table.
@@ -115,10 +114,13 @@ fn view_of(head: (Name, List<Name>), body: (List<ViewItem>, Name)) -> Editioning
 }
 
 /// A view, from EDITIONING on.
-pub fn editioning_view(alloc: Global, tokens: &mut Tokens<'_>) -> Result<EditioningView, ReadStop>
+pub fn editioning_view(
+    alloc: Global,
+    tokens: &mut Tokens<'_>,
+) -> Result<Shared<EditioningView>, ReadStop>
     ensures { Reads (base.reading spec.editioning_view tokens.old) result tokens.new }
 {
     let head = view_head(alloc, tokens)?;
     let body = view_body(alloc, tokens)?;
-    Ok(view_of(head, body))
+    shared(alloc, view_of(head, body))
 }

@@ -7,10 +7,6 @@ pub returns-in_err-added : goal.returns-in_err-added
 unfolding closed_column
 returns-in_err-added c = simp steps (search rules)
 
-pub returns-in_err-expect : goal.returns-in_err-expect
-unfolding closed_column
-returns-in_err-expect c = simp steps (search rules)
-
 pub returns : goal.returns
 unfolding closed_column
 returns c = simp steps (search rules)

@@ -15,10 +15,6 @@ pub returns-in_err-found : goal.returns-in_err-found
 unfolding selected
 returns-in_err-found c = simp steps (search rules)
 
-pub returns-in_err-expect-3 : goal.returns-in_err-expect-3
-unfolding selected
-returns-in_err-expect-3 c = simp steps (search rules)
-
 pub returns : goal.returns
 unfolding selected
 returns c = simp steps (search rules)
