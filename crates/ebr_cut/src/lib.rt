@@ -18,8 +18,6 @@ mod pieces;
 mod scanned;
 mod span;
 mod statement;
-#[cfg(test)]
-mod tests;
 
 pub use laws::one_cut;
 pub use pieces::{cut, text_of};

@@ -1,9 +1,19 @@
-//! Tests of the crates that stand on `ebr_base` alone, in a crate of their own so that those are proved once.
+//! The tests of the crates at the bottom: what no clause says of them.
+//!
+//! They stand together above those crates, so that each of them is proved once.
 #![tactic(auto)]
 
 #[cfg(test)]
+mod base;
+#[cfg(test)]
+mod cut;
+#[cfg(test)]
 mod editions;
+#[cfg(test)]
+mod lexer;
 #[cfg(test)]
 mod locks;
 #[cfg(test)]
 mod tables;
+#[cfg(test)]
+mod value;

@@ -15,8 +15,6 @@ mod laws;
 mod number;
 mod scan;
 mod symbol;
-#[cfg(test)]
-mod tests;
 mod text;
 mod token;
 mod word;

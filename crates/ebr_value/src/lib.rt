@@ -17,8 +17,6 @@ mod numeral;
 mod outcome;
 mod part;
 mod pattern;
-#[cfg(test)]
-mod tests;
 mod text;
 
 pub use assign::fits;
