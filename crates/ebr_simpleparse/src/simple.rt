@@ -36,7 +36,11 @@ pub const SIMPLE_WORDS: [Kind; 18] = [
 ];
 
 /// FROM and the rest of a query of this list.
-fn from_sources(alloc: Global, tokens: &mut Tokens<'_>, list: SelectList) -> Result<Shared<Query>, ReadStop>
+fn from_sources(
+    alloc: Global,
+    tokens: &mut Tokens<'_>,
+    list: SelectList,
+) -> Result<Shared<Query>, ReadStop>
     ensures { Reads (productions.with_first list (productions.reads_by grammar.from_sources tokens.old)) result tokens.new }
 {
     tokens.expect(Kind::From)?;
@@ -153,7 +157,10 @@ fn condition(alloc: Global, tokens: &mut Tokens<'_>) -> Result<Option<Shared<Exp
     }
 }
 
-fn closed_condition(alloc: Global, tokens: &mut Tokens<'_>) -> Result<Option<Shared<Expr>>, ReadStop>
+fn closed_condition(
+    alloc: Global,
+    tokens: &mut Tokens<'_>,
+) -> Result<Option<Shared<Expr>>, ReadStop>
     ensures { Reads (productions.reads_by grammar.closed_condition tokens.old) result tokens.new }
 {
     let found = condition(alloc, tokens)?;

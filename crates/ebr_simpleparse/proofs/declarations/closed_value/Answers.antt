@@ -7,10 +7,6 @@ pub returns-in_err-initial : goal.returns-in_err-initial
 unfolding closed_value
 returns-in_err-initial c = simp steps (search rules)
 
-pub returns-in_err-expect : goal.returns-in_err-expect
-unfolding closed_value
-returns-in_err-expect c = simp steps (search rules)
-
 pub returns : goal.returns
 unfolding closed_value
 returns c = simp steps (search rules)

@@ -7,10 +7,6 @@ pub returns-in_err-high : goal.returns-in_err-high
 unfolding high_bound
 returns-in_err-high c = simp steps (search rules)
 
-pub returns-in_err-expect : goal.returns-in_err-expect
-unfolding high_bound
-returns-in_err-expect c = simp steps (search rules)
-
 pub returns : goal.returns
 unfolding high_bound
 returns c = simp steps (search rules)

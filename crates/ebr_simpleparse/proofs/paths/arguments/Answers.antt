@@ -11,10 +11,6 @@ pub returns-in_err-found : goal.returns-in_err-found
 unfolding arguments
 returns-in_err-found c = simp steps (search rules)
 
-pub returns-in_err-expect : goal.returns-in_err-expect
-unfolding arguments
-returns-in_err-expect c = simp steps (search rules)
-
 pub returns : goal.returns
 unfolding arguments
 returns c = simp steps (search rules)

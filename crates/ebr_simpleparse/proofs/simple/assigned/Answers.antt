@@ -11,10 +11,6 @@ pub returns-in_err-value : goal.returns-in_err-value
 unfolding assigned
 returns-in_err-value c = simp steps (search rules)
 
-pub returns-in_err-expect-2 : goal.returns-in_err-expect-2
-unfolding assigned
-returns-in_err-expect-2 c = simp steps (search rules)
-
 pub returns : goal.returns
 unfolding assigned
 returns c = simp steps (search rules)

@@ -7,10 +7,6 @@ pub returns-in_err-found : goal.returns-in_err-found
 unfolding closed_sql
 returns-in_err-found c = simp steps (search rules)
 
-pub returns-in_err-expect : goal.returns-in_err-expect
-unfolding closed_sql
-returns-in_err-expect c = simp steps (search rules)
-
 pub returns : goal.returns
 unfolding closed_sql
 returns c = simp steps (search rules)
