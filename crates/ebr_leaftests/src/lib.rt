@@ -17,3 +17,5 @@ mod locks;
 mod tables;
 #[cfg(test)]
 mod value;
+#[cfg(test)]
+mod versions;

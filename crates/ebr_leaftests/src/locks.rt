@@ -28,8 +28,9 @@ enum Step {
 fn goes(locks: &mut Locks, step: Step) -> Result<bool, NoMemory> {
     match step {
         Step::Take(n, by, wanted) => {
-            locks.reserve(row(n), by)?;
-            Ok(locks.take(row(n), by) == wanted)
+            let row = row(n);
+            locks.reserve(row, by)?;
+            Ok(locks.take(row, by) == wanted)
         }
         Step::Release(by, mark) => {
             locks.release_to(by, mark);
