@@ -37,20 +37,36 @@ fn trees_print_themselves(rt: HostRuntime) -> Result<(), Fail> {
     Ok(())
 }
 
-#[test]
-fn lists_hold_what_was_pushed(rt: HostRuntime) -> Result<(), Fail> {
-    let alloc = rt.alloc();
+/// Whether a copy equals what it copies.
+fn copies<T: CloneIn + PartialEq>(alloc: Global, value: &T) -> Result<bool, NoMemory> {
+    Ok(value.clone_in(alloc)? == *value)
+}
+
+fn two_texts(alloc: Global) -> Result<List<Bytes>, NoMemory> {
     let mut list = List::new(alloc);
     list.push(Bytes::from_slice(alloc, b"one")?)?;
     list.push(Bytes::from_slice(alloc, b"t\n\"")?)?;
-    let (copy, shared) = both(alloc, &list, &Shared::new(alloc, 7u16)?)?;
-    let rest = rest_from(copy.as_slice(), 1);
-    let text = format!(in alloc; "{copy:?} {rest:?} {shared:?}")?;
-    assert!(rt;
-        text.as_str() == "[\"one\", \"t\\x0a\"\"] [\"t\\x0a\"\"] 7",
-        "{text}"
-    );
-    assert!(rt; copy == list);
+    Ok(list)
+}
+
+/// How a list, what stands behind its first element, and a shared number print themselves.
+fn printed(alloc: Global) -> Result<Bytes, NoMemory> {
+    let shared = Shared::new(alloc, 7u16)?;
+    let (list, shared) = both(alloc, &two_texts(alloc)?, &shared)?;
+    if list.is_empty() {
+        return Err(NoMemory);
+    }
+    let rest = rest_from(list.as_slice(), 1);
+    let text = format!(in alloc; "{list:?} {rest:?} {shared:?}")?;
+    Bytes::from_slice(alloc, text.as_bytes())
+}
+
+#[test]
+fn lists_hold_what_was_pushed(rt: HostRuntime) -> Result<(), Fail> {
+    let wanted = b"[\"one\", \"t\\x0a\"\"] [\"t\\x0a\"\"] 7";
+    let text = printed(rt.alloc())?;
+    assert!(rt; text.as_slice() == wanted.as_slice(), "{text:?}");
+    assert!(rt; copies(rt.alloc(), &two_texts(rt.alloc())?)?);
     Ok(())
 }
 
@@ -61,8 +77,7 @@ fn bytes_grow(rt: HostRuntime) -> Result<(), Fail> {
     bytes.extend(b"ab")?;
     bytes.push(b'c')?;
     assert!(rt; bytes.as_slice() == b"abc".as_slice());
-    let boxed = Boxed::new(alloc, bytes)?;
-    assert!(rt; boxed.clone_in(alloc)? == boxed);
+    assert!(rt; copies(alloc, &Boxed::new(alloc, bytes)?)?);
     Ok(())
 }
 
@@ -128,12 +143,19 @@ static CODES: [(Code, &[u8]); 4] = [
     (Code::Ebr(42), b"EBR-0042"),
 ];
 
+fn code_text(alloc: Global, code: Code) -> Result<Bytes, NoMemory> {
+    let mut text = Bytes::new(alloc);
+    code.append_to(&mut text)?;
+    Ok(text)
+}
+
 #[test]
 fn codes_are_printed_with_their_digits(rt: HostRuntime) -> Result<(), Fail> {
     for (code, wanted) in &CODES {
-        let mut text = Bytes::new(rt.alloc());
-        code.append_to(&mut text)?;
-        assert!(rt; text.as_slice() == *wanted, "{code:?}");
+        assert!(rt;
+            code_text(rt.alloc(), *code)?.as_slice() == *wanted,
+            "{code:?}"
+        );
     }
     Ok(())
 }
@@ -161,13 +183,6 @@ fn table(alloc: Global) -> Result<TableDef, NoMemory> {
     })
 }
 
-#[test]
-fn tables_are_copied_and_compared(rt: HostRuntime) -> Result<(), Fail> {
-    let table = table(rt.alloc())?;
-    assert!(rt; table.clone_in(rt.alloc())? == table);
-    Ok(())
-}
-
 /// A change of one row.
 fn change(alloc: Global) -> Result<Change, NoMemory> {
     let mut values = List::new(alloc);
@@ -182,20 +197,6 @@ fn change(alloc: Global) -> Result<Change, NoMemory> {
     })
 }
 
-#[test]
-fn changes_are_copied_and_compared(rt: HostRuntime) -> Result<(), Fail> {
-    let change = change(rt.alloc())?;
-    let copy = change.clone_in(rt.alloc())?;
-    assert!(rt; copy == change, "{copy:?}");
-    assert!(rt;
-        Change {
-            row: copy.row,
-            values: None
-        } != change
-    );
-    Ok(())
-}
-
 fn object(alloc: Global, class: Class, bytes: &[u8]) -> Result<ObjectKey, NoMemory> {
     Ok(ObjectKey {
         class,
@@ -203,10 +204,22 @@ fn object(alloc: Global, class: Class, bytes: &[u8]) -> Result<ObjectKey, NoMemo
     })
 }
 
+/// Whether a unit comes before a trigger, whatever their names.
+fn unit_comes_first(alloc: Global) -> Result<bool, NoMemory> {
+    let unit = object(alloc, Class::Unit, b"b")?;
+    Ok(unit < object(alloc, Class::Trigger, b"a")?)
+}
+
 #[test]
 fn keys_go_by_class_and_then_by_name(rt: HostRuntime) -> Result<(), Fail> {
-    let unit = object(rt.alloc(), Class::Unit, b"b")?;
-    assert!(rt; unit < object(rt.alloc(), Class::Trigger, b"a")?);
-    assert!(rt; unit.clone_in(rt.alloc())? == unit);
+    assert!(rt; unit_comes_first(rt.alloc())?);
+    Ok(())
+}
+
+#[test]
+fn copies_equal_what_they_copy(rt: HostRuntime) -> Result<(), Fail> {
+    assert!(rt; copies(rt.alloc(), &table(rt.alloc())?)?);
+    assert!(rt; copies(rt.alloc(), &change(rt.alloc())?)?);
+    assert!(rt; copies(rt.alloc(), &object(rt.alloc(), Class::Unit, b"b")?)?);
     Ok(())
 }
