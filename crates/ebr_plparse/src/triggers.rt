@@ -166,7 +166,11 @@ fn trigger_of(name: Name, clause: EventClause, action: (TriggerOptions, Block)) 
 }
 
 /// What stands behind a trigger's name.
-fn trigger_rest(alloc: Global, tokens: &mut Tokens<'_>, name: Name) -> Result<Shared<Trigger>, ReadStop>
+fn trigger_rest(
+    alloc: Global,
+    tokens: &mut Tokens<'_>,
+    name: Name,
+) -> Result<Shared<Trigger>, ReadStop>
     ensures { Reads (with_first name (reads_by grammar.trigger_rest tokens.old)) result tokens.new }
 {
     let clause = event_clause(alloc, tokens)?;

@@ -11,7 +11,11 @@ use ebr_grammar::{ReadStop, Tokens};
 use std::alloc::Global;
 
 /// The reading of statements, nested at most this deep.
-fn nested(alloc: Global, tokens: &mut Tokens<'_>, depth: usize) -> Result<List<Shared<Stmt>>, ReadStop>
+fn nested(
+    alloc: Global,
+    tokens: &mut Tokens<'_>,
+    depth: usize,
+) -> Result<List<Shared<Stmt>>, ReadStop>
     ensures { Reads (spec.read_within depth tokens.old) result tokens.new }
 {
     if depth == 0 {

@@ -211,7 +211,11 @@ impl<F: Fn(Global, &mut Tokens<'_>, usize) -> Result<List<Shared<Stmt>>, ReadSto
     }
 
     /// The statements behind the first, and with it.
-    fn more_statements(&self, tokens: &mut Tokens<'_>, first: Shared<Stmt>) -> Result<List<Shared<Stmt>>, ReadStop>
+    fn more_statements(
+        &self,
+        tokens: &mut Tokens<'_>,
+        first: Shared<Stmt>,
+    ) -> Result<List<Shared<Stmt>>, ReadStop>
         requires { Nests self.now.depth (F.pre self.now.nested) (F.post self.now.nested) }
         ensures { Reads (spec.with_first first (spec.reads_at self.now.depth spec.more_statements tokens.old)) result tokens.new }
     {

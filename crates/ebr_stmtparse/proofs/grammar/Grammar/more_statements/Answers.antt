@@ -27,8 +27,8 @@ returns-in_err-next g c =
 pub loop-turn-preserved : goal.loop-turn-preserved
 loop-turn-preserved g c =
     let seen : sees statement_begins c.loop-turn.tokens ≡ true = search rules in
-    let read : reads_at c.args.self.now.depth (led statement_begins statement) c.loop-turn.tokens ≡ Some (c.in_ok-next.next, c.statement.new.tokens) = simp steps (search rules) in
-    let e = goes_on statement_begins (reads_at c.args.self.now.depth (led statement_begins statement)) _ _ c.loop-turn.found c.loop-turn.tokens _ c.loop-turn.invariant c.in_ok-next.next c.statement.new.tokens c.loop-turn-test.true seen read in
+    let read : reads_at c.args.self.now.depth (led statement_begins statement) c.loop-turn.tokens ≡ Some (c.in_ok-next.next, c.shared_statement.new.tokens) = simp steps (search rules) in
+    let e = goes_on statement_begins (reads_at c.args.self.now.depth (led statement_begins statement)) _ _ c.loop-turn.found c.loop-turn.tokens _ c.loop-turn.invariant c.in_ok-next.next c.shared_statement.new.tokens c.loop-turn-test.true seen read in
     search (rules, e)
 
 pub returns : goal.returns
