@@ -13,7 +13,8 @@ use Rattle.ebr_base.specs.declared.row.Change.{Change}
 use Rattle.ebr_base.specs.declared.value.Value.{Value}
 use Rattle.ebr_versions.specs.declared.table.Table.{Table}
 use Rattle.ebr_versions.specs.Data.{is_of, is_in, is_row, is_table, last_change, changes_in, values_by}
-use Rattle.ebr_versions.specs.Keys.{HaveOtherKeys, HasOtherKey, key_at, key_of, row_in, is_added, key_places, KeysDiffer}
+use Rattle.ebr_versions.specs.inside.Keys.{HaveOtherKeys, HasOtherKey}
+use Rattle.ebr_versions.specs.Keys.{key_at, key_of, row_in, is_added, key_places, KeysDiffer}
 use Rattle.ebr_versions.specs.Store.{OfAdded, IsSound}
 
 -- equal by the test is equal

@@ -2,7 +2,8 @@
 
 ghost use Rattle.std.specs.Prelude.{◌≡◌, ◌≢◌, length, Some, IfSome, IfNone, IsTrue, ◌↔◌};
 ghost use Rattle.ebr_base.specs.declared.numbers.RowNo.{RowNo};
-ghost use Rattle.ebr_versions.specs.Keys.{value_at, key_of, key_at, row_in, HaveOtherKeys};
+ghost use Rattle.ebr_versions.specs.Keys.{value_at, key_of, key_at, row_in};
+ghost use Rattle.ebr_versions.specs.inside.Keys.{HaveOtherKeys};
 
 use crate::rows::latest;
 use ebr_base::{Change, List, RowId, RowNo, TableId, Text, Value};

@@ -1,7 +1,7 @@
 use Rattle.std.proofs.Common.{◌≡◌, take, subst}
 use Rattle.std.specs.Prelude.{All}
 use Rattle.std.proofs.lemmas.List.{take_all}
-use Rattle.ebr_versions.specs.Keys.{HaveOtherKeys}
+use Rattle.ebr_versions.specs.inside.Keys.{HaveOtherKeys}
 use Rattle.ebr_versions.proofs.KeyLemmas.{no_row_has}
 use Rattle.ebr_versions.proofs.keys.find_key.Goals as goal
 

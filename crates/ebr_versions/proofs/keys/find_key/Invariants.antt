@@ -1,6 +1,6 @@
 use Rattle.std.proofs.Common.{take}
 use Rattle.std.specs.Prelude.{All}
-use Rattle.ebr_versions.specs.Keys.{HaveOtherKeys}
+use Rattle.ebr_versions.specs.inside.Keys.{HaveOtherKeys}
 use Rattle.ebr_versions.proofs.keys.find_key.Given as goal
 
 -- no row of the commits so far has the key

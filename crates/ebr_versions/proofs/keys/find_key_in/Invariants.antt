@@ -1,5 +1,5 @@
 use Rattle.std.proofs.Common.{take}
-use Rattle.ebr_versions.specs.Keys.{HaveOtherKeys}
+use Rattle.ebr_versions.specs.inside.Keys.{HaveOtherKeys}
 use Rattle.ebr_versions.proofs.keys.find_key_in.Given as goal
 
 -- no row of the changes so far has the key
