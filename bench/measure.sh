@@ -1,0 +1,62 @@
+#!/bin/sh
+# Makes the table "Measured" of docs/PROFILE.md: for each kind of script and each size the processor time and the memory
+# that `ebrd try` takes, best of three runs. Run by hand; it wants GNU time. Nothing here is a test.
+set -eu
+top=$(dirname -- "$(readlink -f -- "$0")")/..
+work=$(mktemp -d)
+trap 'rm -rf "$work"' EXIT
+"$top/ebrd" try /dev/null
+
+# as_many SIZE KIND: lines of the kind, as many whole pieces as fit into the size
+as_many() {
+    awk -v size="$1" -v kind="$2" '
+        function add(text) { if (used + length(text) > size) exit; used += length(text); printf "%s", text; count++ }
+        function made(i) { return "CREATE PROCEDURE p" i " IS BEGIN DBMS_OUTPUT.PUT_LINE(\047x\047); END;\n/\n" }
+        BEGIN {
+            if (kind == "called") add("CREATE PROCEDURE a IS BEGIN DBMS_OUTPUT.PUT_LINE(\047a\047); END;\n/\n")
+            for (i = 0; ; i++) {
+                if (kind == "blocks") add("BEGIN NULL; END;\n/\n")
+                else if (kind == "units") add("CREATE PROCEDURE p" i " IS BEGIN NULL; END;\n/\n")
+                else if (kind == "queries") add("SELECT a" i ", b + 1 FROM t WHERE c = " i ";\n")
+                else if (kind == "semicolons") add(";")
+                else if (kind == "called") add("CALL a();\n")
+                else if (kind == "printing") add(made(i))
+                else if (kind == "pairs") add(made(i) "CALL p" i "();\n")
+            }
+        }'
+}
+
+# repeated SIZE HEAD PART TAIL: one piece, with as many parts as fit into the size
+repeated() {
+    awk -v size="$1" -v head="$2" -v part="$3" -v tail="$4" 'BEGIN {
+        printf "%s", head
+        for (used = length(head) + length(tail); used + length(part) <= size; used += length(part)) printf "%s", part
+        printf "%s", tail
+    }'
+}
+
+script() {
+    case $2 in
+        sum) repeated "$1" 'SELECT 1' ' + b' ' FROM t;' ;;
+        ifs) repeated "$1" 'BEGIN ' 'IF a = 1 THEN NULL; END IF; ' 'END;' ;;
+        *) as_many "$1" "$2" ;;
+    esac
+}
+
+# measured FILE: the least processor time in seconds of three runs, and the memory in MB
+measured() {
+    for _ in 1 2 3; do
+        /usr/bin/time -f '%U %S %M' "$top/crates/ebrd/out/ebrd" try "$1" 2>&1 >/dev/null
+    done | awk '{ t = $1 + $2; if (NR == 1 || t < least) least = t; memory = $3 } END { printf "%.2f s, %d MB", least, memory / 1024 }'
+}
+
+echo '| Script | 256 KiB | 512 KiB | 1 MiB |'
+echo '|---|---|---|---|'
+for kind in blocks units queries sum ifs semicolons called printing pairs; do
+    printf '| %s' "$kind"
+    for size in 262144 524288 1048576; do
+        script "$size" "$kind" >"$work/$kind.sql"
+        printf ' | %s' "$(measured "$work/$kind.sql")"
+    done
+    echo ' |'
+done
