@@ -11,7 +11,7 @@ use crate::triggers::trigger;
 use ebr_ast::{Block, Definition, Expr, Path, Stmt, UnitTree};
 use ebr_base::{List, NoMemory, Shared};
 use ebr_ddlparse::read_editioning_view;
-use ebr_grammar::{Kind, ReadStop, Tokens};
+use ebr_grammar::{Kind, ReadStop, Tokens, shared};
 use ebr_stmtparse::{read_block, read_call};
 use std::alloc::Global;
 
@@ -40,17 +40,24 @@ fn call(alloc: Global, tokens: &mut Tokens<'_>) -> Result<Block, ReadStop>
     }
 }
 
+/// A block, or the block that a CALL means.
+fn block_or_call(alloc: Global, tokens: &mut Tokens<'_>) -> Result<Block, ReadStop>
+    ensures { Reads (reads_by grammar.block tokens.old) result tokens.new }
+{
+    if tokens.eat(Kind::Call) {
+        call(alloc, tokens)
+    } else {
+        let block = read_block(alloc, tokens)?;
+        Ok(block)
+    }
+}
+
 /// A block, or a CALL, which means the block that holds this one call.
 pub fn any_block(alloc: Global, tokens: &mut Tokens<'_>) -> Result<Shared<Block>, ReadStop>
     ensures { Reads (reads_by grammar.block tokens.old) result tokens.new }
 {
-    if tokens.eat(Kind::Call) {
-        let block = call(alloc, tokens)?;
-        Ok(Shared::new(alloc, block)?)
-    } else {
-        let block = read_block(alloc, tokens)?;
-        Ok(Shared::new(alloc, block)?)
-    }
+    let block = block_or_call(alloc, tokens)?;
+    shared(alloc, block)
 }
 
 /// What CREATE makes.

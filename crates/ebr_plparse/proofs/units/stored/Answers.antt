@@ -3,13 +3,13 @@ use Rattle.ebr_grammar.proofs.Steps.{steps}
 use Rattle.ebr_plparse.specs.Units.{stored}
 use Rattle.ebr_plparse.proofs.units.stored.Goals as goal
 
-pub returns-in_err-subprogram : goal.returns-in_err-subprogram
+pub returns-in_err-shared_subprogram : goal.returns-in_err-shared_subprogram
 unfolding stored
-returns-in_err-subprogram c = simp steps (search rules)
+returns-in_err-shared_subprogram c = simp steps (search rules)
 
-pub returns-in_ok-subprogram : goal.returns-in_ok-subprogram
+pub returns-in_ok-shared_subprogram : goal.returns-in_ok-shared_subprogram
 unfolding stored
-returns-in_ok-subprogram c = simp steps (search rules)
+returns-in_ok-shared_subprogram c = simp steps (search rules)
 
 pub returns-then-eat : goal.returns-then-eat
 unfolding stored

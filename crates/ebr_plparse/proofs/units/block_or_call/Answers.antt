@@ -1,7 +1,7 @@
 use Rattle.std.proofs.Common.{rules}
 use Rattle.ebr_grammar.proofs.Steps.{steps}
 use Rattle.ebr_plparse.specs.Units.{block}
-use Rattle.ebr_plparse.proofs.units.any_block.Goals as goal
+use Rattle.ebr_plparse.proofs.units.block_or_call.Goals as goal
 
 pub returns-then-eat : goal.returns-then-eat
 unfolding block
