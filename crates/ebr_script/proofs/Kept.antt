@@ -22,8 +22,8 @@ use Rattle.ebr_script.specs.declared.piece.Piece.{Piece}
 use Rattle.ebr_script.specs.declared.piece.PieceKind.{PieceKind}
 use Rattle.ebr_script.specs.declared.piece.PieceKind.TheVariants as piece
 use Rattle.ebr_script.specs.Statements.{creates_object, SpellsOneOf, statement_of}
-use Rattle.ebr_script.specs.Pieces.{scanned_of, spelled_or, kind_of_scan, kind_of_text, piece_at, pieces_of, stored_definition, stored_of, text_of, CreatesObject, KeepsText, LiesWithin, Precedes}
-use Rattle.ebr_script.proofs.Scanned.{scans_so}
+use Rattle.ebr_script.specs.Pieces.{scanned_of, spelled_or, kind_of_scan, kind_of_text, piece_at, pieces_of, stored_definition, stored_of, text_of, CreatesObject, KeepsText, LiesWithin, Precedes, TextOfTokens, NoTextOfFaults}
+use Rattle.ebr_script.proofs.Scanned.{scans_so, scans_only}
 use Rattle.ebr_script.proofs.Spelled.{statement_sound}
 use Rattle.ebr_script.proofs.TextsOfObjects.{stored_complete}
 use Rattle.ebr_script.proofs.Creations.{other_creates_none}
@@ -62,6 +62,14 @@ pieces_kept script =
 pub same_text : (script : List ℕ) (p : Piece) (text : List ℕ) (s : Scanned) → text ≡ slice_range script p.from p.to → scanned_of text ≡ s → stored_of text s ≡ text_of script p
 unfolding text_of
 same_text script p text s e is = ap (stored_of text) (sym is) ∙ ap (λ (k : List ℕ). stored_of k (scanned_of k)) e
+
+pub text_of_tokens : TextOfTokens
+text_of_tokens script p tokens scans =
+    sym (same_text script p (slice_range script p.from p.to) (scanned.Tokens tokens) refl (scans_only (slice_range script p.from p.to) (scanned.Tokens tokens) scans))
+
+pub no_text_of_faults : NoTextOfFaults
+no_text_of_faults script p code scans =
+    sym (same_text script p (slice_range script p.from p.to) (scanned.Fault code) refl (scans_only (slice_range script p.from p.to) (scanned.Fault code) scans))
 
 -- ---- where pieces stand
 

@@ -1,5 +1,5 @@
 -- The pieces of a script: what each spells, or the code of its first fault (own).
-use Rattle.std.specs.Prelude.{◌≡◌, ℕ, ◌≤◌, List, [], ◌∷◌, length, map, slice_range, Option, Some, None, Result, Ok, Err}
+use Rattle.std.specs.Prelude.{◌≡◌, ◌↔◌, ℕ, ◌≤◌, List, [], ◌∷◌, length, map, slice_range, Option, Some, None, Result, Ok, Err}
 use Rattle.ebr_base.specs.declared.code.Code.{Code}
 use Rattle.ebr_base.specs.declared.code.Code.TheVariants.{Ora}
 use Rattle.ebr_lexer.specs.declared.token.Token.{Token}
@@ -146,3 +146,19 @@ EachIsCut = (script : List ℕ) → Cut script (pieces_of script)
 -- .. and in one way.
 abbrev pub OneCut : Type 0
 OneCut = (script : List ℕ) (pieces : List Piece) → Cut script pieces → pieces ≡ pieces_of script
+
+-- A text stores the definition that is computed for it, and no other.
+abbrev pub StoresComputed : Type 0
+StoresComputed = (text : List ℕ) (d : Definition) → Stores text d ↔ (stored_definition text ≡ Some d)
+
+abbrev pub OneDefinition : Type 0
+OneDefinition = (text : List ℕ) (d e : Definition) → Stores text d → Stores text e → d ≡ e
+
+-- The stored text of a piece goes from its first token to its last, ..
+abbrev pub TextOfTokens : Type 0
+TextOfTokens = (script : List ℕ) (p : Piece) (tokens : List Token) → Scans (slice_range script p.from p.to) (scanned.Tokens tokens)
+    → text_of script p ≡ stored (slice_range script p.from p.to) tokens
+
+-- .. and a piece that has a fault has none.
+abbrev pub NoTextOfFaults : Type 0
+NoTextOfFaults = (script : List ℕ) (p : Piece) (code : Code) → Scans (slice_range script p.from p.to) (scanned.Fault code) → text_of script p ≡ []

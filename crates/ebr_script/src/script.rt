@@ -171,3 +171,15 @@ pub fn one_cut()
     ensures some { spec.EachIsCut }
     ensures one { spec.OneCut }
 {}
+
+/// A text stores the definition of one object at most: the one that `stored` gives.
+pub fn one_definition()
+    ensures computed { spec.StoresComputed }
+    ensures one { spec.OneDefinition }
+{}
+
+/// The stored text of a piece is told by the tokens of its bytes.
+pub fn texts_of_tokens()
+    ensures tokens { spec.TextOfTokens }
+    ensures faults { spec.NoTextOfFaults }
+{}

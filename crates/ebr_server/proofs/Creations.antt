@@ -10,7 +10,7 @@ use Rattle.ebr_ast.specs.declared.unit.ParameterType.{ParameterType}
 use Rattle.ebr_script.specs.Pieces.{CreatesObject}
 use Rattle.ebr_server.specs.declared.ask.Ask.TheVariants.{Ddl}
 use Rattle.ebr_server.specs.Forms.{MakesProcedure, MakesEdition, effect_of, effect_of_unit, makes_procedure, printed_line}
-use Rattle.ebr_server.specs.Engine.{IsSpelled}
+use Rattle.ebr_server.specs.inside.Engine.{IsSpelled}
 
 -- What makes a procedure creates an object.
 pub creates : (what : Definition) (replace : Bool) (name line : List ℕ) → effect_of what ≡ MakesProcedure replace name line → CreatesObject what

@@ -1,35 +1,42 @@
 -- How a session ends.
-use Rattle.std.proofs.Common.{ℕ, ◌≡◌, List, [], ◌∷◌, ◌++◌, Result, Ok, Err, None, refl, sym, ◌∙◌, ap, subst}
-use Rattle.std.specs.Prelude.{IfErr}
+use Rattle.std.proofs.Common.{ℕ, ◌≡◌, ◌≤◌, List, [], ◌∷◌, ◌++◌, Result, Ok, Err, arith, refl, sym, ◌∙◌, ap, subst}
+use Rattle.std.specs.Prelude.{IfErr, OnErr}
+use Rattle.ebr_outside.specs.Faults.{Rises}
 use Rattle.ebr_server.specs.declared.ask.Ask.TheVariants.{Leave}
 use Rattle.ebr_server.specs.declared.ask.Answer.TheVariants.{Done}
-use Rattle.ebr_server.specs.declared.ask.Entry.{Entry}
 use Rattle.ebr_server.specs.declared.engine.Engine.{Engine}
 use Rattle.ebr_server.specs.declared.worker.Halt.{Halt}
 use Rattle.ebr_server.specs.declared.worker.Halt.TheVariants.{SinkFault}
-use Rattle.ebr_server.specs.Engine.{entries, Answers}
+use Rattle.ebr_server.specs.Machine.{the_session}
 use Rattle.ebr_server.specs.History.{Mine}
 use Rattle.ebr_server.specs.Sessions.{run_pieces}
-use Rattle.ebr_server.specs.Program.{the_session, Ran, Quit}
-use Rattle.ebr_server.specs.Worker.{Stands, Quits, RanPieces}
-use Rattle.ebr_server.proofs.Standing.{entry, Ran-whole, Ran-quit, Quits-quiet, IsQuiet-run_pieces, IsPrefix-refl}
+use Rattle.ebr_server.specs.Program.{RanToEnd, Quit}
+use Rattle.ebr_server.specs.inside.Engine.{entries, Answers}
+use Rattle.ebr_server.specs.inside.Output.{Output, WritesOn}
+use Rattle.ebr_server.specs.inside.Worker.{RunsOn, Quits, RanPieces}
+use Rattle.ebr_server.proofs.Runs.{entry, RunsOn-writes, RanToEnd-left, Quit-left, Quits-writes, CanQuit-run_pieces}
 
 -- the entry of Leave
 left_entry : (old new : Engine) → Answers old new Leave → entries new ≡ entries old ++ entry Leave Done ∷ []
 left_entry old new left = left.entry ∙ ap (λ x. entries old ++ entry Leave x ∷ []) (left.leaves refl)
 
-pub Ran-left : (script : List ℕ) (old new : Engine) (p : List ℕ) → Answers old new Leave → Stands script (run_pieces script []) (entries old) p
-    → Ran script (Mine (entries new) the_session) None p
-Ran-left script old new p left was = subst (λ h. Ran script (Mine h the_session) None p) (sym (left_entry old new left)) (Ran-whole script (entries old) p was)
+pub ran_to_end : (script : List ℕ) (old new : Engine) (o : Output) → Answers old new Leave → o.pending ≡ [] → RunsOn script (run_pieces script []) (entries old) o
+    → RanToEnd script (Mine (entries new) the_session) o.written
+ran_to_end script old new o left none was =
+    subst (λ h. RanToEnd script (Mine h the_session) o.written) (sym (left_entry old new left)) (RanToEnd-left script (entries old) o none was)
 
-pub Quit-left : (script : List ℕ) (old new : Engine) (replies : List ℕ) → Answers old new Leave → Quits script (entries old) replies
-    → Quit script (Mine (entries new) the_session) replies
-Quit-left script old new replies left was = subst (λ h. Quit script (Mine h the_session) replies) (sym (left_entry old new left)) (Ran-quit script (entries old) replies was)
+pub quit : (script : List ℕ) (old new : Engine) (o : Output) → Answers old new Leave → Quits script (entries old) o → Quit script (Mine (entries new) the_session) o.written
+quit script old new o left was = subst (λ h. Quit script (Mine h the_session) o.written) (sym (left_entry old new left)) (Quit-left script (entries old) o was)
+
+rises_since : (old mid new : ℕ) → old ≤ mid → Rises mid new → Rises old new
+rises_since old mid new grown rises = omega arith
 
 -- the last write, after all pieces
-pub RanPieces-flush : (r : Result (Unit {0}) Halt) (script : List ℕ) (h : List Entry) (p q : List ℕ) → IfErr r (λ x. x ≡ SinkFault) → q ≡ p
-    → Stands script (run_pieces script []) h p → RanPieces r script h q
-RanPieces-flush (Ok u) script h p q halt same was = subst (Stands script (run_pieces script []) h) (sym same) was
-RanPieces-flush (Err x) script h p q halt same was =
-    let quits : Quits script h p = Quits-quiet script (run_pieces script []) h p p was (IsQuiet-run_pieces script []) (IsPrefix-refl p) in
-    subst (λ y. RanPieces (Err y) script h q) (sym halt) (subst (Quits script h) (sym same) quits)
+pub RanPieces-flush : (r : Result (Unit {0}) Halt) (script : List ℕ) (faults : ℕ) (e : Engine) (o new : Output) → IfErr r (λ x. x ≡ SinkFault) → WritesOn o new → OnErr r (Rises o.faults new.faults)
+    → RanPieces (Ok tt) script faults e o → RanPieces r script faults e new
+RanPieces-flush (Ok u) script faults e o new halt writes failed was =
+    (RunsOn-writes script (run_pieces script []) (entries e) o new writes was.0, was.1, omega (arith, was.2, writes.counted))
+RanPieces-flush (Err x) script faults e o new halt writes failed was =
+    let counted : faults ≤ new.faults = omega (arith, was.2, writes.counted) in
+    subst (λ y. RanPieces (Err y) script faults e new) (sym halt)
+    (Quits-writes script (run_pieces script []) (entries e) o new was.0 (CanQuit-run_pieces script []) writes, was.1, counted, rises_since faults o.faults new.faults was.2 failed)

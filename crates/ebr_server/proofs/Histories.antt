@@ -6,15 +6,15 @@ use Rattle.ebr_server.specs.declared.ask.Ask.TheVariants.{Begin, Ddl, SetEdition
 use Rattle.ebr_server.specs.declared.ask.Procedure.{Procedure}
 use Rattle.ebr_server.specs.Forms.{Effect, MakesProcedure, MakesEdition, MakesNothing, effect_of}
 use Rattle.ebr_server.specs.Sessions.{look_up}
-use Rattle.ebr_server.specs.Procedures.{number_of}
+use Rattle.ebr_server.specs.inside.Procedures.{number_of}
 use Rattle.ebr_server.specs.declared.ask.Answer.{Answer}
 use Rattle.ebr_server.specs.declared.ask.Answer.TheVariants.{Done, NoMemory}
 use Rattle.ebr_server.specs.declared.ask.Entry.{Entry}
 use Rattle.ebr_server.specs.declared.engine.Engine.{Engine}
 use Rattle.ebr_server.specs.declared.engine.Editions.{Editions}
-use Rattle.ebr_server.specs.Machine.{Database, Reply}
+use Rattle.ebr_server.specs.Machine.{Database, Reply, the_session, start}
 use Rattle.ebr_server.specs.History.{After, Legal, Answered, IsLive, next}
-use Rattle.ebr_server.specs.Engine.{IsOpen, Answers, IsSpelled, entries, entry_of, session, start, answer_in, answer_to_definition, Keeps, answer_to_create, answer_to_create_edition, answer_to_set_edition, editions_after}
+use Rattle.ebr_server.specs.inside.Engine.{IsOpen, Answers, IsSpelled, entries, entry_of, answer_in, answer_to_definition, Keeps, answer_to_create, answer_to_create_edition, answer_to_set_edition, editions_after}
 use Rattle.ebr_server.proofs.Replies.{answer-Reply, Keeps-Reply}
 
 pub After-append : (db : Database) (h : List Entry) (x : Entry) → After db (h ++ x ∷ []) ≡ next (After db h) x
@@ -26,12 +26,12 @@ answered NoMemory reply on stopped memory same goes = absurd (memory refl)
 answered a reply on stopped memory same goes = (same, goes)
 
 -- whatever is legal after a history is legal with it
-abbrev pub GoesOn : List Entry → Type 0
-GoesOn h = (more : List Entry) → Legal (After start h) more → Legal start (h ++ more)
+abbrev pub GoesOnWith : List Entry → Type 0
+GoesOnWith h = (more : List Entry) → Legal (After start h) more → Legal start (h ++ more)
 
-pub GoesOn-append : (h : List Entry) (x : Entry) → GoesOn h → IsLive (After start h) x.session → x.answer ≢ NoMemory
-    → x.answer ≡ (Reply (After start h) x.session x.ask).answer → GoesOn (h ++ x ∷ [])
-GoesOn-append h x legal live memory same more goes =
+pub GoesOnWith-append : (h : List Entry) (x : Entry) → GoesOnWith h → IsLive (After start h) x.session → x.answer ≢ NoMemory
+    → x.answer ≡ (Reply (After start h) x.session x.ask).answer → GoesOnWith (h ++ x ∷ [])
+GoesOnWith-append h x legal live memory same more goes =
     let later : Legal (next (After start h) x) more = subst (λ db. Legal db more) (After-append start h x) goes in
     subst (Legal start) (sym (append_assoc h (x ∷ []) more)) (legal (x ∷ more) (live, answered x.answer _ _ _ memory same later))
 
@@ -76,16 +76,16 @@ module _ (old new : Engine) (ask : Ask) (answer : Answer) (h : IsOpen old) (spel
   memory : answer ≢ NoMemory
   memory e = answer_in-memory old.editions ask (sym r.reply ∙ e)
 
-  same : answer ≡ (Reply db session ask).answer
+  same : answer ≡ (Reply db the_session ask).answer
   same = r.reply ∙ sym (answer-Reply db old.editions h.keeps ask)
 
-  goes_on : GoesOn (entries new)
-  goes_on = subst GoesOn (sym r.entry) (GoesOn-append (entries old) (entry_of ask answer) h.legal (subst IsSome (sym h.keeps.current) refl) memory same)
+  goes_on : GoesOnWith (entries new)
+  goes_on = subst GoesOnWith (sym r.entry) (GoesOnWith-append (entries old) (entry_of ask answer) h.legal (subst IsSome (sym h.keeps.current) refl) memory same)
 
   leaves : ask ≡ Leave → answer ≡ Done
   leaves e = r.reply ∙ ap (answer_in old.editions) e
 
-  after : After start (entries new) ≡ (Reply db session ask).database
+  after : After start (entries new) ≡ (Reply db the_session ask).database
   after = ap (After start) r.entry ∙ After-append start (entries old) (entry_of ask answer)
 
   stays_open : ask ≢ Leave → IsOpen new

@@ -10,8 +10,8 @@ use Rattle.std.proofs.lemmas.List.{reverse-append, reverse-reverse, length-rever
 use Rattle.std.proofs.lemmas.Iterator.Adapters.{position_from-zero}
 use Rattle.ebr_base.specs.declared.numbers.EditionNo.{EditionNo}
 use Rattle.ebr_server.specs.Catalogue.{EditionEntry, line_among, first_edition}
-use Rattle.ebr_server.specs.Engine.{parent_of, numbered}
-use Rattle.ebr_server.specs.Procedures.{number_of}
+use Rattle.ebr_server.specs.inside.Engine.{parent_of, numbered}
+use Rattle.ebr_server.specs.inside.Procedures.{number_of}
 
 abbrev pub edition : ℕ → EditionNo
 edition n = record { 0 = n }

@@ -9,8 +9,8 @@ use Rattle.ebr_ast.specs.declared.definition.Definition.{Definition}
 use Rattle.ebr_script.specs.Pieces.{stored_definition}
 use Rattle.ebr_server.specs.Forms.{Effect, MakesProcedure, MakesEdition, MakesNothing, effect_of}
 use Rattle.ebr_server.specs.Sessions.{look_up}
-use Rattle.ebr_server.specs.Procedures.{seen_in}
-use Rattle.ebr_server.specs.Engine.{definition_of, numbered}
+use Rattle.ebr_server.specs.inside.Procedures.{seen_in}
+use Rattle.ebr_server.specs.inside.Engine.{definition_of, numbered}
 use Rattle.ebr_server.specs.Catalogue.{Record, Edition, Object, Catalogue, catalogue_of, first_catalogue, with_record, with_object, with_stored, unit_key, names_of, visible_along, line_among, line_of, Visible, View}
 use Rattle.ebr_server.proofs.Entries.{AreRegular, AreRegular-nil, AreRegular-append, AreMade, AreMade-append, visible_names}
 use Rattle.ebr_server.proofs.Lookups.{look_up-visible}

@@ -13,11 +13,11 @@ use Rattle.ebr_server.specs.declared.ask.Ask.TheVariants.{Begin, Ddl, SetEdition
 use Rattle.ebr_server.specs.declared.ask.Answer.TheVariants as answer
 use Rattle.ebr_server.specs.declared.ask.Procedure.{Procedure}
 use Rattle.ebr_server.specs.declared.engine.Editions.{Editions}
-use Rattle.ebr_server.specs.Procedures.{put, number_of, seen_in}
+use Rattle.ebr_server.specs.inside.Procedures.{put, number_of, seen_in}
 use Rattle.ebr_server.specs.Sessions.{look_up}
 use Rattle.ebr_server.specs.Catalogue.{Edition, Object, Catalogue, EditionEntry, catalogue_of, first_edition, with_object, with_stored, with_entry, with_edition, leaf, edition_named, unit_key, Visible, View}
-use Rattle.ebr_server.specs.Machine.{Database, Session, Reply, defined, created, recorded, edition_created, edition_set, reply_in, reply_of, session_at, edition_of}
-use Rattle.ebr_server.specs.Engine.{session, Keeps, answer_in, answer_to_definition, editions_after_definition, answer_to_create, answer_to_create_edition, answer_to_set_edition, editions_after, editions_after_create, editions_after_create_edition, editions_after_set_edition, with_procedure, definition_of, numbered, IsSpelled}
+use Rattle.ebr_server.specs.Machine.{Database, Session, Replied, Reply, defined, created, recorded, edition_created, edition_set, reply_in, reply_while, reply_to, session_at, edition_of, the_session}
+use Rattle.ebr_server.specs.inside.Engine.{Keeps, answer_in, answer_to_definition, editions_after_definition, answer_to_create, answer_to_create_edition, answer_to_set_edition, editions_after, editions_after_create, editions_after_create_edition, editions_after_set_edition, with_procedure, definition_of, numbered, IsSpelled}
 use Rattle.ebr_server.proofs.Lines.{edition, edition_entry, zero-add, length-numbered, numbered-append, leaf-numbered, named-numbered, number_of-within}
 use Rattle.ebr_server.proofs.Views.{seen_in-here}
 use Rattle.ebr_server.proofs.Creations.{creates}
@@ -33,9 +33,14 @@ answer-edition_created : (o : Option ℕ) (db : Database) (name : List ℕ) → 
 answer-edition_created (Some n) db name = refl
 answer-edition_created None db name = refl
 
-answer-edition_set : (o : Option ℕ) (db : Database) → (edition_set (option_map edition o) db session).answer ≡ answer_to_set_edition o
-answer-edition_set (Some n) db = refl
-answer-edition_set None db = refl
+answer-edition_set : (o : Option ℕ) (db : Database) (x : Session) → (edition_set (option_map edition o) db the_session x).answer ≡ answer_to_set_edition o
+answer-edition_set (Some n) db x = refl
+answer-edition_set None db x = refl
+
+-- the reply to a session that is live
+reply-live : (o : Option Session) (e : EditionNo) (db : Database) (ask : Ask) → edition_of o ≡ Some e → (x : Session) × (reply_to o db the_session ask ≡ reply_in e db the_session x ask)
+reply-live None e db ask live = absurd (none-some e live)
+reply-live (Some x) e db ask live = (x, ap (λ d. reply_while d db the_session x ask) live)
 
 -- an edition with this many before it
 abbrev youngest : ℕ → List ℕ → Option EditionNo → EditionEntry
@@ -45,10 +50,10 @@ abbrev last_of : List EditionEntry → EditionNo
 last_of es = fold (λ e (x : EditionEntry). x.number) first_edition es
 
 -- the first session's edition, once it is set
-edition_of-set : (sessions : List Session) (e d : EditionNo) → edition_of (session_at sessions 1) ≡ Some e
-    → edition_of (session_at (slice_set sessions 0 (record { edition = Some d })) 1) ≡ Some d
-edition_of-set [] e d live = absurd (none-some e live)
-edition_of-set (x ∷ sessions) e d live = refl
+edition_of-set : (sessions : List Session) (e d : EditionNo) (x : Session) → edition_of (session_at sessions 1) ≡ Some e
+    → edition_of (session_at (slice_set sessions 0 (record x { edition = Some d })) 1) ≡ Some d
+edition_of-set [] e d x live = absurd (none-some e live)
+edition_of-set (y ∷ sessions) e d x live = refl
 
 module _ (db : Database) (editions : Editions) (h : Keeps editions db) where
   shows : editions.procedures ≡ View (catalogue_of db.records) (edition editions.current)
@@ -69,16 +74,19 @@ module _ (db : Database) (editions : Editions) (h : Keeps editions db) where
       ap (λ o. (edition_created o db name).answer) (numbers name) ∙ answer-edition_created (number_of name editions.names) db name
   answer-defined MakesNothing text = refl
 
-  answer-reply_in : (ask : Ask) → (reply_in db session (edition editions.current) ask).answer ≡ answer_in editions ask
-  answer-reply_in Begin = ap answer.View (sym shows)
-  answer-reply_in (Ddl what text) = answer-defined (effect_of what) text
-  answer-reply_in (SetEdition name) = ap (λ o. (edition_set o db session).answer) (numbers name) ∙ answer-edition_set (number_of name editions.names) db
-  answer-reply_in (EndCall failed) = refl
-  answer-reply_in Leave = refl
+  answer-reply_in : (x : Session) (ask : Ask) → (reply_in (edition editions.current) db the_session x ask).answer ≡ answer_in editions ask
+  answer-reply_in x Begin = ap answer.View (sym shows)
+  answer-reply_in x (Ddl what text) = answer-defined (effect_of what) text
+  answer-reply_in x (SetEdition name) =
+      ap (λ o. (edition_set o db the_session x).answer) (numbers name) ∙ answer-edition_set (number_of name editions.names) db x
+  answer-reply_in x (EndCall failed) = refl
+  answer-reply_in x Leave = refl
 
   -- the machine's answer
-  pub answer-Reply : (ask : Ask) → (Reply db session ask).answer ≡ answer_in editions ask
-  answer-Reply ask = ap (λ e. (reply_of e db session ask).answer) h.current ∙ answer-reply_in ask
+  pub answer-Reply : (ask : Ask) → (Reply db the_session ask).answer ≡ answer_in editions ask
+  answer-Reply ask =
+      let found = reply-live (session_at db.sessions 1) (edition editions.current) db ask h.current in
+      ap (λ (r : Replied). r.answer) found.1 ∙ answer-reply_in found.0 ask
 
   -- a procedure is made in the session's edition
   Keeps-procedure : (what : Definition) (replace : Bool) (name line text : List ℕ) → effect_of what ≡ MakesProcedure replace name line → stored_definition text ≡ Some what
@@ -136,11 +144,11 @@ module _ (db : Database) (editions : Editions) (h : Keeps editions db) where
   Keeps-edition_created name None = Keeps-edition name
 
   -- the session's edition is another one
-  Keeps-edition_set : (name : List ℕ) (o : Option ℕ) → number_of name editions.names ≡ o
-      → Keeps (editions_after_set_edition o editions) (edition_set (option_map edition o) db session).database
-  Keeps-edition_set name None is = h
-  Keeps-edition_set name (Some n) is = let within = number_of-within name editions.names n is in record {
-    current = edition_of-set db.sessions (edition editions.current) (edition n) h.current;
+  Keeps-edition_set : (x : Session) (name : List ℕ) (o : Option ℕ) → number_of name editions.names ≡ o
+      → Keeps (editions_after_set_edition o editions) (edition_set (option_map edition o) db the_session x).database
+  Keeps-edition_set x name None is = h
+  Keeps-edition_set x name (Some n) is = let within = number_of-within name editions.names n is in record {
+    current = edition_of-set db.sessions (edition editions.current) (edition n) x h.current;
     counted = within.0;
     exists = within.1;
     names = h.names;
@@ -160,15 +168,17 @@ module _ (db : Database) (editions : Editions) (h : Keeps editions db) where
       (sym (numbers name)) (Keeps-edition_created name (number_of name editions.names))
   Keeps-defined what text MakesNothing is spelled = h
 
-  Keeps-reply_in : (ask : Ask) → ask ≢ Leave → IsSpelled ask → Keeps (editions_after editions ask) (reply_in db session (edition editions.current) ask).database
-  Keeps-reply_in Begin stays spelled = h
-  Keeps-reply_in (Ddl what text) stays spelled = Keeps-defined what text (effect_of what) refl spelled
-  Keeps-reply_in (SetEdition name) stays spelled =
-      subst (λ o. Keeps (editions_after_set_edition (number_of name editions.names) editions) (edition_set o db session).database)
-      (sym (numbers name)) (Keeps-edition_set name (number_of name editions.names) refl)
-  Keeps-reply_in (EndCall failed) stays spelled = h
-  Keeps-reply_in Leave stays spelled = absurd (stays refl)
+  Keeps-reply_in : (x : Session) (ask : Ask) → ask ≢ Leave → IsSpelled ask → Keeps (editions_after editions ask) (reply_in (edition editions.current) db the_session x ask).database
+  Keeps-reply_in x Begin stays spelled = h
+  Keeps-reply_in x (Ddl what text) stays spelled = Keeps-defined what text (effect_of what) refl spelled
+  Keeps-reply_in x (SetEdition name) stays spelled =
+      subst (λ o. Keeps (editions_after_set_edition (number_of name editions.names) editions) (edition_set o db the_session x).database)
+      (sym (numbers name)) (Keeps-edition_set x name (number_of name editions.names) refl)
+  Keeps-reply_in x (EndCall failed) stays spelled = h
+  Keeps-reply_in x Leave stays spelled = absurd (stays refl)
 
   -- the editions afterwards
-  pub Keeps-Reply : (ask : Ask) → ask ≢ Leave → IsSpelled ask → Keeps (editions_after editions ask) (Reply db session ask).database
-  Keeps-Reply ask stays spelled = subst (λ e. Keeps (editions_after editions ask) (reply_of e db session ask).database) (sym h.current) (Keeps-reply_in ask stays spelled)
+  pub Keeps-Reply : (ask : Ask) → ask ≢ Leave → IsSpelled ask → Keeps (editions_after editions ask) (Reply db the_session ask).database
+  Keeps-Reply ask stays spelled =
+      let found = reply-live (session_at db.sessions 1) (edition editions.current) db ask h.current in
+      subst (λ (r : Replied). Keeps (editions_after editions ask) r.database) (sym found.1) (Keeps-reply_in found.0 ask stays spelled)

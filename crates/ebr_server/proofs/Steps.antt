@@ -1,7 +1,7 @@
 -- What comes of a step, by what its asks and its printing gave.
-use Rattle.std.proofs.Common.{ℕ, ◌≡◌, ◌≤◌, List, [], ◌++◌, length, take, Option, Some, None, Result, Ok, Err, arith, sym, ◌∙◌, ap, subst, length-append, append-nil}
-use Rattle.std.proofs.lemmas.List.{take-append-le}
-use Rattle.std.specs.Prelude.{OnOk, OnErr, IfErr, IfSome}
+use Rattle.std.specs.Prelude.{◌⊎◌}
+use Rattle.std.proofs.Common.{inl, inr, ℕ, ◌≡◌, ◌≢◌, ◌≤◌, List, [], ◌++◌, Result, Ok, Err, arith, refl, sym, ◌∙◌, ap, subst, append-nil, append_assoc}
+use Rattle.ebr_outside.specs.Faults.{Rises}
 use Rattle.ebr_server.specs.declared.ask.Ask.{Ask}
 use Rattle.ebr_server.specs.declared.ask.Ask.TheVariants.{Begin}
 use Rattle.ebr_server.specs.declared.ask.Answer.{Answer}
@@ -9,118 +9,176 @@ use Rattle.ebr_server.specs.declared.ask.Entry.{Entry}
 use Rattle.ebr_server.specs.declared.engine.Engine.{Engine}
 use Rattle.ebr_server.specs.declared.worker.Halt.{Halt}
 use Rattle.ebr_server.specs.declared.worker.Halt.TheVariants.{SinkFault, NoMemory, Answered}
-use Rattle.ebr_server.specs.Engine.{entries}
-use Rattle.ebr_server.specs.Sessions.{Step, begun, asked, then_run, printing, printing_result, result_line}
-use Rattle.ebr_server.specs.Program.{IsPrefix}
-use Rattle.ebr_server.specs.Worker.{Stands, IsOver, IsQuiet, QuitStep, OverStep, Does, Asks, Asked, Unanswered, Wrote}
-use Rattle.ebr_server.proofs.Standing.{Stands-asked, Stands-printing, IsOver-asked, IsQuiet-asked, Quits-quiet, IsPrefix-refl}
+use Rattle.ebr_server.specs.Machine.{the_session}
+use Rattle.ebr_server.specs.declared.ask.Answer.TheVariants as answer
+use Rattle.ebr_server.specs.History.{Mine, GoesOn, EndsRun}
+use Rattle.ebr_server.specs.Sessions.{Step, call_after, asked, then_run, printing, printing_result, result_line}
+use Rattle.ebr_server.specs.Program.{IsPrefix, RanOut}
+use Rattle.ebr_server.specs.inside.Engine.{IsOpen, Answers, entries}
+use Rattle.ebr_server.specs.inside.Output.{Output, WritesOn, Prints, PrintsPart}
+use Rattle.ebr_server.specs.inside.Worker.{RunsOn, Quits, CanQuit, QuitStep, Does, Asks, WasAnswered, WasEnded}
+use Rattle.ebr_server.proofs.Runs.{RunsOn-asked, RunsOn-printing, RunsOn-writes, RanOut-asked, CanQuit-asked, Quits-here, Quits-writes, IsPrefix-refl}
 
 -- the same fact of a history that is known by an equation
 at_history : (P : List Entry → Type 0) (new grown : List Entry) → new ≡ grown → P grown → P new
 at_history P new grown e fact = subst P (sym e) fact
 
--- A step goes on from what its ask was answered.
-pub Does-asked : (r : Result (Unit {0}) Halt) (old mid : Engine) (new : List Entry) (a : Ask) (k : Answer → Step) (p q : List ℕ) (was : Asked old mid a)
-    → Does r (k was.answer) (entries mid) p new q → Does r (asked a k) (entries old) p new q
-Does-asked r old mid new a k p q was = by_case r
-  where
-    on : (script : List ℕ) (rest : Step) → Stands script (λ σ. then_run (asked a k σ) rest) (entries old) p → Stands script (λ σ. then_run (k was.answer σ) rest) (entries mid) p
-    on script rest stands = at_history (λ h. Stands script (λ σ. then_run (k was.answer σ) rest) h p) (entries mid) _ was.entry (Stands-asked script a k rest (entries old) p was.answer was.on stands)
+-- The run goes on behind an ask.
+goes_on : (script : List ℕ) (a : Ask) (k : Answer → Step) (rest : Step) (e e' : Engine) (o o' : Output) (was : WasAnswered a e o e' o')
+    → RunsOn script (λ σ. then_run (asked a k σ) rest) (entries e) o → RunsOn script (λ σ. then_run (k was.asks.answer σ) rest) (entries e') o'
+goes_on script a k rest e e' o o' was runs =
+    at_history (λ h. RunsOn script (λ σ. then_run (k was.asks.answer σ) rest) h o') (entries e') _ was.asks.entry
+    (RunsOn-asked script a k rest (entries e) o' (RunsOn-writes script _ (entries e) o o' was.asks.writes runs) was.asks.answer was.asks.all_written was.goes_on)
 
-    by_case : (r : Result (Unit {0}) Halt) → Does r (k was.answer) (entries mid) p new q → Does r (asked a k) (entries old) p new q
-    by_case (Ok u) did = record { by = λ script rest stands. did.by script rest (on script rest stands) }
-    by_case (Err SinkFault) did = record { by = λ script rest quiet stands. did.by script rest quiet (on script rest stands) }
-    by_case (Err NoMemory) did = record { by = λ script rest quiet stands. did.by script rest quiet (on script rest stands) }
-    by_case (Err Answered) did = record { by = λ script rest stands. did.by script rest (on script rest stands) }
+rises_since : (old mid new : ℕ) → old ≤ mid → Rises mid new → Rises old new
+rises_since old mid new grown rises = omega arith
+
+-- A step goes on from what its ask was answered.
+pub Does-asked : (r : Result (Unit {0}) Halt) (a : Ask) (k : Answer → Step) (e e' last : Engine) (o o' new : Output) (was : WasAnswered a e o e' o')
+    → Does r (k was.asks.answer) e' o' last new → Does r (asked a k) e o last new
+Does-asked r a k e e' last o o' new was did = by_case r did
+  where
+    on : (script : List ℕ) (rest : Step) → RunsOn script (λ σ. then_run (asked a k σ) rest) (entries e) o → RunsOn script (λ σ. then_run (k was.asks.answer σ) rest) (entries e') o'
+    on script rest runs = goes_on script a k rest e e' o o' was runs
+
+    quit : QuitStep (k was.asks.answer) e' o' last new → QuitStep (asked a k) e o last new
+    quit did = record { by = λ script rest can runs. did.by script rest can (on script rest runs); is_open = did.is_open; counted = omega (arith, was.asks.writes.counted, did.counted) }
+
+    by_case : (r : Result (Unit {0}) Halt) → Does r (k was.asks.answer) e' o' last new → Does r (asked a k) e o last new
+    by_case (Ok u) did = record { by = λ script rest runs. did.by script rest (on script rest runs); is_open = did.is_open; counted = omega (arith, was.asks.writes.counted, did.counted) }
+    by_case (Err SinkFault) did = (quit did.0, rises_since o.faults o'.faults new.faults was.asks.writes.counted did.1)
+    by_case (Err NoMemory) did = quit did
+    by_case (Err Answered) did = record { by = λ script rest runs. did.by script rest (on script rest runs); legal = did.legal; counted = omega (arith, was.asks.writes.counted, did.counted) }
 
 -- A step goes on from what was printed.
-pub Does-printing : (r : Result (Unit {0}) Halt) (t : List ℕ) (k : Step) (old new : List Entry) (p mid q : List ℕ) → mid ≡ p ++ t
-    → Does r k old mid new q → Does r (λ σ. then_run (printing t σ) k) old p new q
-Does-printing r t k old new p mid q e did = by_case r (subst (λ m. Does r k old m new q) e did)
+pub Does-printing : (r : Result (Unit {0}) Halt) (t : List ℕ) (k : Step) (e last : Engine) (o mid new : Output) → mid ≡ record o { pending = o.pending ++ t }
+    → Does r k e mid last new → Does r (λ σ. then_run (printing t σ) k) e o last new
+Does-printing r t k e last o mid new is did = by_case r (subst (λ m. Does r k e m last new) is did)
   where
-    on : (script : List ℕ) (rest : Step) → Stands script (λ σ. then_run (then_run (printing t σ) k) rest) old p → Stands script (λ σ. then_run (k σ) rest) old (p ++ t)
-    on script rest stands = record { by = λ given quit. stands.by given quit }
+    o' : Output
+    o' = record o { pending = o.pending ++ t }
 
-    by_case : (r : Result (Unit {0}) Halt) → Does r k old (p ++ t) new q → Does r (λ σ. then_run (printing t σ) k) old p new q
-    by_case (Ok u) did = record { by = λ script rest stands. did.by script rest (on script rest stands) }
-    by_case (Err SinkFault) did = record { by = λ script rest quiet stands. did.by script rest quiet (on script rest stands) }
-    by_case (Err NoMemory) did = record { by = λ script rest quiet stands. did.by script rest quiet (on script rest stands) }
-    by_case (Err Answered) did = record { by = λ script rest stands. did.by script rest (on script rest stands) }
+    on : (script : List ℕ) (rest : Step) → RunsOn script (λ σ. then_run (then_run (printing t σ) k) rest) (entries e) o → RunsOn script (λ σ. then_run (k σ) rest) (entries e) o'
+    on script rest runs = RunsOn-printing script t (λ σ. then_run (k σ) rest) (entries e) o runs
+
+    quit : QuitStep k e o' last new → QuitStep (λ σ. then_run (printing t σ) k) e o last new
+    quit did = record { by = λ script rest can runs. did.by script rest can (on script rest runs); is_open = did.is_open; counted = did.counted }
+
+    by_case : (r : Result (Unit {0}) Halt) → Does r k e o' last new → Does r (λ σ. then_run (printing t σ) k) e o last new
+    by_case (Ok u) did = record { by = λ script rest runs. did.by script rest (on script rest runs); is_open = did.is_open; counted = did.counted }
+    by_case (Err SinkFault) did = (quit did.0, did.1)
+    by_case (Err NoMemory) did = quit did
+    by_case (Err Answered) did = record { by = λ script rest runs. did.by script rest (on script rest runs); legal = did.legal; counted = did.counted }
+
+part_printed : (o : Output) (t part : List ℕ) → IsPrefix part (o.pending ++ t) → IsPrefix (o.written ++ part) (o.written ++ (o.pending ++ t))
+part_printed o t part first = record { rest = first.rest; whole = ap (λ xs. o.written ++ xs) first.whole ∙ sym (append_assoc o.written part first.rest) }
+
+-- the session quits where not all of a text was printed
+quits_part : (script t : List ℕ) (on : Step) (e : Engine) (o new : Output) → RunsOn script (λ σ. then_run (printing t σ) on) (entries e) o → CanQuit on → PrintsPart t o new → Quits script (entries e) new
+quits_part script t on e o new runs can prints =
+    subst (Quits script (entries e)) (sym prints.is)
+    (Quits-here script on (entries e) (record o { pending = o.pending ++ t }) (record o { pending = prints.part }) (RunsOn-printing script t on (entries e) o runs) can
+    (IsPrefix-refl o.written) (part_printed o t prints.part prints.first))
+
+same_count : (o new : Output) (bytes : List ℕ) → new ≡ record o { pending = bytes } → o.faults ≤ new.faults
+same_count o new bytes is = omega (arith, ap (λ (x : Output). x.faults) is)
 
 -- a step that asks nothing and prints a text
-pub Does-prints : (r : Result (Unit {0}) Halt) (t : List ℕ) (h : List Entry) (p q : List ℕ) → OnOk r (q ≡ p ++ t) → OnErr r (IsPrefix q (p ++ t)) → IfErr r (λ x. x ≡ NoMemory)
-    → Does r (printing t) h p h q
-Does-prints (Ok u) t h p q ok err halt = record { by = λ script rest stands. subst (Stands script rest h) (sym ok) (Stands-printing script t rest h p stands) }
-Does-prints (Err x) t h p q ok err halt =
-    let quits : Does (Err NoMemory) (printing t) h p h q = record { by = λ script rest quiet stands. Quits-quiet script rest h (p ++ t) q (Stands-printing script t rest h p stands) quiet err } in
-    subst (λ x. Does (Err x) (printing t) h p h q) (sym halt) quits
-
--- A text of which not all was printed, with more steps to come.
-pub Quits-part : (t : List ℕ) (k : Step) (h : List Entry) (p q : List ℕ) → ((rest : Step) → IsQuiet rest → IsQuiet (λ σ. then_run (k σ) rest)) → IsPrefix q (p ++ t)
-    → QuitStep (λ σ. then_run (printing t σ) k) h p h q
-Quits-part t k h p q quiet part = record {
-  by = λ script rest q_rest stands.
-      Quits-quiet script (λ σ. then_run (k σ) rest) h (p ++ t) q (record { by = λ given quit. stands.by given quit }) (quiet rest q_rest) part;
+pub Does-prints : (r : Result (Unit {0}) Halt) (t : List ℕ) (e : Engine) (o new : Output) → IsOpen e → Prints r t o new → Does r (printing t) e o e new
+Does-prints (Ok u) t e o new is_open prints = record {
+  by = λ script rest runs. subst (RunsOn script rest (entries e)) (sym prints) (RunsOn-printing script t rest (entries e) o runs);
+  is_open = is_open;
+  counted = same_count o new _ prints;
 }
+Does-prints (Err SinkFault) t e o new is_open prints = absurd prints
+Does-prints (Err NoMemory) t e o new is_open prints =
+    record { by = λ script rest can runs. quits_part script t rest e o new runs can prints; is_open = is_open; counted = same_count o new _ prints.is }
+Does-prints (Err Answered) t e o new is_open prints = absurd prints
+
+-- A line of which not all was printed, before an ask.
+pub Does-part : (x : Halt) (t : List ℕ) (a : Ask) (k : Answer → Step) (e : Engine) (o new : Output) → IsOpen e → Prints (Err x) t o new
+    → Does (Err x) (λ σ. then_run (printing t σ) (asked a k)) e o e new
+Does-part SinkFault t a k e o new is_open prints = absurd prints
+Does-part NoMemory t a k e o new is_open prints = record {
+  by = λ script rest can runs.
+      quits_part script t (λ σ. then_run (asked a k σ) rest) e o new (record { by = λ coming quit. runs.by coming quit; went_on = runs.went_on; least = runs.least }) (CanQuit-asked a k rest) prints;
+  is_open = is_open;
+  counted = same_count o new _ prints.is;
+}
+Does-part Answered t a k e o new is_open prints = absurd prints
+
+writes_nothing : (o : Output) → WritesOn o o
+writes_nothing o = record { same = refl; grown = IsPrefix-refl o.written; counted = omega arith }
 
 -- The session quits before its ask.
-pub QuitStep-asked : (a : Ask) (k : Answer → Step) (h : List Entry) (p : List ℕ) → QuitStep (asked a k) h p h p
-QuitStep-asked a k h p = record { by = λ script rest quiet stands. Quits-quiet script (λ σ. then_run (asked a k σ) rest) h p p stands (IsQuiet-asked a k rest) (IsPrefix-refl p) }
-
-OverStep-asked : (old new : Engine) (a : Ask) (k : Answer → Step) (p : List ℕ) → Unanswered old new a → OverStep (asked a k) (entries old) p (entries new) p
-OverStep-asked old new a k p was = record {
-  by = λ script rest stands.
-      at_history (λ h. IsOver script h p) (entries new) _ was.entry (IsOver-asked script a k rest (entries old) p was.answer was.ends stands);
+pub QuitStep-asked : (a : Ask) (k : Answer → Step) (e : Engine) (o : Output) → IsOpen e → QuitStep (asked a k) e o e o
+QuitStep-asked a k e o is_open = record {
+  by = λ script rest can runs. Quits-writes script (λ σ. then_run (asked a k σ) rest) (entries e) o o runs (CanQuit-asked a k rest) (writes_nothing o);
+  is_open = is_open;
+  counted = omega arith;
 }
 
 -- An ask after which the session stops.
-pub Does-not-asked : (x : Halt) (old new : Engine) (a : Ask) (k : Answer → Step) (p q : List ℕ) → Asks (Err x) old new a → q ≡ p
-    → Does (Err x) (asked a k) (entries old) p (entries new) q
-Does-not-asked SinkFault old new a k p q same e =
-    subst (λ n. QuitStep (asked a k) (entries old) p (entries n) q) (sym same) (subst (QuitStep (asked a k) (entries old) p (entries old)) (sym e) (QuitStep-asked a k (entries old) p))
-Does-not-asked NoMemory old new a k p q never e = absurd never
-Does-not-asked Answered old new a k p q was e =
-    subst (OverStep (asked a k) (entries old) p (entries new)) (sym e) (OverStep-asked old new a k p was)
+pub Does-not-asked : (x : Halt) (a : Ask) (k : Answer → Step) (e e' : Engine) (o new : Output) → IsOpen e → Asks (Err x) a e o e' new → Does (Err x) (asked a k) e o e' new
+Does-not-asked SinkFault a k e e' o new is_open was =
+    let quits : QuitStep (asked a k) e o e new = record {
+      by = λ script rest can runs. Quits-writes script (λ σ. then_run (asked a k σ) rest) (entries e) o new runs (CanQuit-asked a k rest) was.writes;
+      is_open = is_open;
+      counted = was.writes.counted;
+    } in
+    (subst (λ engine. QuitStep (asked a k) e o engine new) (sym was.same) quits, was.rises)
+Does-not-asked NoMemory a k e e' o new is_open was = absurd was
+Does-not-asked Answered a k e e' o new is_open was = record {
+  by = λ script rest runs.
+      at_history (λ h. RanOut script (Mine h the_session) new.written) (entries e') _ was.asks.entry
+      (RanOut-asked script a k rest (entries e) new (RunsOn-writes script _ (entries e) o new was.asks.writes runs) was.asks.answer was.asks.all_written was.ends);
+  legal = was.asks.legal;
+  counted = was.asks.writes.counted;
+}
 
 -- An ask with the line that tells how it ended.
-pub Does-request : (r : Result (Unit {0}) Halt) (old new : Engine) (a : Ask) (text : List ℕ) (x : Answer) (p mid q : List ℕ) (was : Asked old new a) → x ≡ was.answer → mid ≡ p
-    → OnOk r (q ≡ mid ++ result_line text x) → OnErr r (IsPrefix q (mid ++ result_line text x)) → IfErr r (λ h. h ≡ NoMemory)
-    → Does r (asked a (printing_result text)) (entries old) p (entries new) q
-Does-request r old new a text x p mid q was is_answer same ok err halt =
-    let did : Does r (printing_result text x) (entries new) mid (entries new) q = Does-prints r (result_line text x) (entries new) mid q ok err halt in
-    Does-asked r old new (entries new) a (printing_result text) p q was
-    (subst (λ y. Does r (printing_result text y) (entries new) p (entries new) q) is_answer (subst (λ m. Does r (printing_result text x) (entries new) m (entries new) q) same did))
-
-take-prefix : (n : ℕ) (xs ys : List ℕ) → IsPrefix xs ys → n ≤ length xs → take n xs ≡ take n ys
-take-prefix n xs ys part within = sym (ap (take n) part.whole ∙ take-append-le n xs part.rest within)
-
--- What was written stays written when more is printed.
-pub Wrote-more : (held : Option (List ℕ)) (written : ℕ) (p q : List ℕ) → Wrote held written p → IsPrefix p q → Wrote held written q
-Wrote-more held written p q wrote part = record {
-  within = omega (arith, ap length part.whole, length-append p part.rest, wrote.within);
-  told = told_more held wrote.told;
-}
-  where
-    told_more : (held : Option (List ℕ)) → IfSome held (λ bytes. bytes ≡ take written p) → IfSome held (λ bytes. bytes ≡ take written q)
-    told_more None told = tt
-    told_more (Some bytes) told = told ∙ take-prefix written p q part wrote.within
+pub Does-request : (r : Result (Unit {0}) Halt) (a : Ask) (text : List ℕ) (x : Answer) (e e' : Engine) (o o' new : Output) (was : WasAnswered a e o e' o') → IsOpen e' → x ≡ was.asks.answer
+    → Prints r (result_line text x) o' new → Does r (asked a (printing_result text)) e o e' new
+Does-request r a text x e e' o o' new was is_open is_answer prints =
+    Does-asked r a (printing_result text) e e' e' o o' new was
+    (subst (λ y. Does r (printing_result text y) e' o' e' new) is_answer (Does-prints r (result_line text x) e' o' new is_open prints))
 
 -- A call goes on from what the answer to Begin makes of it.
-pub Does-begun : (r : Result (Unit {0}) Halt) (old mid : Engine) (new : List Entry) (name : List ℕ) (x : Answer) (step : Step) (p p' q : List ℕ) (was : Asked old mid Begin) → x ≡ was.answer → p' ≡ p
-    → begun name x ≡ step → Does r step (entries mid) p' new q → Does r (asked Begin (begun name)) (entries old) p new q
-Does-begun r old mid new name x step p p' q was is_answer same is_step did =
-    let at_p : Does r step (entries mid) p new q = subst (λ m. Does r step (entries mid) m new q) same did in
-    let by_answer : Does r (begun name x) (entries mid) p new q = subst (λ f. Does r f (entries mid) p new q) (sym is_step) at_p in
-    Does-asked r old mid new Begin (begun name) p q was (subst (λ y. Does r (begun name y) (entries mid) p new q) is_answer by_answer)
+pub Does-call : (r : Result (Unit {0}) Halt) (name : List ℕ) (x : Answer) (step : Step) (e e' last : Engine) (o o' new : Output) (was : WasAnswered Begin e o e' o') → x ≡ was.asks.answer
+    → call_after name x ≡ step → Does r step e' o' last new → Does r (asked Begin (call_after name)) e o last new
+Does-call r name x step e e' last o o' new was is_answer is_step did =
+    let by_answer : Does r (call_after name x) e' o' last new = subst (λ f. Does r f e' o' last new) (sym is_step) did in
+    Does-asked r Begin (call_after name) e e' last o o' new was (subst (λ y. Does r (call_after name y) e' o' last new) is_answer by_answer)
 
--- A line of which not all was printed, before an ask.
-pub Does-part : (x : Halt) (t : List ℕ) (a : Ask) (k : Answer → Step) (h : List Entry) (p q : List ℕ) → x ≡ NoMemory → IsPrefix q (p ++ t)
-    → Does (Err x) (λ σ. then_run (printing t σ) (asked a k)) h p h q
-Does-part x t a k h p q memory part =
-    subst (λ y. Does (Err y) (λ σ. then_run (printing t σ) (asked a k)) h p h q) (sym memory) (Quits-part t (asked a k) h p q (λ rest quiet. IsQuiet-asked a k rest) part)
+nothing_more : (o : Output) → o ≡ record o { pending = o.pending ++ [] }
+nothing_more o = ap (λ bytes. record o { pending = bytes }) (sym (append-nil o.pending))
 
-append-nothing : (p : List ℕ) → p ≡ p ++ []
-append-nothing p = sym (append-nil p)
+pub Does-nothing : (e : Engine) (o : Output) → IsOpen e → Does (Ok tt) (printing []) e o e o
+Does-nothing e o is_open = Does-prints (Ok tt) [] e o o is_open (nothing_more o)
 
-pub Does-nothing : (h : List Entry) (p : List ℕ) → Does (Ok tt) (printing []) h p h p
-Does-nothing h p = Does-prints (Ok tt) [] h p p (append-nothing p) tt tt
+-- The engine answered, and the session goes on.
+pub was_answered : (a : Ask) (e e' : Engine) (o o' : Output) (w : WritesOn o o') (r : Answers e e' a) → o'.pending ≡ [] → GoesOn r.answer → WasAnswered a e o e' o'
+was_answered a e e' o o' w r none on = record {
+  asks = record { answer = r.answer; entry = r.entry; writes = w; all_written = none; legal = r.legal };
+  goes_on = on;
+  is_open = r.stays_open (not_memory r.answer on);
+}
+  where
+    not_memory : (x : Answer) → GoesOn x → x ≢ answer.NoMemory
+    not_memory x on e = subst GoesOn e on
+
+pub was_ended : (a : Ask) (e e' : Engine) (o o' : Output) (w : WritesOn o o') (r : Answers e e' a) → o'.pending ≡ [] → EndsRun r.answer → WasEnded a e o e' o'
+was_ended a e e' o o' w r none ends = record {
+  asks = record { answer = r.answer; entry = r.entry; writes = w; all_written = none; legal = r.legal };
+  ends = ends;
+}
+
+pub goes_on_otherwise : (x : Answer) → x ≢ answer.NoMemory → x ≢ answer.Stopped → GoesOn x
+goes_on_otherwise (answer.View v) memory stopped = tt
+goes_on_otherwise answer.Done memory stopped = tt
+goes_on_otherwise (answer.Refused c s l) memory stopped = tt
+goes_on_otherwise answer.NoMemory memory stopped = absurd (memory refl)
+goes_on_otherwise answer.Stopped memory stopped = absurd (stopped refl)
+
+pub ends_so : (x : Answer) → (x ≡ answer.NoMemory) ⊎ (x ≡ answer.Stopped) → EndsRun x
+ends_so x is = elim is [ inl e ↦ subst EndsRun (sym e) tt | inr e ↦ subst EndsRun (sym e) tt ]

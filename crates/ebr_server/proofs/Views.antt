@@ -11,11 +11,11 @@ use Rattle.ebr_base.specs.declared.object.ObjectKey.{ObjectKey}
 use Rattle.ebr_server.specs.declared.ask.Procedure.{Procedure}
 use Rattle.ebr_server.specs.declared.procedures.Version.{Version}
 use Rattle.ebr_server.specs.Catalogue.{ObjectEntry, last_entry, is_entry_of, unit_key, names_of, entry_or, visible_along}
-use Rattle.ebr_server.specs.Procedures.{put, put_all, seen_in}
-use Rattle.ebr_server.specs.Engine.{definition_of}
+use Rattle.ebr_server.specs.inside.Procedures.{put, put_all, seen_in}
+use Rattle.ebr_server.specs.inside.Engine.{definition_of}
 use Rattle.ebr_server.proofs.InOrder.{IsAscending}
 use Rattle.ebr_server.proofs.Lookups.{IsAmong}
-use Rattle.ebr_server.proofs.Puts.{AreNamed, AreNamed-coming, coming, put-coming}
+use Rattle.ebr_server.proofs.Placing.{AreNamed, AreNamed-coming, coming, put-coming}
 use Rattle.ebr_server.proofs.Entries.{AreRegular, AreMade, AreAmong, made, all_among, visible_names}
 use Rattle.ebr_server.proofs.Lines.{edition, up_from}
 

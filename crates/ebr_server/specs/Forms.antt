@@ -20,12 +20,12 @@ use Rattle.ebr_ast.specs.declared.expression.Expr.TheOpen.{Expr-F}
 use Rattle.ebr_ast.specs.declared.expression.Expr.TheOpen as expression
 
 -- the one statement of a block without declarations and handlers
-abbrev pub alone : List Decl → List Stmt → List Handler → Option Stmt
-alone [] (s ∷ []) [] = Some s
-alone declarations statements handlers = None
+abbrev pub single : List Decl → List Stmt → List Handler → Option Stmt
+single [] (s ∷ []) [] = Some s
+single declarations statements handlers = None
 
 abbrev pub only_statement : Block → Option Stmt
-only_statement b = alone (out-Block b).declarations (out-Block b).statements (out-Block b).handlers
+only_statement b = single (out-Block b).declarations (out-Block b).statements (out-Block b).handlers
 
 abbrev pub text_in : Expr-F Expr Addend → Option (List ℕ)
 text_in (expression.Text content) = Some content

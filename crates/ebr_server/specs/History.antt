@@ -65,3 +65,8 @@ asks = map (λ x. x.ask)
 
 abbrev pub answers : List Exchange → List Answer
 answers = map (λ x. x.answer)
+
+-- The session went on after each of its answers.
+abbrev pub AllGoOn : List Exchange → Type 0
+AllGoOn [] = Unit {0}
+AllGoOn (x ∷ mine) = GoesOn x.answer × AllGoOn mine

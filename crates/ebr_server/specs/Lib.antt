@@ -1,14 +1,8 @@
 pub mod Forms
-pub mod Effects
 pub mod Catalogue
 pub mod Machine
 pub mod History
 pub mod Sessions
-pub mod Procedures
-pub mod Engine
 pub mod Program
 pub mod Exit
-pub mod Reading
-pub mod Worker
-pub mod Report
-pub mod Alone
+pub mod inside

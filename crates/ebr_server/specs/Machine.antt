@@ -73,24 +73,38 @@ abbrev pub with_session : Database → SessionId → Session → Database
 with_session db s x = record db { sessions = slice_set db.sessions (s.0 - 1) x }
 
 -- The session's edition is another one from now on.
-abbrev pub edition_set : Option EditionNo → Database → SessionId → Replied
-edition_set None db s = refused db (Ora 38802)
-edition_set (Some e) db s = unchanged (with_session db s (record { edition = Some e })) Done
+abbrev pub edition_set : Option EditionNo → Database → SessionId → Session → Replied
+edition_set None db s x = refused db (Ora 38802)
+edition_set (Some e) db s x = unchanged (with_session db s (record x { edition = Some e })) Done
 
-abbrev pub left : Database → SessionId → Replied
-left db s = unchanged (with_session db s (record { edition = None })) Done
+abbrev pub left : Database → SessionId → Session → Replied
+left db s x = unchanged (with_session db s (record x { edition = None })) Done
 
-abbrev pub reply_in : Database → SessionId → EditionNo → Ask → Replied
-reply_in db s e Begin = unchanged db (View (catalogue.View (catalogue_of db.records) e))
-reply_in db s e (Ddl what text) = defined db e (effect_of what) text
-reply_in db s e (SetEdition name) = edition_set (edition_named (catalogue_of db.records) name) db s
-reply_in db s e (EndCall failed) = unchanged db Done
-reply_in db s e Leave = left db s
+-- the reply to a session in its edition
+abbrev pub reply_in : EditionNo → Database → SessionId → Session → Ask → Replied
+reply_in e db s x Begin = unchanged db (View (catalogue.View (catalogue_of db.records) e))
+reply_in e db s x (Ddl what text) = defined db e (effect_of what) text
+reply_in e db s x (SetEdition name) = edition_set (edition_named (catalogue_of db.records) name) db s x
+reply_in e db s x (EndCall failed) = unchanged db Done
+reply_in e db s x Leave = left db s x
 
-abbrev pub reply_of : Option EditionNo → Database → SessionId → Ask → Replied
-reply_of None db s ask = refused db (Ebr 15)
-reply_of (Some e) db s ask = reply_in db s e ask
+-- A session that has left is no longer there.
+abbrev pub reply_while : Option EditionNo → Database → SessionId → Session → Ask → Replied
+reply_while None db s x ask = refused db (Ebr 15)
+reply_while (Some e) db s x ask = reply_in e db s x ask
+
+abbrev pub reply_to : Option Session → Database → SessionId → Ask → Replied
+reply_to None db s ask = refused db (Ebr 15)
+reply_to (Some x) db s ask = reply_while x.edition db s x ask
 
 -- One ask of one session is one step of the machine.
 abbrev pub Reply : Database → SessionId → Ask → Replied
-Reply db s ask = reply_of (session_edition db s) db s ask
+Reply db s ask = reply_to (session_at db.sessions s.0) db s ask
+
+-- the one session of `try`
+abbrev pub the_session : SessionId
+the_session = record { 0 = 1 }
+
+-- The database in which it begins, which has no record.
+abbrev pub start : Database
+start = Build [] 1

@@ -1,13 +1,17 @@
 -- The program: its words, what it prints last, and what it serves.
-use Rattle.std.specs.Prelude.{ℕ, ◌≡◌, Bool, true, false, not, ◌&&◌, if◌then◌else◌, List, [], ◌∷◌, ◌++◌, codes, Option, Some, None, IfSome, slice_get, unwrap_or, ◌⊎◌, option_and_then}
+use Rattle.std.specs.Prelude.{ℕ, zero, suc, ◌≡◌, Bool, true, false, not, ◌&&◌, if◌then◌else◌, List, [], ◌∷◌, ◌++◌, length, take, codes, Option, Some, None, IfSome, slice_get, unwrap_or, ◌⊎◌, option_and_then}
 use Rattle.std.specs.Str.{bytes_eq}
-use Rattle.ebr_base.specs.declared.numbers.SessionId.{SessionId}
 use Rattle.ebr_server.specs.declared.exit.ExitCode.{ExitCode}
 use Rattle.ebr_server.specs.declared.exit.ExitCode.TheVariants as code
+use Rattle.ebr_server.specs.declared.ask.Ask.{Ask}
+use Rattle.ebr_server.specs.declared.ask.Ask.TheVariants.{Leave}
+use Rattle.ebr_server.specs.declared.ask.Answer.{Answer}
+use Rattle.ebr_server.specs.declared.ask.Answer.TheVariants.{Done}
 use Rattle.ebr_server.specs.declared.ask.Entry.{Entry}
 use Rattle.ebr_server.specs.declared.ask.Exchange.{Exchange}
-use Rattle.ebr_server.specs.History.{Mine, asks, answers}
-use Rattle.ebr_server.specs.Sessions.{SessionRun, Ended, line_of}
+use Rattle.ebr_server.specs.Machine.{the_session}
+use Rattle.ebr_server.specs.History.{Mine, asks, answers, EndsRun, AllGoOn}
+use Rattle.ebr_server.specs.Sessions.{SessionRun, Printed, Ended, line_of}
 
 abbrev pub is_empty : List ℕ → Bool
 is_empty [] = true
@@ -21,43 +25,69 @@ script_word (w ∷ s ∷ []) = if bytes_eq w (codes "try") && not (is_empty s) t
 script_word (w ∷ s ∷ x ∷ words) = None
 
 -- the bytes of the script, where the words name one and the host tells what is behind it
-abbrev pub told_bytes : (List ℕ → Option (List ℕ)) → List (List ℕ) → Option (List ℕ)
-told_bytes bytes words = option_and_then bytes (script_word words)
+abbrev pub script_bytes : (List ℕ → Option (List ℕ)) → List (List ℕ) → Option (List ℕ)
+script_bytes bytes words = option_and_then bytes (script_word words)
 
 -- the word at a place
 abbrev pub word_at : List (List ℕ) → ℕ → List ℕ
 word_at words at = unwrap_or (slice_get words at) []
 
--- The line that the report ends with. A run that is done has none.
+-- The line that the report ends with. A run that is done has none, and behind a write that failed nothing is written.
 abbrev pub last_line : ExitCode → List (List ℕ) → List ℕ
 last_line code.Done words = []
 last_line code.Usage words = line_of (codes "usage")
 last_line (code.HostFault at) words = line_of (codes "host fault: " ++ word_at words at)
-last_line code.SinkFault words = line_of (codes "sink fault")
+last_line code.SinkFault words = []
 last_line code.NoMemory words = line_of (codes "out of memory")
 last_line (code.TooLong at) words = line_of (codes "too long: " ++ word_at words at)
-
--- the session of `try`
-abbrev pub the_session : SessionId
-the_session = record { 0 = 1 }
 
 pub record IsPrefix (xs ys : List ℕ) : Type 0 where
   pub rest : List ℕ
   pub whole : ys ≡ xs ++ rest
 
--- A session ran its script to its end, or quit after so many answers: its exchanges are just those of the run for the
--- answers that it was given, and this is what the run prints.
+-- A session left: it went on after each answer before, and its last one is Done, to Leave.
+pub record HasLeft (mine : List Exchange) : Type 0 where
+  pub before : List Exchange
+  pub last : mine ≡ before ++ record { ask = Leave; answer = Done } ∷ []
+  pub went_on : AllGoOn before
+
+-- A session's exchanges are just those of its run for the answers that it was given, and this is what the run prints.
+-- With `quit` it quits after so many of them.
 pub record Ran (script : List ℕ) (mine : List Exchange) (quit : Option ℕ) (printed : List ℕ) : Type 0 where
   pub asked : (SessionRun script (answers mine) quit).state.asks ≡ asks mine
   pub printed_is : (SessionRun script (answers mine) quit).state.printed ≡ printed
   pub ended : (SessionRun script (answers mine) quit).flow ≡ Ended
 
--- A session quit, and its replies are a part of what it printed until then.
+-- A session ran its script to its end: each piece has its reply, and these are the replies.
+pub record RanToEnd (script : List ℕ) (mine : List Exchange) (replies : List ℕ) : Type 0 where
+  pub left : HasLeft mine
+  pub ran : Ran script mine None replies
+
+-- what a script prints for all answers but the last; nothing where there is none
+abbrev pub printed_before : List ℕ → List Answer → ℕ → List ℕ
+printed_before script given zero = []
+printed_before script given (suc n) = Printed script (take n given)
+
+abbrev pub printed_before_last : List ℕ → List Answer → List ℕ
+printed_before_last script given = printed_before script given (length given)
+
+-- A session quit: it left in place of its next ask. Its replies are at most what its script prints for the answers that
+-- it was given before Leave, and at least what it prints for all of them but the last.
 pub record Quit (script : List ℕ) (mine : List Exchange) (replies : List ℕ) : Type 0 where
-  pub after : ℕ
-  pub printed : List ℕ
-  pub ran : Ran script mine (Some after) printed
-  pub part : IsPrefix replies printed
+  pub left : HasLeft mine
+  pub ran : Ran script mine (Some (length left.before)) (Printed script (answers left.before))
+  pub most : IsPrefix replies (Printed script (answers left.before))
+  pub least : IsPrefix (printed_before_last script (answers left.before)) replies
+
+-- A session was ended by an answer that there was no memory, which is its last. Its replies are all that it printed.
+pub record RanOut (script : List ℕ) (mine : List Exchange) (replies : List ℕ) : Type 0 where
+  pub before : List Exchange
+  pub ask : Ask
+  pub answer : Answer
+  pub last : mine ≡ before ++ record { ask = ask; answer = answer } ∷ []
+  pub went_on : AllGoOn before
+  pub ends : EndsRun answer
+  pub ran : Ran script mine None replies
 
 -- no session ran
 pub record NoSession (history : List Entry) (replies : List ℕ) : Type 0 where
@@ -66,33 +96,35 @@ pub record NoSession (history : List Entry) (replies : List ℕ) : Type 0 where
 
 -- What a code says of the session. One that found no memory had not begun, or quit, or was answered so.
 abbrev pub Session : ExitCode → List ℕ → List Entry → List ℕ → Type 0
-Session code.Done script history replies = Ran script (Mine history the_session) None replies
+Session code.Done script history replies = RanToEnd script (Mine history the_session) replies
 Session code.SinkFault script history replies = Quit script (Mine history the_session) replies
 Session code.NoMemory script history replies =
-    NoSession history replies ⊎ (Quit script (Mine history the_session) replies ⊎ Ran script (Mine history the_session) None replies)
+    NoSession history replies ⊎ (Quit script (Mine history the_session) replies ⊎ RanOut script (Mine history the_session) replies)
 Session c script history replies = NoSession history replies
 
--- The report has the replies and the last line: whole where no write failed, and else a part of them.
-pub record Reported (faults : ℕ) (held text : List ℕ) : Type 0 where
-  pub whole : faults ≡ 0 → held ≡ text
-  pub part : IsPrefix held text
+-- The report has the replies, and behind them the last line: whole where no write failed, and else a part of it.
+pub record Reported (faults : ℕ) (held replies line : List ℕ) : Type 0 where
+  pub added : List ℕ
+  pub held_is : held ≡ replies ++ added
+  pub part : IsPrefix added line
+  pub whole : faults ≡ 0 → added ≡ line
 
 -- What a run has come to before its last line, by the bytes that the host tells of the script: the code, the history,
 -- and what the report then holds.
-pub record Tried (told : Option (List ℕ)) (c : ExitCode) (history : List Entry) (held : Option (List ℕ)) : Type 0 where
+pub record Tried (source : Option (List ℕ)) (c : ExitCode) (history : List Entry) (held : Option (List ℕ)) : Type 0 where
   pub script : List ℕ
-  pub is_told : IfSome told (λ bytes. script ≡ bytes)
+  pub is_script : IfSome source (λ bytes. script ≡ bytes)
   pub replies : List ℕ
   pub session : Session c script history replies
   pub holds : IfSome held (λ bytes. bytes ≡ replies)
 
 -- What `serve` does: the same, with the last line.
-pub record Served (words : List (List ℕ)) (told : Option (List ℕ)) (c : ExitCode) (history : List Entry) (faults : ℕ) (held : Option (List ℕ)) : Type 0 where
+pub record Served (words : List (List ℕ)) (source : Option (List ℕ)) (c : ExitCode) (history : List Entry) (faults : ℕ) (held : Option (List ℕ)) : Type 0 where
   pub script : List ℕ
-  pub is_told : IfSome told (λ bytes. script ≡ bytes)
+  pub is_script : IfSome source (λ bytes. script ≡ bytes)
   pub replies : List ℕ
   pub session : Session c script history replies
-  pub report : IfSome held (λ bytes. Reported faults bytes (replies ++ last_line c words))
+  pub report : IfSome held (λ bytes. Reported faults bytes replies (last_line c words))
 
 -- the codes that a script of too many bytes may have
 abbrev pub StopsTooLong : ExitCode → Type 0

@@ -23,7 +23,7 @@ use Rattle.ebr_server.specs.Forms.{Effect, MakesProcedure, MakesEdition, MakesNo
 pub record State : Type 0 where
   pub asks : List Ask
   pub printed : List ℕ
-  pub given : List Answer
+  pub coming : List Answer
   pub quit : Option ℕ
 
 -- Waiting: an ask is out that was given no answer.
@@ -60,11 +60,11 @@ with_ask a σ = record σ { asks = σ.asks ++ a ∷ [] }
 
 abbrev pub next_answer : List Answer → State → (Answer → Step) → Outcome
 next_answer [] σ k = ended σ Waiting
-next_answer (x ∷ given) σ k = k x (record σ { given = given; quit = one_less σ.quit })
+next_answer (x ∷ coming) σ k = k x (record σ { coming = coming; quit = one_less σ.quit })
 
 -- The answer to Leave ends the session.
 abbrev pub leaving : Step
-leaving σ = next_answer σ.given (with_ask Leave σ) (λ x σ'. ended σ' Ended)
+leaving σ = next_answer σ.coming (with_ask Leave σ) (λ x σ'. ended σ' Ended)
 
 -- Want of memory and what comes after it end the session, and nothing more is printed.
 abbrev pub on_answer : Answer → (Answer → Step) → Step
@@ -74,7 +74,7 @@ on_answer x k σ = k x σ
 
 abbrev pub asked_unless : Option ℕ → Ask → (Answer → Step) → Step
 asked_unless (Some zero) a k σ = leaving σ
-asked_unless q a k σ = next_answer σ.given (with_ask a σ) (λ x. on_answer x k)
+asked_unless q a k σ = next_answer σ.coming (with_ask a σ) (λ x. on_answer x k)
 
 -- An ask, and what is done with its answer; a session that quits asks Leave in its place.
 abbrev pub asked : Ask → (Answer → Step) → Step
@@ -103,10 +103,10 @@ abbrev pub run_call : Option Procedure → Step
 run_call None σ = asked (EndCall true) (printing_result (code_text (Ora 6550))) σ
 run_call (Some p) σ = then_run (printing (line_of p.line) σ) (asked (EndCall false) (printing_result (codes "OK")))
 
-abbrev pub begun : List ℕ → Answer → Step
-begun name (View procedures) = run_call (look_up name procedures)
-begun name (Refused code steps lines) = printing (line_of (code_text code))
-begun name x = printing []
+abbrev pub call_after : List ℕ → Answer → Step
+call_after name (View procedures) = run_call (look_up name procedures)
+call_after name (Refused code steps lines) = printing (line_of (code_text code))
+call_after name x = printing []
 
 -- The code of a statement that isn't run yet. Nothing is asked.
 abbrev pub not_run : Step
@@ -121,7 +121,7 @@ run_definition MakesNothing what text = not_run
 -- a block, by the name that it calls
 abbrev pub run_block : Option (List ℕ) → Step
 run_block None = not_run
-run_block (Some name) = asked Begin (begun name)
+run_block (Some name) = asked Begin (call_after name)
 
 -- what a statement asks and prints, where its piece has this text
 abbrev pub run_statement : Statement → List ℕ → Step
@@ -141,12 +141,12 @@ run_pieces script [] σ = leaving σ
 run_pieces script (p ∷ pieces) σ = then_run (run_piece p.what (text_of script p) σ) (run_pieces script pieces)
 
 abbrev pub beginning : List Answer → Option ℕ → State
-beginning given quit = record { asks = []; printed = []; given = given; quit = quit }
+beginning coming quit = record { asks = []; printed = []; coming = coming; quit = quit }
 
 -- The run of a script with the answers that it is given; with `quit` the session quits after so many of them.
 abbrev pub SessionRun : List ℕ → List Answer → Option ℕ → Outcome
-SessionRun script given quit = run_pieces script (pieces_of script) (beginning given quit)
+SessionRun script answers quit = run_pieces script (pieces_of script) (beginning answers quit)
 
 -- what a script prints against the answers that it is given
 abbrev pub Printed : List ℕ → List Answer → List ℕ
-Printed script given = (SessionRun script given None).state.printed
+Printed script answers = (SessionRun script answers None).state.printed

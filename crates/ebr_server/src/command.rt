@@ -3,9 +3,9 @@
 ghost use Rattle.std.specs.Prelude.{◌≡◌, ◌≢◌, ◌<◌, ◌≤◌, ◌↔◌, ◌⊎◌, ℕ, [], length, Some, None, IfSome, IfNone, IsSomeAnd, option_and_then};
 ghost use Rattle.std.specs.Option.{option_copied};
 ghost use Rattle.ebr_outside.specs.Faults.{Rises};
-ghost use Rattle.ebr_server.specs.Engine.{start};
+ghost use Rattle.ebr_server.specs.Machine.{start};
 ghost use Rattle.ebr_server.specs.History.{Legal};
-ghost use Rattle.ebr_server.specs.Program.{script_word, told_bytes, Tried, Served, StopsTooLong, IsComplete, HasRun};
+ghost use Rattle.ebr_server.specs.Program.{script_word, script_bytes, Tried, Served, StopsTooLong, IsComplete, HasRun};
 
 use crate::ask::Entry;
 use crate::engine::Engine;
@@ -95,7 +95,7 @@ fn run_words<H: Host>(
     report: H::Report,
 ) -> Outcome<H::Source, H::Report>
     requires empty { IfSome (H.Report.held report) (λ bytes. bytes ≡ []) }
-    ensures tried { Tried (told_bytes (H.bytes host.old) words.now) result.code result.history (H.Report.held result.report) }
+    ensures tried { Tried (script_bytes (H.bytes host.old) words.now) result.code result.history (H.Report.held result.report) }
     ensures legal { Legal start result.history }
     ensures usage { (result.code ≡ ExitCode.Usage) ↔ (script_word words.now ≡ None) }
     ensures host_fault { (w : ℕ) → result.code ≡ ExitCode.HostFault w
@@ -104,8 +104,8 @@ fn run_words<H: Host>(
     ensures sink_fault { result.code ≡ ExitCode.SinkFault → Rises (H.Report.faults report) (H.Report.faults result.report) }
     ensures counted { H.Report.faults report ≤ H.Report.faults result.report }
     ensures too_long { (w : ℕ) → result.code ≡ ExitCode.TooLong w
-        → (w ≡ 1) × IfSome (told_bytes (H.bytes host.old) words.now) (λ bytes. MAX_SCRIPT < length bytes) }
-    ensures stops { IfSome (told_bytes (H.bytes host.old) words.now) (λ bytes. MAX_SCRIPT < length bytes → StopsTooLong result.code) }
+        → (w ≡ 1) × IfSome (script_bytes (H.bytes host.old) words.now) (λ bytes. MAX_SCRIPT < length bytes) }
+    ensures stops { IfSome (script_bytes (H.bytes host.old) words.now) (λ bytes. MAX_SCRIPT < length bytes → StopsTooLong result.code) }
 {
     let Some(word) = script_word(words) else {
         return stopped(alloc, ExitCode::Usage, None, report);
@@ -136,7 +136,7 @@ fn run_words<H: Host>(
 /// Of two faults the earlier one has the code. The report ends with the code's last line, unless a write failed before.
 pub fn serve<H: Host>(alloc: Global, words: &[Bytes], host: &mut H) -> Outcome<H::Source, H::Report>
     // What the report holds, and that the history's asks are just those of the script, in order.
-    ensures served { Served words.now (told_bytes (H.bytes host.old) words.now) result.code result.history
+    ensures served { Served words.now (script_bytes (H.bytes host.old) words.now) result.code result.history
         (H.Report.faults result.report) (H.Report.held result.report) }
 
     // Each answer of the history is the machine's, in the database that the entries before it leave.
@@ -149,11 +149,11 @@ pub fn serve<H: Host>(alloc: Global, words: &[Bytes], host: &mut H) -> Outcome<H
     ensures source { IfSome result.source (λ s. (result.code ≡ ExitCode.HostFault 1) × (0 < H.Source.faults s)) }
     ensures sink_fault { result.code ≡ ExitCode.SinkFault → 0 < H.Report.faults result.report }
     ensures too_long { (w : ℕ) → result.code ≡ ExitCode.TooLong w
-        → (w ≡ 1) × IfSome (told_bytes (H.bytes host.old) words.now) (λ bytes. MAX_SCRIPT < length bytes) }
-    ensures stops { IfSome (told_bytes (H.bytes host.old) words.now) (λ bytes. MAX_SCRIPT < length bytes → StopsTooLong result.code) }
+        → (w ≡ 1) × IfSome (script_bytes (H.bytes host.old) words.now) (λ bytes. MAX_SCRIPT < length bytes) }
+    ensures stops { IfSome (script_bytes (H.bytes host.old) words.now) (λ bytes. MAX_SCRIPT < length bytes → StopsTooLong result.code) }
 
     // Where the words are right, the script isn't too long and no count rises, the script is run.
-    ensures complete { IfSome (told_bytes (H.bytes host.old) words.now) (λ bytes. length bytes ≤ MAX_SCRIPT
+    ensures complete { IfSome (script_bytes (H.bytes host.old) words.now) (λ bytes. length bytes ≤ MAX_SCRIPT
         → ¬ Rises (H.faults host.old) (H.faults host.new) → IfSome result.source (λ s. ¬ (0 < H.Source.faults s))
         → ¬ (0 < H.Report.faults result.report) → IsComplete result.code) }
 {

@@ -2,9 +2,9 @@
 
 ghost use Rattle.std.specs.Prelude.{◌≡◌, ◌≢◌, ◌<◌, ◌≤◌, ◌+◌, [], ◌∷◌, ◌++◌, IfOk, OnOk, OnErr, IsOk, codes, vec_len, vec_capacity, length, List as Sequence};
 ghost use Rattle.ebr_server.specs.Sessions.{look_up};
-ghost use Rattle.ebr_server.specs.Procedures.{number_of};
+ghost use Rattle.ebr_server.specs.inside.Procedures.{number_of};
 ghost use Rattle.ebr_server.specs.Forms as spec;
-ghost use Rattle.ebr_server.specs.Engine.{answer_in, editions_after, answer_to_definition, editions_after_definition, answer_to_create, editions_after_create, answer_to_create_edition, editions_after_create_edition, answer_to_set_edition, editions_after_set_edition, with_procedure};
+ghost use Rattle.ebr_server.specs.inside.Engine.{answer_in, editions_after, answer_to_definition, editions_after_definition, answer_to_create, editions_after_create, answer_to_create_edition, editions_after_create_edition, answer_to_set_edition, editions_after_set_edition, with_procedure};
 ghost use Rattle.ebr_server.specs.declared.ask.Answer.TheVariants.{Refused};
 ghost use Rattle.ebr_server.specs.declared.ask.Ask.TheVariants.{Leave};
 
@@ -43,7 +43,7 @@ pub struct Engine {
 }
 
 impl Engine {
-    ghost use Rattle.ebr_server.specs.Engine.{IsOpen, Answers, IsSpelled, entries, entry_of};
+    ghost use Rattle.ebr_server.specs.inside.Engine.{IsOpen, Answers, IsSpelled, entries, entry_of};
 
     /// An engine with an empty database, whose session is live.
     pub fn start(alloc: Global) -> Result<Engine, NoMemory>

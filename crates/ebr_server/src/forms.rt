@@ -2,11 +2,12 @@
 
 ghost use Rattle.std.specs.Prelude.{◌≡◌};
 ghost use Rattle.std.specs.Option.{option_copied};
+ghost use Rattle.ebr_ast.specs.declared.expression.Expr.{out-Expr};
 ghost use Rattle.ebr_server.specs.Forms as spec;
-ghost use Rattle.ebr_server.specs.Effects.{effect};
+ghost use Rattle.ebr_server.specs.inside.Effects.{effect};
 
 use ebr_ast::{Block, Decl, Definition, Expr, Handler, Stmt, Subprogram, UnitTree};
-use ebr_base::{Bytes, Name};
+use ebr_base::{Bytes, Name, Shared};
 
 /// What a definition makes.
 #[derive(Drop)]
@@ -32,7 +33,7 @@ pub fn effect_of(what: &Definition) -> Effect<'_>
         Definition::CreateObject {
             replace,
             unit: UnitTree::Subprogram(unit),
-        } => procedure(*replace, unit),
+        } => procedure(*replace, unit.get()),
         _ => Effect::Nothing,
     }
 }
@@ -73,7 +74,16 @@ fn printed_line(block: &Block) -> Option<&Bytes>
     ensures { option_copied result ≡ spec.printed_line block.now }
 {
     match only_statement(block) {
-        Some(Stmt::PutLine(Expr::Text(line))) => Some(line),
+        Some(Stmt::PutLine(text)) => text_in(text.get()),
+        _ => None,
+    }
+}
+
+fn text_in(expression: &Expr) -> Option<&Bytes>
+    ensures { option_copied result ≡ spec.text_in (out-Expr expression.now) }
+{
+    match expression {
+        Expr::Text(content) => Some(content),
         _ => None,
     }
 }
@@ -82,22 +92,22 @@ fn printed_line(block: &Block) -> Option<&Bytes>
 fn only_statement(block: &Block) -> Option<&Stmt>
     ensures { option_copied result ≡ spec.only_statement block.now }
 {
-    alone(
+    single(
         block.declarations.as_slice(),
         block.statements.as_slice(),
         block.handlers.as_slice(),
     )
 }
 
-fn alone<'a>(
+fn single<'a>(
     declarations: &[Decl],
-    statements: &'a [Stmt],
+    statements: &'a [Shared<Stmt>],
     handlers: &[Handler],
 ) -> Option<&'a Stmt>
-    ensures { option_copied result ≡ spec.alone declarations.now statements.now handlers.now }
+    ensures { option_copied result ≡ spec.single declarations.now statements.now handlers.now }
 {
     match (declarations, statements, handlers) {
-        ([], [statement], []) => Some(statement),
+        ([], [statement], []) => Some(statement.get()),
         _ => None,
     }
 }

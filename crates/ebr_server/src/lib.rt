@@ -16,6 +16,3 @@ pub use ask::{Answer, Ask, Entry, Exchange, Procedure, Procedures};
 pub use command::{Outcome, serve};
 pub use exit::ExitCode;
 pub use read::MAX_SCRIPT;
-
-#[cfg(test)]
-mod tests;

@@ -5,7 +5,7 @@ ghost use Rattle.std.specs.Option.{option_copied};
 ghost use Rattle.std.specs.List.{position};
 ghost use Rattle.std.specs.Str.{bytes_eq};
 ghost use Rattle.ebr_server.specs.Sessions.{look_up};
-ghost use Rattle.ebr_server.specs.Procedures.{put, before, has_name, number_of, put_all, seen_in};
+ghost use Rattle.ebr_server.specs.inside.Procedures.{put, before, has_name, number_of, put_all, seen_in};
 
 use crate::ask::{Procedure, Procedures};
 use ebr_base::{CloneIn, List, Name, NoMemory, Shared};

@@ -2,7 +2,7 @@
 
 ghost use Rattle.std.specs.Prelude.{◌≡◌, ◌+◌, ◌<◌, ◌≤◌, ◌++◌, length, take, IfOk, IfSome, OnOk};
 ghost use Rattle.ebr_outside.specs.Faults.{Rises};
-ghost use Rattle.ebr_server.specs.Reading.{Reads};
+ghost use Rattle.ebr_server.specs.inside.Reading.{Reads};
 
 use ebr_base::{Bytes, NoMemory};
 use ebr_outside::{Failed, Source};

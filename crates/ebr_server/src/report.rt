@@ -1,29 +1,28 @@
 //! The last line of the report.
 
-ghost use Rattle.std.specs.Prelude.{◌≡◌, ◌≢◌, ◌++◌, ◌≤◌};
+ghost use Rattle.std.specs.Prelude.{◌≡◌, ◌++◌, ◌≤◌};
 ghost use Rattle.std.specs.Bool.{OnTrue, OnFalse};
 ghost use Rattle.ebr_outside.specs.Faults.{Rises};
 ghost use Rattle.ebr_outside.specs.Sink.{appended};
 ghost use Rattle.ebr_server.specs.Sessions.{line_of};
 ghost use Rattle.ebr_server.specs.Program.{last_line, word_at};
-ghost use Rattle.ebr_server.specs.Report.{AddsPart};
+ghost use Rattle.ebr_server.specs.inside.Report.{AddsPart};
 
 use crate::exit::ExitCode;
 use crate::offer::offer;
 use ebr_base::Bytes;
 use ebr_outside::Sink;
 
-/// Writes the line that the report ends with, and says whether all of it was taken. `Done` has no line, and after a
-/// sink's fault nothing more is written.
+/// Writes the line that the report ends with, and says whether all of it was taken. `Done` has no line, and behind a write
+/// that failed nothing is written.
 pub fn write_last_line<S: Sink>(sink: &mut S, code: ExitCode, words: &[Bytes]) -> bool
     ensures part { AddsPart (S.held sink.old) (S.held sink.new) (last_line code words.now) }
     ensures whole { OnTrue result (S.held sink.new ≡ appended (S.held sink.old) (last_line code words.now)) }
     ensures counted { S.faults sink.old ≤ S.faults sink.new }
-    ensures failed { OnFalse result (code ≢ ExitCode.SinkFault → Rises (S.faults sink.old) (S.faults sink.new)) }
+    ensures failed { OnFalse result (Rises (S.faults sink.old) (S.faults sink.new)) }
 {
     match code {
-        ExitCode::Done => true,
-        ExitCode::SinkFault => false,
+        ExitCode::Done | ExitCode::SinkFault => true,
         ExitCode::Usage => write_line(sink, b"usage", b""),
         ExitCode::HostFault { word } => write_line(sink, b"host fault: ", word_at(words, word)),
         ExitCode::NoMemory => write_line(sink, b"out of memory", b""),

@@ -1,15 +1,17 @@
 //! A session at work: it runs the pieces of its script, asks the engine, and gives its sink what it prints.
 
-ghost use Rattle.std.specs.Prelude.{◌≡◌, ◌≢◌, [], ◌∷◌, ◌++◌, ◌≤◌, ◌<◌, length, codes, All, OnOk, OnErr, IfErr, List as Sequence};
+ghost use Rattle.std.specs.Prelude.{◌≡◌, ◌≢◌, [], ◌∷◌, ◌<◌, ◌≤◌, length, codes, All, OnOk, OnErr, IfErr, IfSome};
 ghost use Rattle.ebr_outside.specs.Faults.{Rises};
 ghost use Rattle.ebr_base.specs.Code.{code_text};
-ghost use Rattle.ebr_server.specs.Sessions.{line_of, result_line, asked, begun, printing_result, run_block, run_definition, run_piece, run_pieces};
 ghost use Rattle.ebr_script.specs.Pieces.{LiesWithin, KeepsText, text_of};
-ghost use Rattle.ebr_server.specs.Forms as spec;
-ghost use Rattle.ebr_server.specs.Program.{IsPrefix};
-ghost use Rattle.ebr_server.specs.Worker.{Wrote, Asks, BeginsAs, Does, Leaves, Stands, RanPieces, RanSession};
-ghost use Rattle.ebr_server.specs.Engine.{IsOpen, IsSpelled, entries, start};
+ghost use Rattle.ebr_server.specs.Machine.{start};
 ghost use Rattle.ebr_server.specs.History.{Legal};
+ghost use Rattle.ebr_server.specs.Sessions.{line_of, result_line, asked, call_after, printing_result, run_block, run_definition, run_piece, run_pieces};
+ghost use Rattle.ebr_server.specs.Forms as spec;
+ghost use Rattle.ebr_server.specs.Program.{Session, HasRun};
+ghost use Rattle.ebr_server.specs.inside.Output.{WritesOn, Prints};
+ghost use Rattle.ebr_server.specs.inside.Worker.{Asks, PlansAs, Does, RunsOn, RanPieces};
+ghost use Rattle.ebr_server.specs.inside.Engine.{IsOpen, IsSpelled, entries};
 
 use crate::ask::{Answer, Ask};
 use crate::engine::Engine;
@@ -22,6 +24,7 @@ use ebr_base::{Bytes, CloneIn, Code, Name, NoMemory};
 use ebr_outside::Sink;
 use ebr_script::{Piece, PieceKind, text_of};
 use std::alloc::Global;
+use std::marker::Model;
 
 /// Why a session stops before its script's end.
 #[derive(Clone, Copy, Debug, PartialEq, Eq)]
@@ -45,7 +48,7 @@ impl From<NoMemory> for Halt {
 }
 
 /// What the answer to Begin makes of a call.
-enum Begun<'a> {
+enum CallPlan<'a> {
     /// The procedure isn't visible.
     Missing,
     /// It prints this line.
@@ -56,18 +59,28 @@ enum Begun<'a> {
 
 /// What a session has printed, how much of it is written, and the sink that it is written to.
 #[derive(Drop)]
-pub struct Worker<S> {
-    pub printed: Bytes,
-    pub written: usize,
-    pub sink: S,
+pub struct Worker<S: Sink> {
+    printed: Bytes,
+    written: usize,
+    sink: S,
+}
+
+impl<S: Sink> Model for Worker<S> {
+    ghost use Rattle.std.specs.Prelude.{◌≡◌, ◌≤◌, length, take, drop, IfSome};
+    ghost use Rattle.ebr_server.specs.inside.Output.{Output};
+
+    ghost Value = { Output };
+
+    ghost view = { λ w. record { written = take w.written w.printed; pending = drop w.written w.printed; held = S.held w.sink; faults = S.faults w.sink } };
+
+    ghost invariant = { λ w. (w.written ≤ length w.printed) × IfSome (S.held w.sink) (λ bytes. bytes ≡ take w.written w.printed) };
 }
 
 impl<S: Sink> Worker<S> {
     /// A session that has printed nothing, with its sink.
     pub fn new(alloc: Global, sink: S) -> Worker<S>
-        ensures printed { result.printed ≡ [] }
-        ensures written { result.written ≡ 0 }
-        ensures sink { result.sink ≡ sink }
+        requires empty { IfSome (S.held sink) (λ bytes. bytes ≡ []) }
+        ensures { result ≡ record { written = []; pending = []; held = S.held sink; faults = S.faults sink } }
     {
         Worker {
             printed: Bytes::new(alloc),
@@ -78,20 +91,18 @@ impl<S: Sink> Worker<S> {
 
     /// The sink.
     pub fn into_sink(self) -> S
-        ensures { result ≡ self.sink }
+        ensures held { IfSome (S.held result) (λ bytes. bytes ≡ self.written) }
+        ensures faults { S.faults result ≡ self.faults }
     {
         let Worker { sink, .. } = self;
         sink
     }
 
     /// Writes what was printed and isn't written yet.
-    pub fn flush(&mut self) -> Result<(), Halt>
-        requires { Wrote (S.held self.old.sink) self.old.written self.old.printed }
-        ensures wrote { Wrote (S.held self.new.sink) self.new.written self.new.printed }
-        ensures printed { self.new.printed ≡ self.old.printed }
-        ensures whole { OnOk result (self.new.written ≡ length self.new.printed) }
-        ensures counted { S.faults self.old.sink ≤ S.faults self.new.sink }
-        ensures failed { OnErr result (Rises (S.faults self.old.sink) (S.faults self.new.sink)) }
+    fn flush(&mut self) -> Result<(), Halt>
+        ensures writes { WritesOn self.old self.new }
+        ensures whole { OnOk result (self.new.pending ≡ []) }
+        ensures failed { OnErr result (Rises self.old.faults self.new.faults) }
         ensures halt { IfErr result (λ h. h ≡ Halt.SinkFault) }
     {
         self.written = offer(&mut self.sink, self.printed.as_slice(), self.written);
@@ -105,13 +116,7 @@ impl<S: Sink> Worker<S> {
     fn ask(&mut self, engine: &mut Engine, ask: Ask) -> Result<(), Halt>
         requires open { IsOpen engine.old }
         requires spelled { IsSpelled ask }
-        requires wrote { Wrote (S.held self.old.sink) self.old.written self.old.printed }
-        ensures wrote { Wrote (S.held self.new.sink) self.new.written self.new.printed }
-        ensures printed { self.new.printed ≡ self.old.printed }
-        ensures counted { S.faults self.old.sink ≤ S.faults self.new.sink }
-        ensures asks { Asks result engine.old engine.new ask }
-        ensures failed { result ≡ Err Halt.SinkFault → Rises (S.faults self.old.sink) (S.faults self.new.sink) }
-        ensures flushed { result ≡ Err Halt.Answered → self.new.written ≡ length self.new.printed }
+        ensures { Asks result ask engine.old self.old engine.new self.new }
     {
         self.flush()?;
         engine.answer(ask);
@@ -123,12 +128,7 @@ impl<S: Sink> Worker<S> {
 
     /// Prints a line.
     fn print_line(&mut self, text: &[u8]) -> Result<(), Halt>
-        ensures ok { OnOk result (self.new.printed ≡ self.old.printed ++ line_of text.now) }
-        ensures err { OnErr result (IsPrefix self.new.printed (self.old.printed ++ line_of text.now)) }
-        ensures grows { IsPrefix self.old.printed self.new.printed }
-        ensures written { self.new.written ≡ self.old.written }
-        ensures sink { self.new.sink ≡ self.old.sink }
-        ensures halt { IfErr result (λ h. h ≡ Halt.NoMemory) }
+        ensures { Prints result (line_of text.now) self.old self.new }
     {
         self.printed.extend(text)?;
         self.printed.push(b'\n')?;
@@ -137,12 +137,7 @@ impl<S: Sink> Worker<S> {
 
     /// Prints the line of a code.
     fn print_code(&mut self, code: Code) -> Result<(), Halt>
-        ensures ok { OnOk result (self.new.printed ≡ self.old.printed ++ line_of (code_text code)) }
-        ensures err { OnErr result (IsPrefix self.new.printed (self.old.printed ++ line_of (code_text code))) }
-        ensures grows { IsPrefix self.old.printed self.new.printed }
-        ensures written { self.new.written ≡ self.old.written }
-        ensures sink { self.new.sink ≡ self.old.sink }
-        ensures halt { IfErr result (λ h. h ≡ Halt.NoMemory) }
+        ensures { Prints result (line_of (code_text code)) self.old self.new }
     {
         code.append_to(&mut self.printed)?;
         self.printed.push(b'\n')?;
@@ -151,12 +146,7 @@ impl<S: Sink> Worker<S> {
 
     /// Prints the line that tells how a request ended: the text where it is done.
     fn print_result(&mut self, answer: &Answer, text: &[u8]) -> Result<(), Halt>
-        ensures ok { OnOk result (self.new.printed ≡ self.old.printed ++ result_line text.now answer.now) }
-        ensures err { OnErr result (IsPrefix self.new.printed (self.old.printed ++ result_line text.now answer.now)) }
-        ensures grows { IsPrefix self.old.printed self.new.printed }
-        ensures written { self.new.written ≡ self.old.written }
-        ensures sink { self.new.sink ≡ self.old.sink }
-        ensures halt { IfErr result (λ h. h ≡ Halt.NoMemory) }
+        ensures { Prints result (result_line text.now answer.now) self.old self.new }
     {
         match answer {
             Answer::Done => self.print_line(text),
@@ -168,15 +158,9 @@ impl<S: Sink> Worker<S> {
     /// Asks, and prints how the request ended: the text where it is done.
     fn request(&mut self, engine: &mut Engine, ask: Ask, text: &[u8]) -> Result<(), Halt>
         requires open { IsOpen engine.old }
-        requires going { ask ≢ Ask.Leave }
+        requires stays { ask ≢ Ask.Leave }
         requires spelled { IsSpelled ask }
-        requires wrote { Wrote (S.held self.old.sink) self.old.written self.old.printed }
-        ensures wrote { Wrote (S.held self.new.sink) self.new.written self.new.printed }
-        ensures does { Does result (asked ask (printing_result text.now)) (entries engine.old) self.old.printed (entries engine.new) self.new.printed }
-        ensures leaves { Leaves result engine.new }
-        ensures counted { S.faults self.old.sink ≤ S.faults self.new.sink }
-        ensures failed { result ≡ Err Halt.SinkFault → Rises (S.faults self.old.sink) (S.faults self.new.sink) }
-        ensures flushed { result ≡ Err Halt.Answered → self.new.written ≡ length self.new.printed }
+        ensures { Does result (asked ask (printing_result text.now)) engine.old self.old engine.new self.new }
     {
         self.ask(engine, ask)?;
         self.print_result(engine.last(), text)
@@ -195,13 +179,7 @@ impl<S: Sink> Worker<S> {
         requires within { LiesWithin script.now piece.now }
         requires small { length script.now < 4294967295 }
         requires spelled { IsSpelled (Ask.Ddl what.now (text_of script.now piece.now)) }
-        requires wrote { Wrote (S.held self.old.sink) self.old.written self.old.printed }
-        ensures wrote { Wrote (S.held self.new.sink) self.new.written self.new.printed }
-        ensures does { Does result (asked (Ask.Ddl what.now (text_of script.now piece.now)) (printing_result (codes "OK"))) (entries engine.old) self.old.printed (entries engine.new) self.new.printed }
-        ensures leaves { Leaves result engine.new }
-        ensures counted { S.faults self.old.sink ≤ S.faults self.new.sink }
-        ensures failed { result ≡ Err Halt.SinkFault → Rises (S.faults self.old.sink) (S.faults self.new.sink) }
-        ensures flushed { result ≡ Err Halt.Answered → self.new.written ≡ length self.new.printed }
+        ensures { Does result (asked (Ask.Ddl what.now (text_of script.now piece.now)) (printing_result (codes "OK"))) engine.old self.old engine.new self.new }
     {
         let text = Bytes::from_slice(alloc, text_of(alloc, script, piece)?)?;
         let what = what.clone_in(alloc)?;
@@ -217,13 +195,7 @@ impl<S: Sink> Worker<S> {
     ) -> Result<(), Halt>
         requires open { IsOpen engine.old }
         requires spelled { IsSpelled (Ask.Ddl what.now []) }
-        requires wrote { Wrote (S.held self.old.sink) self.old.written self.old.printed }
-        ensures wrote { Wrote (S.held self.new.sink) self.new.written self.new.printed }
-        ensures does { Does result (asked (Ask.Ddl what.now []) (printing_result (codes "OK"))) (entries engine.old) self.old.printed (entries engine.new) self.new.printed }
-        ensures leaves { Leaves result engine.new }
-        ensures counted { S.faults self.old.sink ≤ S.faults self.new.sink }
-        ensures failed { result ≡ Err Halt.SinkFault → Rises (S.faults self.old.sink) (S.faults self.new.sink) }
-        ensures flushed { result ≡ Err Halt.Answered → self.new.written ≡ length self.new.printed }
+        ensures { Does result (asked (Ask.Ddl what.now []) (printing_result (codes "OK"))) engine.old self.old engine.new self.new }
     {
         let text = Bytes::new(alloc);
         let what = what.clone_in(alloc)?;
@@ -243,13 +215,7 @@ impl<S: Sink> Worker<S> {
         requires within { LiesWithin script.now piece.now }
         requires small { length script.now < 4294967295 }
         requires spelled { IsSpelled (Ask.Ddl what.now (text_of script.now piece.now)) }
-        requires wrote { Wrote (S.held self.old.sink) self.old.written self.old.printed }
-        ensures wrote { Wrote (S.held self.new.sink) self.new.written self.new.printed }
-        ensures does { Does result (run_definition (spec.effect_of what.now) what.now (text_of script.now piece.now)) (entries engine.old) self.old.printed (entries engine.new) self.new.printed }
-        ensures leaves { Leaves result engine.new }
-        ensures counted { S.faults self.old.sink ≤ S.faults self.new.sink }
-        ensures failed { result ≡ Err Halt.SinkFault → Rises (S.faults self.old.sink) (S.faults self.new.sink) }
-        ensures flushed { result ≡ Err Halt.Answered → self.new.written ≡ length self.new.printed }
+        ensures { Does result (run_definition (spec.effect_of what.now) what.now (text_of script.now piece.now)) engine.old self.old engine.new self.new }
     {
         match effect_of(what) {
             Effect::Procedure { .. } => self.create(alloc, engine, script, piece, what),
@@ -261,13 +227,7 @@ impl<S: Sink> Worker<S> {
     /// Makes another edition the session's.
     fn set_edition(&mut self, alloc: Global, engine: &mut Engine, name: &Name) -> Result<(), Halt>
         requires open { IsOpen engine.old }
-        requires wrote { Wrote (S.held self.old.sink) self.old.written self.old.printed }
-        ensures wrote { Wrote (S.held self.new.sink) self.new.written self.new.printed }
-        ensures does { Does result (asked (Ask.SetEdition name.now) (printing_result (codes "OK"))) (entries engine.old) self.old.printed (entries engine.new) self.new.printed }
-        ensures leaves { Leaves result engine.new }
-        ensures counted { S.faults self.old.sink ≤ S.faults self.new.sink }
-        ensures failed { result ≡ Err Halt.SinkFault → Rises (S.faults self.old.sink) (S.faults self.new.sink) }
-        ensures flushed { result ≡ Err Halt.Answered → self.new.written ≡ length self.new.printed }
+        ensures { Does result (asked (Ask.SetEdition name.now) (printing_result (codes "OK"))) engine.old self.old engine.new self.new }
     {
         let name = name.clone_in(alloc)?;
         self.request(engine, Ask::SetEdition(name), b"OK")
@@ -276,36 +236,24 @@ impl<S: Sink> Worker<S> {
     /// Calls a procedure: the line that it prints, and how the call ended.
     fn call(&mut self, engine: &mut Engine, name: &Name) -> Result<(), Halt>
         requires open { IsOpen engine.old }
-        requires wrote { Wrote (S.held self.old.sink) self.old.written self.old.printed }
-        ensures wrote { Wrote (S.held self.new.sink) self.new.written self.new.printed }
-        ensures does { Does result (asked Ask.Begin (begun name.now)) (entries engine.old) self.old.printed (entries engine.new) self.new.printed }
-        ensures leaves { Leaves result engine.new }
-        ensures counted { S.faults self.old.sink ≤ S.faults self.new.sink }
-        ensures failed { result ≡ Err Halt.SinkFault → Rises (S.faults self.old.sink) (S.faults self.new.sink) }
-        ensures flushed { result ≡ Err Halt.Answered → self.new.written ≡ length self.new.printed }
+        ensures { Does result (asked Ask.Begin (call_after name.now)) engine.old self.old engine.new self.new }
     {
         self.ask(engine, Ask::Begin)?;
-        match read_begun(engine.last(), name) {
-            Begun::Missing => self.request(engine, Ask::EndCall { failed: true }, b"ORA-06550"),
-            Begun::Line(line) => {
+        match plan(engine.last(), name) {
+            CallPlan::Missing => self.request(engine, Ask::EndCall { failed: true }, b"ORA-06550"),
+            CallPlan::Line(line) => {
                 self.print_line(line)?;
                 self.request(engine, Ask::EndCall { failed: false }, b"OK")
             }
-            Begun::Refused(code) => self.print_code(code),
-            Begun::Nothing => Ok(()),
+            CallPlan::Refused(code) => self.print_code(code),
+            CallPlan::Nothing => Ok(()),
         }
     }
 
     /// Runs a block.
     fn block(&mut self, engine: &mut Engine, block: &Block) -> Result<(), Halt>
         requires open { IsOpen engine.old }
-        requires wrote { Wrote (S.held self.old.sink) self.old.written self.old.printed }
-        ensures wrote { Wrote (S.held self.new.sink) self.new.written self.new.printed }
-        ensures does { Does result (run_block (spec.called_name block.now)) (entries engine.old) self.old.printed (entries engine.new) self.new.printed }
-        ensures leaves { Leaves result engine.new }
-        ensures counted { S.faults self.old.sink ≤ S.faults self.new.sink }
-        ensures failed { result ≡ Err Halt.SinkFault → Rises (S.faults self.old.sink) (S.faults self.new.sink) }
-        ensures flushed { result ≡ Err Halt.Answered → self.new.written ≡ length self.new.printed }
+        ensures { Does result (run_block (spec.called_name block.now)) engine.old self.old engine.new self.new }
     {
         match called_name(block) {
             Some(name) => self.call(engine, name),
@@ -314,7 +262,7 @@ impl<S: Sink> Worker<S> {
     }
 
     /// Runs a piece of the script.
-    pub fn piece(
+    fn piece(
         &mut self,
         alloc: Global,
         engine: &mut Engine,
@@ -325,13 +273,7 @@ impl<S: Sink> Worker<S> {
         requires within { LiesWithin script.now piece.now }
         requires text { KeepsText script.now piece.now }
         requires small { length script.now < 4294967295 }
-        requires wrote { Wrote (S.held self.old.sink) self.old.written self.old.printed }
-        ensures wrote { Wrote (S.held self.new.sink) self.new.written self.new.printed }
-        ensures does { Does result (run_piece piece.now.what (text_of script.now piece.now)) (entries engine.old) self.old.printed (entries engine.new) self.new.printed }
-        ensures leaves { Leaves result engine.new }
-        ensures counted { S.faults self.old.sink ≤ S.faults self.new.sink }
-        ensures failed { result ≡ Err Halt.SinkFault → Rises (S.faults self.old.sink) (S.faults self.new.sink) }
-        ensures flushed { result ≡ Err Halt.Answered → self.new.written ≡ length self.new.printed }
+        ensures { Does result (run_piece piece.now.what (text_of script.now piece.now)) engine.old self.old engine.new self.new }
     {
         match &piece.what {
             PieceKind::Refused(code) => self.print_code(*code),
@@ -339,7 +281,7 @@ impl<S: Sink> Worker<S> {
             PieceKind::Tree(Statement::Definition(what)) => {
                 self.definition(alloc, engine, script, piece, what)
             }
-            PieceKind::Tree(Statement::Block(block)) => self.block(engine, block),
+            PieceKind::Tree(Statement::Block(block)) => self.block(engine, block.get()),
             PieceKind::Tree(Statement::Sql(_)) => self.print_code(Code::Ebr(1)),
             PieceKind::Tree(Statement::Transaction(_)) => self.print_code(Code::Ebr(1)),
         }
@@ -354,22 +296,36 @@ impl<S: Sink> Worker<S> {
         pieces: &[Piece],
     ) -> Result<(), Halt>
         requires open { IsOpen engine.old }
-        requires stands { Stands script.now (run_pieces script.now pieces.now) (entries engine.old) self.old.printed }
+        requires runs_on { RunsOn script.now (run_pieces script.now pieces.now) (entries engine.old) self.old }
         requires within { All (LiesWithin script.now) pieces.now }
         requires texts { All (KeepsText script.now) pieces.now }
         requires small { length script.now < 4294967295 }
-        requires wrote { Wrote (S.held self.old.sink) self.old.written self.old.printed }
-        ensures wrote { Wrote (S.held self.new.sink) self.new.written self.new.printed }
-        ensures ran { RanPieces result script.now (entries engine.new) self.new.printed }
-        ensures leaves { Leaves result engine.new }
-        ensures counted { S.faults self.old.sink ≤ S.faults self.new.sink }
-        ensures failed { result ≡ Err Halt.SinkFault → Rises (S.faults self.old.sink) (S.faults self.new.sink) }
-        ensures flushed { result ≡ Err Halt.Answered → self.new.written ≡ length self.new.printed }
+        ensures { RanPieces result script.now self.old.faults engine.new self.new }
     {
         for piece in pieces {
             self.piece(alloc, engine, script, piece)?;
         }
         Ok(())
+    }
+
+    /// Runs the pieces of a script, and writes what the last of them printed.
+    fn run_and_flush(
+        &mut self,
+        alloc: Global,
+        engine: &mut Engine,
+        script: &[u8],
+        pieces: &[Piece],
+    ) -> Result<(), Halt>
+        requires open { IsOpen engine.old }
+        requires runs_on { RunsOn script.now (run_pieces script.now pieces.now) (entries engine.old) self.old }
+        requires within { All (LiesWithin script.now) pieces.now }
+        requires texts { All (KeepsText script.now) pieces.now }
+        requires small { length script.now < 4294967295 }
+        ensures ran { RanPieces result script.now self.old.faults engine.new self.new }
+        ensures whole { OnOk result (self.new.pending ≡ []) }
+    {
+        self.pieces(alloc, engine, script, pieces)?;
+        self.flush()
     }
 
     /// Runs a script to its end, and leaves. A session that halts early leaves too, unless it has ended by its last
@@ -382,16 +338,15 @@ impl<S: Sink> Worker<S> {
         pieces: &[Piece],
     ) -> ExitCode
         requires open { IsOpen engine.old }
-        requires stands { Stands script.now (run_pieces script.now pieces.now) (entries engine.old) self.old.printed }
+        requires runs_on { RunsOn script.now (run_pieces script.now pieces.now) (entries engine.old) self.old }
         requires within { All (LiesWithin script.now) pieces.now }
         requires texts { All (KeepsText script.now) pieces.now }
         requires small { length script.now < 4294967295 }
-        requires wrote { Wrote (S.held self.old.sink) self.old.written self.old.printed }
-        ensures session { RanSession result script.now (entries engine.new) self.new.written self.new.printed }
-        ensures wrote { Wrote (S.held self.new.sink) self.new.written self.new.printed }
+        ensures session { Session result script.now (entries engine.new) self.new.written }
+        ensures code { HasRun result }
         ensures legal { Legal start (entries engine.new) }
-        ensures counted { S.faults self.old.sink ≤ S.faults self.new.sink }
-        ensures failed { result ≡ ExitCode.SinkFault → Rises (S.faults self.old.sink) (S.faults self.new.sink) }
+        ensures counted { self.old.faults ≤ self.new.faults }
+        ensures failed { result ≡ ExitCode.SinkFault → Rises self.old.faults self.new.faults }
     {
         match self.run_and_flush(alloc, engine, script, pieces) {
             Ok(()) => {
@@ -409,44 +364,18 @@ impl<S: Sink> Worker<S> {
             Err(Halt::Answered) => ExitCode::NoMemory,
         }
     }
-
-    /// Runs the pieces of a script, and writes what the last of them printed.
-    fn run_and_flush(
-        &mut self,
-        alloc: Global,
-        engine: &mut Engine,
-        script: &[u8],
-        pieces: &[Piece],
-    ) -> Result<(), Halt>
-        requires open { IsOpen engine.old }
-        requires stands { Stands script.now (run_pieces script.now pieces.now) (entries engine.old) self.old.printed }
-        requires within { All (LiesWithin script.now) pieces.now }
-        requires texts { All (KeepsText script.now) pieces.now }
-        requires small { length script.now < 4294967295 }
-        requires wrote { Wrote (S.held self.old.sink) self.old.written self.old.printed }
-        ensures wrote { Wrote (S.held self.new.sink) self.new.written self.new.printed }
-        ensures ran { RanPieces result script.now (entries engine.new) self.new.printed }
-        ensures leaves { Leaves result engine.new }
-        ensures counted { S.faults self.old.sink ≤ S.faults self.new.sink }
-        ensures failed { result ≡ Err Halt.SinkFault → Rises (S.faults self.old.sink) (S.faults self.new.sink) }
-        ensures whole { OnOk result (self.new.written ≡ length self.new.printed) }
-        ensures flushed { result ≡ Err Halt.Answered → self.new.written ≡ length self.new.printed }
-    {
-        self.pieces(alloc, engine, script, pieces)?;
-        self.flush()
-    }
 }
 
 /// What the answer to Begin makes of a call of this name.
-fn read_begun<'a>(answer: &'a Answer, name: &Name) -> Begun<'a>
-    ensures { BeginsAs result name.now answer.now }
+fn plan<'a>(answer: &'a Answer, name: &Name) -> CallPlan<'a>
+    ensures { PlansAs result name.now answer.now }
 {
     match answer {
         Answer::View(procedures) => match look_up(procedures.get().as_slice(), name) {
-            Some(procedure) => Begun::Line(procedure.line.as_slice()),
-            None => Begun::Missing,
+            Some(procedure) => CallPlan::Line(procedure.line.as_slice()),
+            None => CallPlan::Missing,
         },
-        Answer::Refused { code, .. } => Begun::Refused(*code),
-        _ => Begun::Nothing,
+        Answer::Refused { code, .. } => CallPlan::Refused(*code),
+        _ => CallPlan::Nothing,
     }
 }

@@ -1,6 +1,6 @@
 use Rattle.std.proofs.Common.{◌<◌, ◌≤◌, length, ap, refl, sym, ◌∙◌, arith}
 use Rattle.ebr_server.specs.Program.{StopsTooLong}
-use Rattle.ebr_server.proofs.Trying.{Tried-stopped, Tried-told, TooLong-word, stops_anyway, read_told, read_whole, read_long, read_short, told_of_word}
+use Rattle.ebr_server.proofs.Outcomes.{Tried-stopped, Tried-told, TooLong-word, stops_anyway, read_told, read_whole, read_long, read_short, told_of_word}
 use Rattle.ebr_server.proofs.command.run_words.Goals as goal
 
 pub returns-in-Err-Failed-clause-tried : goal.returns-in-Err-Failed-clause-tried

@@ -1,5 +1,5 @@
 use Rattle.std.proofs.Common.{arith}
-use Rattle.ebr_server.proofs.Trying.{Served-tried, complete, usage_none, told_same, fault_since}
+use Rattle.ebr_server.proofs.Outcomes.{Served-tried, complete, usage_none, told_same, fault_since}
 use Rattle.ebr_server.proofs.command.serve.Goals as goal
 
 pub returns-clause-served : goal.returns-clause-served
@@ -7,7 +7,7 @@ returns-clause-served g c =
     let ran = c.run_words-outcome.ensures in
     let line = c.write_last_line.ensures in
     let told = told_same (g.H.Host.bytes c.args.host.now) (g.H.Host.bytes c.report-report.new.self) c.args.words.now c.report-report.ensures.same in
-    rw (← told) (Served-tried _ _ _ _ _ _ _ _ _ ran.tried line.part line.whole line.failed (λ e. omega (arith, ran.sink_fault e)) line.counted)
+    rw (← told) (Served-tried _ _ _ _ _ _ _ _ _ ran.tried line.part line.whole line.failed)
 
 pub returns-clause-complete : goal.returns-clause-complete
 returns-clause-complete g c =

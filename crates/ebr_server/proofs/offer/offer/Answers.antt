@@ -1,5 +1,5 @@
 use Rattle.std.proofs.Common.{arith}
-use Rattle.ebr_server.proofs.Offering.{held_on}
+use Rattle.ebr_server.proofs.Additions.{held_on}
 use Rattle.ebr_server.proofs.offer.offer.Goals as goal
 
 pub loop-at-preserved : goal.loop-at-preserved

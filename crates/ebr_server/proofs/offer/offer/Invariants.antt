@@ -6,10 +6,10 @@ use Rattle.ebr_server.proofs.offer.offer.Given as goal
 abbrev pub invariant-loop-at : goal.invariant-loop-at
 invariant-loop-at g l = record {
   onward : l.from ≤ l.at;
-  within : l.at ≤ length l.piece;
-  held : g.S.Sink.held l.sink ≡ appended (g.S.Sink.held l.initial.sink) (take (l.at - l.from) (drop l.from l.piece));
+  within : l.at ≤ length l.bytes;
+  held : g.S.Sink.held l.sink ≡ appended (g.S.Sink.held l.initial.sink) (take (l.at - l.from) (drop l.from l.bytes));
   counted : g.S.Sink.faults l.initial.sink ≤ g.S.Sink.faults l.sink;
 }
 
 abbrev pub decreases-loop-at : goal.decreases-loop-at
-decreases-loop-at g l = length l.piece - l.at
+decreases-loop-at g l = length l.bytes - l.at

@@ -1,6 +1,6 @@
 use Rattle.std.proofs.Common.{◌≡◌, true, false, length, slice_get, sym, ◌∙◌}
-use Rattle.ebr_server.specs.Procedures.{before, has_name}
-use Rattle.ebr_server.proofs.Puts.{put-in_place}
+use Rattle.ebr_server.specs.inside.Procedures.{before, has_name}
+use Rattle.ebr_server.proofs.Placing.{put-in_place}
 use Rattle.ebr_server.proofs.procedures.put.Goals as goal
 
 pub returns-then-is_named-clause-ok : goal.returns-then-is_named-clause-ok

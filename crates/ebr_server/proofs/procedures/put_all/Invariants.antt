@@ -1,5 +1,5 @@
 use Rattle.std.proofs.Common.{◌≡◌, take}
-use Rattle.ebr_server.specs.Procedures.{put_all}
+use Rattle.ebr_server.specs.inside.Procedures.{put_all}
 use Rattle.ebr_server.proofs.procedures.put_all.Given as goal
 
 abbrev pub invariant-loop-definition : goal.invariant-loop-definition

@@ -1,5 +1,5 @@
 use Rattle.std.proofs.Common.{◌+◌, sym, ap, ◌∙◌}
-use Rattle.ebr_server.specs.Procedures.{put_all}
+use Rattle.ebr_server.specs.inside.Procedures.{put_all}
 use Rattle.ebr_server.proofs.Views.{seen_in-next}
 use Rattle.ebr_server.proofs.procedures.seen_in.Goals as goal
 

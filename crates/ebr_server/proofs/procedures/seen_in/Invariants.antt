@@ -1,5 +1,5 @@
 use Rattle.std.proofs.Common.{◌≡◌}
-use Rattle.ebr_server.specs.Procedures.{seen_in}
+use Rattle.ebr_server.specs.inside.Procedures.{seen_in}
 use Rattle.ebr_server.proofs.procedures.seen_in.Given as goal
 
 abbrev pub invariant-loop-older : goal.invariant-loop-older

@@ -1,5 +1,5 @@
 use Rattle.std.proofs.Common.{◌≡◌, ◌≤◌, length, arith}
-use Rattle.ebr_server.proofs.Reading.{read_on, read_to_end, read_enough}
+use Rattle.ebr_server.proofs.ReadBytes.{read_on, read_to_end, read_enough}
 use Rattle.ebr_server.proofs.read.read_script.Goals as goal
 
 pub returns-then-branch-eq0-clause-bytes : goal.returns-then-branch-eq0-clause-bytes

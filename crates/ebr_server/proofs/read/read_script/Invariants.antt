@@ -1,6 +1,6 @@
 use Rattle.std.proofs.Common.{◌+◌, ◌-◌, ◌≤◌, length}
 use Rattle.ebr_server.specs.declared.read.TheConstants.{MAX_SCRIPT}
-use Rattle.ebr_server.proofs.Reading.{IsRead}
+use Rattle.ebr_server.proofs.ReadBytes.{IsRead}
 use Rattle.ebr_server.proofs.read.read_script.Given as goal
 
 -- the bytes are the first of the source, and the count has not fallen

@@ -1,4 +1,4 @@
-use Rattle.ebr_server.proofs.Offering.{AddsPart-more, AddsPart-after, appended-twice}
+use Rattle.ebr_server.proofs.Additions.{AddsPart-more, AddsPart-after, appended-twice}
 use Rattle.ebr_server.proofs.report.write_line.Goals as goal
 
 pub returns-then-not-write_part-2-clause-part : goal.returns-then-not-write_part-2-clause-part

@@ -2,7 +2,7 @@ use Rattle.std.proofs.lemmas.Result.{err_from_is_err_and}
 use Rattle.ebr_server.proofs.Steps.{QuitStep-asked}
 use Rattle.ebr_server.proofs.worker.Worker.create_edition.Goals as goal
 
-pub returns-in_err-what-clause-does : goal.returns-in_err-what-clause-does
-returns-in_err-what-clause-does g c =
+pub returns-in_err-what : goal.returns-in_err-what
+returns-in_err-what g c =
     let p = err_from_is_err_and c.from_residual.result c.from_residual.ensures.1 in
-    rw (p.1, p.2) (QuitStep-asked _ _ _ _)
+    rw (p.1, p.2) (QuitStep-asked _ _ _ _ c.requires.open)

@@ -1,52 +1,20 @@
 -- What a session leaves in the report.
-use Rattle.std.proofs.Common.{ℕ, ◌≡◌, List, [], ◌++◌, length, take, drop, Option, Some, None, inl, inr, refl, sym, ◌∙◌, ap, subst, ◌<◌, ◌≤◌, ◌≢◌, min, arith, append_assoc, Bool, true, false}
+use Rattle.std.proofs.Common.{ℕ, ◌≡◌, List, [], ◌++◌, length, take, drop, Option, Some, None, inl, inr, refl, sym, ◌∙◌, ap, subst, ◌<◌, ◌≤◌, min, arith, Bool, true, false}
 use Rattle.std.specs.Prelude.{◌⊎◌, ◌↔◌, IfSome, IsSomeAnd, option_and_then}
 use Rattle.std.specs.Bool.{OnTrue, OnFalse}
-use Rattle.std.proofs.Math.Seq.{take-length}
+use Rattle.std.proofs.Math.Seq.{drop-append_seam}
 use Rattle.std.proofs.lemmas.List.{take-append-drop, take_all, length-take}
 use Rattle.ebr_server.specs.declared.ask.Entry.{Entry}
-use Rattle.ebr_server.specs.declared.ask.Exchange.{Exchange}
 use Rattle.ebr_server.specs.declared.exit.ExitCode.{ExitCode}
 use Rattle.ebr_server.specs.declared.exit.ExitCode.TheVariants as code
-use Rattle.ebr_server.specs.History.{Mine}
-use Rattle.ebr_server.specs.Program.{the_session, IsPrefix, Ran, Quit, Session, Tried, StopsTooLong, Served, Reported, last_line, script_word, told_bytes, IsComplete}
+use Rattle.ebr_server.specs.Program.{Session, Tried, StopsTooLong, Served, Reported, last_line, script_word, script_bytes, IsComplete}
 use Rattle.ebr_outside.specs.Faults.{Rises}
 use Rattle.ebr_outside.specs.Sink.{appended}
-use Rattle.ebr_server.specs.Report.{AddsPart}
-use Rattle.ebr_server.specs.Worker.{Wrote, RanSession}
-use Rattle.ebr_server.proofs.Standing.{IsPrefix-trans}
+use Rattle.ebr_server.specs.inside.Report.{AddsPart}
 
-quit_part : (script : List ℕ) (mine : List Exchange) (written : ℕ) (printed : List ℕ) → Quit script mine printed → Quit script mine (take written printed)
-quit_part script mine written printed quit = record {
-  after = quit.after;
-  printed = quit.printed;
-  ran = quit.ran;
-  part = IsPrefix-trans (take written printed) printed quit.printed (record { rest = drop written printed; whole = sym (take-append-drop written printed) }) quit.part;
-}
-
-ran_whole : (script : List ℕ) (mine : List Exchange) (written : ℕ) (printed : List ℕ) → written ≡ length printed → Ran script mine None printed → Ran script mine None (take written printed)
-ran_whole script mine written printed whole ran = subst (Ran script mine None) (sym (ap (λ n. take n printed) whole ∙ take-length printed)) ran
-
-session_of : (c : ExitCode) (script : List ℕ) (h : List Entry) (written : ℕ) (printed : List ℕ) → RanSession c script h written printed → Session c script h (take written printed)
-session_of code.Done script h written printed ran = ran_whole script (Mine h the_session) written printed ran.0 ran.1
-session_of code.SinkFault script h written printed ran = quit_part script (Mine h the_session) written printed ran
-session_of code.NoMemory script h written printed ran = inr (elim ran [
-  | inl quit ↦ inl (quit_part script (Mine h the_session) written printed quit)
-  | inr whole ↦ inr (ran_whole script (Mine h the_session) written printed whole.0 whole.1)
-])
-session_of code.Usage script h written printed ran = absurd ran
-session_of (code.HostFault w) script h written printed ran = absurd ran
-session_of (code.TooLong w) script h written printed ran = absurd ran
-
-pub Tried-ran : (c : ExitCode) (script : List ℕ) (h : List Entry) (written : ℕ) (printed : List ℕ) (held : Option (List ℕ))
-    → RanSession c script h written printed → Wrote held written printed → Tried (Some script) c h held
-Tried-ran c script h written printed held ran wrote = record {
-  script = script;
-  is_told = refl;
-  replies = take written printed;
-  session = session_of c script h written printed ran;
-  holds = wrote.told;
-}
+pub Tried-ran : (c : ExitCode) (script : List ℕ) (h : List Entry) (written : List ℕ) (held : Option (List ℕ)) → Session c script h written → IfSome held (λ bytes. bytes ≡ written)
+    → Tried (Some script) c h held
+Tried-ran c script h written held session holds = record { script = script; is_script = refl; replies = written; session = session; holds = holds }
 
 -- a code with which no session began
 abbrev pub StopsEarly : ExitCode → Type 0
@@ -68,16 +36,16 @@ or_nothing : Option (List ℕ) → List ℕ
 or_nothing None = []
 or_nothing (Some bytes) = bytes
 
-is_told : (told : Option (List ℕ)) → IfSome told (λ bytes. or_nothing told ≡ bytes)
+is_script : (told : Option (List ℕ)) → IfSome told (λ bytes. or_nothing told ≡ bytes)
 unfolding or_nothing
-is_told None = tt
-is_told (Some bytes) = refl
+is_script None = tt
+is_script (Some bytes) = refl
 
 pub Tried-stopped : (told : Option (List ℕ)) (c c' : ExitCode) (h : List Entry) (first held : Option (List ℕ)) → StopsEarly c' → c ≡ c' → h ≡ [] → held ≡ first
     → IfSome first (λ bytes. bytes ≡ []) → Tried told c h held
 Tried-stopped told c c' h first held early is none same empty = record {
   script = or_nothing told;
-  is_told = is_told told;
+  is_script = is_script told;
   replies = [];
   session = subst (λ d. Session d (or_nothing told) h []) (sym is) (no_session c' (or_nothing told) h early none);
   holds = subst (λ o. IfSome o (λ bytes. bytes ≡ [])) (sym same) empty;
@@ -118,7 +86,7 @@ pub Tried-told : (told : Option (List ℕ)) (script : List ℕ) (c : ExitCode) (
     → Tried (Some script) c h held → Tried told c h held
 Tried-told told script c h held from_told tried = record {
   script = tried.script;
-  is_told = told_too told from_told;
+  is_script = told_too told from_told;
   replies = tried.replies;
   session = tried.session;
   holds = tried.holds;
@@ -126,7 +94,7 @@ Tried-told told script c h held from_told tried = record {
   where
     told_too : (told : Option (List ℕ)) → IfSome told (λ b. script ≡ b) → IfSome told (λ b. tried.script ≡ b)
     told_too None e = tt
-    told_too (Some b) e = tried.is_told ∙ e
+    told_too (Some b) e = tried.is_script ∙ e
 
 pub TooLong-word : (v w : ℕ) → code.TooLong v ≡ code.TooLong w → w ≡ v
 TooLong-word v w e = cc
@@ -144,55 +112,45 @@ some_is_none e = cc
 some_is : {X : Type 0} {x y : X} → Some x ≡ Some y → x ≡ y
 some_is e = cc
 
-not_zero : (n : ℕ) → 0 < n → n ≡ 0 → ⊥
-not_zero n positive zero_too = omega arith
+-- why a last line isn't whole: a write failed
+whole_or_failed : (r : Bool) (old new : ℕ) (P : Type 0) → OnTrue r P → OnFalse r (Rises old new) → new ≡ 0 → P
+whole_or_failed true old new P whole failed none = whole
+whole_or_failed false old new P whole failed none = absurd (rises_from_zero old new failed none)
 
-part_of : (replies text : List ℕ) (count : ℕ) → IsPrefix (replies ++ take count text) (replies ++ text)
-part_of replies text count = record {
-  rest = drop count text;
-  whole = ap (λ xs. replies ++ xs) (sym (take-append-drop count text)) ∙ sym (append_assoc replies (take count text) (drop count text));
-}
-
--- why a last line isn't whole where no write failed
-written_or_failed : (r : Bool) (c : ExitCode) (old new : ℕ) (P : Type 0) → OnTrue r P → OnFalse r (c ≢ code.SinkFault → Rises old new) → (c ≡ code.SinkFault → 0 < old) → old ≤ new
-    → new ≡ 0 → P
-written_or_failed true c old new P whole failed fault counted none = whole
-written_or_failed false code.SinkFault old new P whole failed fault counted none = absurd (not_zero old (fault refl) (omega arith))
-written_or_failed false code.Done old new P whole failed fault counted none = absurd (rises_from_zero old new (failed (λ e. cc)) none)
-written_or_failed false code.Usage old new P whole failed fault counted none = absurd (rises_from_zero old new (failed (λ e. cc)) none)
-written_or_failed false (code.HostFault w) old new P whole failed fault counted none = absurd (rises_from_zero old new (failed (λ e. cc)) none)
-written_or_failed false code.NoMemory old new P whole failed fault counted none = absurd (rises_from_zero old new (failed (λ e. cc)) none)
-written_or_failed false (code.TooLong w) old new P whole failed fault counted none = absurd (rises_from_zero old new (failed (λ e. cc)) none)
+added_is : (replies xs ys : List ℕ) → replies ++ xs ≡ replies ++ ys → xs ≡ ys
+added_is replies xs ys e = sym (drop-append_seam replies xs) ∙ ap (drop (length replies)) e ∙ drop-append_seam replies ys
 
 -- The last line after what the report held.
-reported : (first : Option (List ℕ)) (now : Option (List ℕ)) (replies text : List ℕ) (faults : ℕ) → IfSome first (λ bytes. bytes ≡ replies) → AddsPart first now text
-    → (faults ≡ 0 → now ≡ appended first text) → IfSome now (λ bytes. Reported faults bytes (replies ++ text))
-reported None now replies text faults held part whole = subst (λ o. IfSome o (λ bytes. Reported faults bytes (replies ++ text))) (sym part.held) tt
-reported (Some bytes) now replies text faults held part whole =
-    let as_written : Reported faults (bytes ++ take part.count text) (replies ++ text) = record {
-      whole = λ none. some_is (sym part.held ∙ whole none) ∙ ap (λ xs. xs ++ text) held;
-      part = subst (λ xs. IsPrefix (xs ++ take part.count text) (replies ++ text)) (sym held) (part_of replies text part.count);
+reported : (first now : Option (List ℕ)) (replies line : List ℕ) (faults : ℕ) → IfSome first (λ bytes. bytes ≡ replies) → AddsPart first now line
+    → (faults ≡ 0 → now ≡ appended first line) → IfSome now (λ bytes. Reported faults bytes replies line)
+reported None now replies line faults held part whole = subst (λ o. IfSome o (λ bytes. Reported faults bytes replies line)) (sym part.held) tt
+reported (Some bytes) now replies line faults held part whole =
+    let as_written : Reported faults (bytes ++ take part.count line) replies line = record {
+      added = take part.count line;
+      held_is = ap (λ xs. xs ++ take part.count line) held;
+      part = record { rest = drop part.count line; whole = sym (take-append-drop part.count line) };
+      whole = λ none. added_is bytes (take part.count line) line (some_is (sym part.held ∙ whole none));
     } in
-    subst (λ o. IfSome o (λ b. Reported faults b (replies ++ text))) (sym part.held) as_written
+    subst (λ o. IfSome o (λ b. Reported faults b replies line)) (sym part.held) as_written
 
-pub Served-tried : (r : Bool) (words : List (List ℕ)) (told : Option (List ℕ)) (c : ExitCode) (h : List Entry) (first now : Option (List ℕ)) (old new : ℕ) → Tried told c h first
-    → AddsPart first now (last_line c words) → OnTrue r (now ≡ appended first (last_line c words)) → OnFalse r (c ≢ code.SinkFault → Rises old new) → (c ≡ code.SinkFault → 0 < old) → old ≤ new
-    → Served words told c h new now
-Served-tried r words told c h first now old new tried part whole failed fault counted = record {
+pub Served-tried : (r : Bool) (words : List (List ℕ)) (source : Option (List ℕ)) (c : ExitCode) (h : List Entry) (first now : Option (List ℕ)) (old new : ℕ) → Tried source c h first
+    → AddsPart first now (last_line c words) → OnTrue r (now ≡ appended first (last_line c words)) → OnFalse r (Rises old new)
+    → Served words source c h new now
+Served-tried r words source c h first now old new tried part whole failed = record {
   script = tried.script;
-  is_told = tried.is_told;
+  is_script = tried.is_script;
   replies = tried.replies;
   session = tried.session;
   report = reported first now tried.replies (last_line c words) new tried.holds part
-      (written_or_failed r c old new (now ≡ appended first (last_line c words)) whole failed fault counted);
+      (whole_or_failed r old new (now ≡ appended first (last_line c words)) whole failed);
 }
 
 -- what the host tells of the word that the words name
-pub told_at : (bytes : List ℕ → Option (List ℕ)) (words : List (List ℕ)) (word : List ℕ) → Some word ≡ script_word words → told_bytes bytes words ≡ bytes word
+pub told_at : (bytes : List ℕ → Option (List ℕ)) (words : List (List ℕ)) (word : List ℕ) → Some word ≡ script_word words → script_bytes bytes words ≡ bytes word
 told_at bytes words word e = ap (option_and_then bytes) (sym e)
 
 pub told_of_word : (bytes : List ℕ → Option (List ℕ)) (words : List (List ℕ)) (word : List ℕ) (P : List ℕ → Type 0) → Some word ≡ script_word words
-    → IfSome (bytes word) P → IfSome (told_bytes bytes words) P
+    → IfSome (bytes word) P → IfSome (script_bytes bytes words) P
 told_of_word bytes words word P e fact = subst (λ o. IfSome o P) (sym (told_at bytes words word e)) fact
 
 told_in : (bytes bytes' : List ℕ → Option (List ℕ)) (word : Option (List ℕ)) → ((w : List ℕ) → bytes' w ≡ bytes w) → option_and_then bytes' word ≡ option_and_then bytes word
@@ -200,10 +158,10 @@ told_in bytes bytes' None same = refl
 told_in bytes bytes' (Some w) same = same w
 
 -- A host tells the same before and after it made the report.
-pub told_same : (bytes bytes' : List ℕ → Option (List ℕ)) (words : List (List ℕ)) → ((w : List ℕ) → bytes' w ≡ bytes w) → told_bytes bytes' words ≡ told_bytes bytes words
+pub told_same : (bytes bytes' : List ℕ → Option (List ℕ)) (words : List (List ℕ)) → ((w : List ℕ) → bytes' w ≡ bytes w) → script_bytes bytes' words ≡ script_bytes bytes words
 told_same bytes bytes' words same = told_in bytes bytes' (script_word words) same
 
-told_none : (bytes : List ℕ → Option (List ℕ)) (words : List (List ℕ)) → script_word words ≡ None → told_bytes bytes words ≡ None
+told_none : (bytes : List ℕ → Option (List ℕ)) (words : List (List ℕ)) → script_word words ≡ None → script_bytes bytes words ≡ None
 told_none bytes words none = ap (option_and_then bytes) none
 
 no_fault : {S : Type 0} (faults : S → ℕ) (source : Option S) → IsSomeAnd source (λ s. 0 < faults s) → IfSome source (λ s. ¬ (0 < faults s)) → ⊥
@@ -231,7 +189,7 @@ complete faults source None c limit old new report usage host sink long = tt
 complete faults source (Some bytes) c limit old new report usage host sink long =
     complete_at faults source c bytes limit old new report (λ e. some_is_none (usage e)) host sink long
 
-pub usage_none : (bytes : List ℕ → Option (List ℕ)) (words : List (List ℕ)) (c : ExitCode) → ((c ≡ code.Usage) ↔ (script_word words ≡ None)) → c ≡ code.Usage → told_bytes bytes words ≡ None
+pub usage_none : (bytes : List ℕ → Option (List ℕ)) (words : List (List ℕ)) (c : ExitCode) → ((c ≡ code.Usage) ↔ (script_word words ≡ None)) → c ≡ code.Usage → script_bytes bytes words ≡ None
 usage_none bytes words c usage e = told_none bytes words (usage.0 e)
 
 pub rises_since : (old mid new : ℕ) → old ≤ mid → Rises mid new → Rises old new

@@ -3,28 +3,28 @@ use Rattle.std.proofs.Common.{ℕ, ◌≡◌, ◌+◌, ◌-◌, ◌≤◌, List,
 use Rattle.ebr_outside.specs.Sink.{appended}
 use Rattle.std.proofs.Math.Seq.{take-add, take-append_seam, drop-append_seam}
 use Rattle.std.proofs.lemmas.List.{drop-drop, take_all, take-append-le}
-use Rattle.ebr_server.specs.Report.{AddsPart}
+use Rattle.ebr_server.specs.inside.Report.{AddsPart}
 
 pub appended-appended : (held : Option (List ℕ)) (xs ys : List ℕ) → appended (appended held xs) ys ≡ appended held (xs ++ ys)
 appended-appended None xs ys = refl
 appended-appended (Some h) xs ys = ap Some (append_assoc h xs ys)
 
-pub taken_on : (piece : List ℕ) (from at taken : ℕ) → from ≤ at
-    → take (at - from) (drop from piece) ++ take taken (drop at piece) ≡ take (at + taken - from) (drop from piece)
-taken_on piece from at taken onward =
+pub taken_on : (bytes : List ℕ) (from at taken : ℕ) → from ≤ at
+    → take (at - from) (drop from bytes) ++ take taken (drop at bytes) ≡ take (at + taken - from) (drop from bytes)
+taken_on bytes from at taken onward =
     let e : at + taken - from ≡ (at - from) + taken = omega arith in
     let place : from + (at - from) ≡ at = omega arith in
-    sym (ap (λ k. take k (drop from piece)) e ∙ (take-add (at - from) taken (drop from piece)
-    ∙ ap (λ xs. take (at - from) (drop from piece) ++ take taken xs) (drop-drop (at - from) from piece ∙ ap (λ k. drop k piece) place)))
+    sym (ap (λ k. take k (drop from bytes)) e ∙ (take-add (at - from) taken (drop from bytes)
+    ∙ ap (λ xs. take (at - from) (drop from bytes) ++ take taken xs) (drop-drop (at - from) from bytes ∙ ap (λ k. drop k bytes) place)))
 
 -- the slice from a place on, as a list
-pub rest_of : (piece : List ℕ) (at : ℕ) → take (length piece - at) (drop at piece) ≡ drop at piece
-rest_of piece at = take_all (length piece - at) (drop at piece) (omega (arith, length-drop at piece))
+pub rest_of : (bytes : List ℕ) (at : ℕ) → take (length bytes - at) (drop at bytes) ≡ drop at bytes
+rest_of bytes at = take_all (length bytes - at) (drop at bytes) (omega (arith, length-drop at bytes))
 
-pub held_on : (piece : List ℕ) (from at taken : ℕ) (first mid last : Option (List ℕ)) → from ≤ at → mid ≡ appended first (take (at - from) (drop from piece))
-    → last ≡ appended mid (take taken (take (length piece - at) (drop at piece))) → last ≡ appended first (take (at + taken - from) (drop from piece))
-held_on piece from at taken first mid last onward was now =
-    now ∙ (ap (λ xs. appended mid (take taken xs)) (rest_of piece at) ∙ (ap (λ h. appended h (take taken (drop at piece))) was ∙ (appended-appended first _ _ ∙ ap (appended first) (taken_on piece from at taken onward))))
+pub held_on : (bytes : List ℕ) (from at taken : ℕ) (first mid last : Option (List ℕ)) → from ≤ at → mid ≡ appended first (take (at - from) (drop from bytes))
+    → last ≡ appended mid (take taken (take (length bytes - at) (drop at bytes))) → last ≡ appended first (take (at + taken - from) (drop from bytes))
+held_on bytes from at taken first mid last onward was now =
+    now ∙ (ap (λ xs. appended mid (take taken xs)) (rest_of bytes at) ∙ (ap (λ h. appended h (take taken (drop at bytes))) was ∙ (appended-appended first _ _ ∙ ap (appended first) (taken_on bytes from at taken onward))))
 
 -- A part of a text is a part of a longer one.
 pub AddsPart-more : (old new : Option (List ℕ)) (text more : List ℕ) → AddsPart old new text → AddsPart old new (text ++ more)

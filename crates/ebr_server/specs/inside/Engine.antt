@@ -1,7 +1,6 @@
 -- What the engine keeps: its history is legal, and its editions are those of the database.
 use Rattle.std.specs.Prelude.{ℕ, zero, suc, Bool, false, ◌≡◌, ◌≢◌, ◌≤◌, length, option_map, List, [], ◌∷◌, ◌++◌, Option, Some, None, vec_len, vec_capacity, ◌<◌}
 use Rattle.std.specs.List.{filter_map}
-use Rattle.ebr_base.specs.declared.numbers.SessionId.{SessionId}
 use Rattle.ebr_base.specs.declared.numbers.EditionNo.{EditionNo}
 use Rattle.ebr_base.specs.declared.code.Code.TheVariants.{Ora, Ebr}
 use Rattle.ebr_script.specs.Pieces.{stored_definition, CreatesObject}
@@ -16,25 +15,17 @@ use Rattle.ebr_server.specs.declared.engine.Editions.{Editions}
 use Rattle.ebr_server.specs.declared.procedures.Version.{Version}
 use Rattle.ebr_server.specs.Forms.{Effect, MakesProcedure, MakesEdition, MakesNothing, effect_of}
 use Rattle.ebr_server.specs.Catalogue.{EditionEntry, ObjectEntry, catalogue_of}
-use Rattle.ebr_server.specs.Machine.{Database, Build, session_edition}
+use Rattle.ebr_server.specs.Machine.{Database, session_edition, the_session, start}
 use Rattle.ebr_server.specs.History.{After, Legal}
 use Rattle.ebr_server.specs.Sessions.{look_up}
-use Rattle.ebr_server.specs.Procedures.{put, number_of, seen_in}
-
--- the one session
-abbrev pub session : SessionId
-session = record { 0 = 1 }
-
--- The database in which the one session begins.
-abbrev pub start : Database
-start = Build [] 1
+use Rattle.ebr_server.specs.inside.Procedures.{put, number_of, seen_in}
 
 abbrev pub entries : Engine → List Entry
 entries e = e.history.items
 
 -- the one session's entry
 abbrev pub entry_of : Ask → Answer → Entry
-entry_of ask answer = record { session = session; ask = ask; answer = answer }
+entry_of ask answer = record { session = the_session; ask = ask; answer = answer }
 
 -- the answer to the definition of a procedure, by the one that is visible under its name
 abbrev pub answer_to_create : Bool → Option Procedure → Answer
@@ -118,7 +109,7 @@ definition_of x = option_map (λ p. record { edition = x.edition.0; procedure = 
 
 -- The engine's editions are those of the database, and its list of procedures is what the session's edition sees.
 pub record Keeps (editions : Editions) (db : Database) : Type 0 where
-  pub current : session_edition db session ≡ Some (record { 0 = editions.current })
+  pub current : session_edition db the_session ≡ Some (record { 0 = editions.current })
   pub counted : 0 < editions.current
   pub exists : editions.current ≤ length editions.names
   pub names : (catalogue_of db.records).editions ≡ numbered 0 editions.names

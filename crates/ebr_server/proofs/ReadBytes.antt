@@ -3,7 +3,7 @@ use Rattle.std.proofs.Common.{ℕ, ◌≡◌, ◌+◌, ◌≤◌, List, ◌++◌
 use Rattle.std.specs.Prelude.{IfSome}
 use Rattle.std.proofs.Math.Seq.{take-add}
 use Rattle.std.proofs.lemmas.List.{take_all, length-take-le, drop-drop}
-use Rattle.ebr_server.specs.Reading.{Reads, ReadsNext}
+use Rattle.ebr_server.specs.inside.Reading.{Reads, ReadsNext}
 
 pub record IsFirst (all bytes : List ℕ) (rest : Option (List ℕ)) : Type 0 where
   pub first : bytes ≡ take (length bytes) all

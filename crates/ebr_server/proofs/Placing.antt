@@ -13,7 +13,7 @@ use Rattle.std.proofs.lemmas.List.Sums.{take_while-cons}
 use Rattle.std.proofs.lemmas.Map.Lookups.{exact_bytes}
 use Rattle.ebr_server.specs.declared.ask.Procedure.{Procedure}
 use Rattle.ebr_server.specs.Catalogue.{with_name}
-use Rattle.ebr_server.specs.Procedures.{put, before, has_name}
+use Rattle.ebr_server.specs.inside.Procedures.{put, before, has_name}
 use Rattle.ebr_server.proofs.InOrder.{cmp, IsBelow, IsAscending, with_name-less, with_name-equal, with_name-greater, less_from_greater, greater_from_less, bytes_eq-less, bytes_eq-equal, bytes_eq-greater, IsBelow-trans}
 use Rattle.ebr_server.proofs.Lookups.{IsAmong, with_name-among}
 

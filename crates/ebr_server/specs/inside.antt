@@ -1,0 +1,7 @@
+pub mod Effects
+pub mod Procedures
+pub mod Engine
+pub mod Reading
+pub mod Report
+pub mod Output
+pub mod Worker
