@@ -8,16 +8,12 @@ mod definitions;
 #[cfg(test)]
 mod expressions;
 #[cfg(test)]
-mod printing;
+mod reading;
 #[cfg(test)]
 mod simple;
 #[cfg(test)]
 mod sql;
 #[cfg(test)]
 mod statements;
-#[cfg(test)]
-mod texts;
-#[cfg(test)]
-mod trees;
 #[cfg(test)]
 mod units;

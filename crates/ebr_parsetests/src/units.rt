@@ -1,538 +1,469 @@
-//! What no clause says: that the calls succeed with ample memory, and which text gives which tree.
+//! Texts and their trees, by the grammar of units.
 
-use crate::texts::{only, tokens_of};
-use crate::trees::{
-    Fires, Type, block_with, body_with_initial, declared, declaring, empty_body, four_items,
-    full_block, full_body, function, long_call, one_parameter, package, plain_trigger, procedure,
-    short_call, trigger, two_parameters, view,
-};
-use ebr_ast::{Block, Definition, Direction, Mode, Op, Timing, UnitTree};
-use ebr_base::{List, NoMemory};
-use ebr_plparse::{block, created, one_tree, unit};
-use std::alloc::Global;
-use std::process::Abort;
+use crate::reading::{By, Row, all_spell};
+use ebr_plparse::one_tree;
 use std::test::Fail;
 
-/// What the text spells: one unit, or none. A list is dropped by one call, a tree by its variants.
-fn units_of(rt: &impl Abort, alloc: Global, text: &[u8]) -> Result<List<UnitTree>, NoMemory> {
-    let tokens = tokens_of(rt, alloc, text)?;
-    match unit(alloc, tokens.as_slice())? {
-        Some(tree) => only(alloc, tree),
-        None => Ok(List::new(alloc)),
-    }
-}
-
-/// The creation that the text spells, or none.
-fn created_of(rt: &impl Abort, alloc: Global, text: &[u8]) -> Result<List<Definition>, NoMemory> {
-    let tokens = tokens_of(rt, alloc, text)?;
-    match created(alloc, tokens.as_slice())? {
-        Some(tree) => only(alloc, tree),
-        None => Ok(List::new(alloc)),
-    }
-}
-
-/// The block that the text spells, or none.
-fn blocks_of(rt: &impl Abort, alloc: Global, text: &[u8]) -> Result<List<Block>, NoMemory> {
-    let tokens = tokens_of(rt, alloc, text)?;
-    match block(alloc, tokens.as_slice())? {
-        Some(tree) => only(alloc, tree),
-        None => Ok(List::new(alloc)),
-    }
-}
-
-/// Subprograms, with their trees.
-fn subprograms(alloc: Global, at: usize) -> Result<(&'static [u8], List<UnitTree>), NoMemory> {
-    match at {
-        0 => Ok((
-            b"PROCEDURE p IS BEGIN NULL; END;",
-            procedure(alloc, List::new(alloc))?,
-        )),
-        1 => Ok((
-            b"procedure p as begin null; end p;",
-            procedure(alloc, List::new(alloc))?,
-        )),
-        2 => Ok((
-            b"PROCEDURE p(a NUMBER, b OUT INTEGER) IS BEGIN NULL; END;",
-            procedure(alloc, two_parameters(alloc)?)?,
-        )),
-        3 => Ok((
-            b"FUNCTION f RETURN out.c%TYPE IS BEGIN NULL; END;",
-            function(alloc, List::new(alloc), Type::Of(b"OUT", b"C"))?,
-        )),
-        4 => Ok((
-            b"FUNCTION f(a NUMBER, b OUT INTEGER) RETURN BOOLEAN AS BEGIN NULL; END;",
-            function(alloc, two_parameters(alloc)?, Type::Boolean)?,
-        )),
-        _ => Ok((
-            b"PROCEDURE p IS x EXCEPTION; BEGIN NULL; END;",
-            declaring(alloc)?,
-        )),
-    }
-}
+/// Units, and what is none.
+static UNITS: [Row; 110] = [
+    // Subprograms.
+    (
+        "PROCEDURE p IS BEGIN NULL; END;",
+        Some(
+            r#"Subprogram(Subprogram { head: Head { name: "P", parameters: [], result: None }, body: Block { declarations: [], statements: [Null], handlers: [] } })"#,
+        ),
+    ),
+    (
+        "procedure p as begin null; end p;",
+        Some(
+            r#"Subprogram(Subprogram { head: Head { name: "P", parameters: [], result: None }, body: Block { declarations: [], statements: [Null], handlers: [] } })"#,
+        ),
+    ),
+    (
+        "PROCEDURE p(a NUMBER, b OUT INTEGER) IS BEGIN NULL; END;",
+        Some(
+            r#"Subprogram(Subprogram { head: Head { name: "P", parameters: [Parameter { name: "A", mode: None, ty: Number }, Parameter { name: "B", mode: Some(Out), ty: Integer }], result: None }, body: Block { declarations: [], statements: [Null], handlers: [] } })"#,
+        ),
+    ),
+    (
+        "FUNCTION f RETURN out.c%TYPE IS BEGIN NULL; END;",
+        Some(
+            r#"Subprogram(Subprogram { head: Head { name: "F", parameters: [], result: Some(OfColumn("OUT", "C")) }, body: Block { declarations: [], statements: [Null], handlers: [] } })"#,
+        ),
+    ),
+    (
+        "FUNCTION f(a NUMBER, b OUT INTEGER) RETURN BOOLEAN AS BEGIN NULL; END;",
+        Some(
+            r#"Subprogram(Subprogram { head: Head { name: "F", parameters: [Parameter { name: "A", mode: None, ty: Number }, Parameter { name: "B", mode: Some(Out), ty: Integer }], result: Some(Boolean) }, body: Block { declarations: [], statements: [Null], handlers: [] } })"#,
+        ),
+    ),
+    (
+        "PROCEDURE p IS x EXCEPTION; BEGIN NULL; END;",
+        Some(
+            r#"Subprogram(Subprogram { head: Head { name: "P", parameters: [], result: None }, body: Block { declarations: [Exception("X")], statements: [Null], handlers: [] } })"#,
+        ),
+    ),
+    (
+        "FUNCTION f RETURN NUMBER IS BEGIN NULL; END;",
+        Some(
+            r#"Subprogram(Subprogram { head: Head { name: "F", parameters: [], result: Some(Number) }, body: Block { declarations: [], statements: [Null], handlers: [] } })"#,
+        ),
+    ),
+    // Packages and their bodies.
+    ("PACKAGE p IS END;", Some(r#"Package("P", [])"#)),
+    (
+        "PACKAGE p AS x EXCEPTION; PROCEDURE q; FUNCTION f RETURN NUMBER; PRAGMA EXCEPTION_INIT(x, -7); END p;",
+        Some(
+            r#"Package("P", [Decl(Exception("X")), Head(Head { name: "Q", parameters: [], result: None }), Head(Head { name: "F", parameters: [], result: Some(Number) }), Decl(ExceptionInit("X", 7))])"#,
+        ),
+    ),
+    ("PACKAGE body IS END body;", Some(r#"Package("BODY", [])"#)),
+    ("PACKAGE body AS END;", Some(r#"Package("BODY", [])"#)),
+    (
+        "PACKAGE BODY p IS END;",
+        Some(
+            r#"PackageBody(PackageBody { name: "P", declarations: [], subprograms: [], statements: [], handlers: [] })"#,
+        ),
+    ),
+    (
+        "PACKAGE BODY body AS END body;",
+        Some(
+            r#"PackageBody(PackageBody { name: "BODY", declarations: [], subprograms: [], statements: [], handlers: [] })"#,
+        ),
+    ),
+    (
+        "PACKAGE BODY p IS x EXCEPTION; PROCEDURE q IS BEGIN NULL; END; FUNCTION f RETURN NUMBER AS BEGIN NULL; END; END p;",
+        Some(
+            r#"PackageBody(PackageBody { name: "P", declarations: [Exception("X")], subprograms: [Subprogram { head: Head { name: "Q", parameters: [], result: None }, body: Block { declarations: [], statements: [Null], handlers: [] } }, Subprogram { head: Head { name: "F", parameters: [], result: Some(Number) }, body: Block { declarations: [], statements: [Null], handlers: [] } }], statements: [], handlers: [] })"#,
+        ),
+    ),
+    (
+        "PACKAGE BODY p IS BEGIN NULL; EXCEPTION WHEN OTHERS THEN NULL; END;",
+        Some(
+            r#"PackageBody(PackageBody { name: "P", declarations: [], subprograms: [], statements: [Null], handlers: [Handler { caught: Others, statements: [Null] }] })"#,
+        ),
+    ),
+    // OUT is a mode, or names a table.
+    (
+        "PROCEDURE p(a NUMBER) IS BEGIN NULL; END;",
+        Some(
+            r#"Subprogram(Subprogram { head: Head { name: "P", parameters: [Parameter { name: "A", mode: None, ty: Number }], result: None }, body: Block { declarations: [], statements: [Null], handlers: [] } })"#,
+        ),
+    ),
+    (
+        "PROCEDURE p(a IN NUMBER) IS BEGIN NULL; END;",
+        Some(
+            r#"Subprogram(Subprogram { head: Head { name: "P", parameters: [Parameter { name: "A", mode: Some(In), ty: Number }], result: None }, body: Block { declarations: [], statements: [Null], handlers: [] } })"#,
+        ),
+    ),
+    (
+        "PROCEDURE p(a OUT INTEGER) IS BEGIN NULL; END;",
+        Some(
+            r#"Subprogram(Subprogram { head: Head { name: "P", parameters: [Parameter { name: "A", mode: Some(Out), ty: Integer }], result: None }, body: Block { declarations: [], statements: [Null], handlers: [] } })"#,
+        ),
+    ),
+    (
+        "PROCEDURE p(a IN OUT VARCHAR2) IS BEGIN NULL; END;",
+        Some(
+            r#"Subprogram(Subprogram { head: Head { name: "P", parameters: [Parameter { name: "A", mode: Some(InOut), ty: Varchar2 }], result: None }, body: Block { declarations: [], statements: [Null], handlers: [] } })"#,
+        ),
+    ),
+    (
+        "PROCEDURE p(a BOOLEAN) IS BEGIN NULL; END;",
+        Some(
+            r#"Subprogram(Subprogram { head: Head { name: "P", parameters: [Parameter { name: "A", mode: None, ty: Boolean }], result: None }, body: Block { declarations: [], statements: [Null], handlers: [] } })"#,
+        ),
+    ),
+    (
+        "PROCEDURE p(a t.c%TYPE) IS BEGIN NULL; END;",
+        Some(
+            r#"Subprogram(Subprogram { head: Head { name: "P", parameters: [Parameter { name: "A", mode: None, ty: OfColumn("T", "C") }], result: None }, body: Block { declarations: [], statements: [Null], handlers: [] } })"#,
+        ),
+    ),
+    (
+        "PROCEDURE p(a IN t.c%TYPE) IS BEGIN NULL; END;",
+        Some(
+            r#"Subprogram(Subprogram { head: Head { name: "P", parameters: [Parameter { name: "A", mode: Some(In), ty: OfColumn("T", "C") }], result: None }, body: Block { declarations: [], statements: [Null], handlers: [] } })"#,
+        ),
+    ),
+    (
+        "PROCEDURE p(a OUT t.c%TYPE) IS BEGIN NULL; END;",
+        Some(
+            r#"Subprogram(Subprogram { head: Head { name: "P", parameters: [Parameter { name: "A", mode: Some(Out), ty: OfColumn("T", "C") }], result: None }, body: Block { declarations: [], statements: [Null], handlers: [] } })"#,
+        ),
+    ),
+    (
+        "PROCEDURE p(a OUT.c%TYPE) IS BEGIN NULL; END;",
+        Some(
+            r#"Subprogram(Subprogram { head: Head { name: "P", parameters: [Parameter { name: "A", mode: None, ty: OfColumn("OUT", "C") }], result: None }, body: Block { declarations: [], statements: [Null], handlers: [] } })"#,
+        ),
+    ),
+    (
+        "PROCEDURE p(a IN OUT.c%TYPE) IS BEGIN NULL; END;",
+        Some(
+            r#"Subprogram(Subprogram { head: Head { name: "P", parameters: [Parameter { name: "A", mode: Some(In), ty: OfColumn("OUT", "C") }], result: None }, body: Block { declarations: [], statements: [Null], handlers: [] } })"#,
+        ),
+    ),
+    (
+        "PROCEDURE p(a OUT OUT.c%TYPE) IS BEGIN NULL; END;",
+        Some(
+            r#"Subprogram(Subprogram { head: Head { name: "P", parameters: [Parameter { name: "A", mode: Some(Out), ty: OfColumn("OUT", "C") }], result: None }, body: Block { declarations: [], statements: [Null], handlers: [] } })"#,
+        ),
+    ),
+    (
+        "PROCEDURE p(a IN OUT OUT.c%TYPE) IS BEGIN NULL; END;",
+        Some(
+            r#"Subprogram(Subprogram { head: Head { name: "P", parameters: [Parameter { name: "A", mode: Some(InOut), ty: OfColumn("OUT", "C") }], result: None }, body: Block { declarations: [], statements: [Null], handlers: [] } })"#,
+        ),
+    ),
+    (
+        "PROCEDURE p(out OUT NUMBER) IS BEGIN NULL; END;",
+        Some(
+            r#"Subprogram(Subprogram { head: Head { name: "P", parameters: [Parameter { name: "OUT", mode: Some(Out), ty: Number }], result: None }, body: Block { declarations: [], statements: [Null], handlers: [] } })"#,
+        ),
+    ),
+    (
+        "PROCEDURE p(out NUMBER) IS BEGIN NULL; END;",
+        Some(
+            r#"Subprogram(Subprogram { head: Head { name: "P", parameters: [Parameter { name: "OUT", mode: None, ty: Number }], result: None }, body: Block { declarations: [], statements: [Null], handlers: [] } })"#,
+        ),
+    ),
+    (
+        "PROCEDURE p(a NUMBER.c%TYPE) IS BEGIN NULL; END;",
+        Some(
+            r#"Subprogram(Subprogram { head: Head { name: "P", parameters: [Parameter { name: "A", mode: None, ty: OfColumn("NUMBER", "C") }], result: None }, body: Block { declarations: [], statements: [Null], handlers: [] } })"#,
+        ),
+    ),
+    (
+        "PROCEDURE p(a IN INTEGER.c%TYPE) IS BEGIN NULL; END;",
+        Some(
+            r#"Subprogram(Subprogram { head: Head { name: "P", parameters: [Parameter { name: "A", mode: Some(In), ty: OfColumn("INTEGER", "C") }], result: None }, body: Block { declarations: [], statements: [Null], handlers: [] } })"#,
+        ),
+    ),
+    (
+        "PROCEDURE p(a OUT VARCHAR2.c%TYPE) IS BEGIN NULL; END;",
+        Some(
+            r#"Subprogram(Subprogram { head: Head { name: "P", parameters: [Parameter { name: "A", mode: Some(Out), ty: OfColumn("VARCHAR2", "C") }], result: None }, body: Block { declarations: [], statements: [Null], handlers: [] } })"#,
+        ),
+    ),
+    (
+        "PROCEDURE p(a IN OUT BOOLEAN.type%TYPE) IS BEGIN NULL; END;",
+        Some(
+            r#"Subprogram(Subprogram { head: Head { name: "P", parameters: [Parameter { name: "A", mode: Some(InOut), ty: OfColumn("BOOLEAN", "TYPE") }], result: None }, body: Block { declarations: [], statements: [Null], handlers: [] } })"#,
+        ),
+    ),
+    // Triggers.
+    (
+        "TRIGGER g BEFORE INSERT ON t FOR EACH ROW BEGIN NULL; END;",
+        Some(
+            r#"Trigger(Trigger { name: "G", timing: Before, events: [Insert], on: "T", crossedition: None, enabled: true, body: Block { declarations: [], statements: [Null], handlers: [] } })"#,
+        ),
+    ),
+    (
+        "TRIGGER g AFTER UPDATE OR DELETE ON t FOR EACH ROW DISABLE BEGIN NULL; END g;",
+        Some(
+            r#"Trigger(Trigger { name: "G", timing: After, events: [Update, Delete], on: "T", crossedition: None, enabled: false, body: Block { declarations: [], statements: [Null], handlers: [] } })"#,
+        ),
+    ),
+    (
+        "TRIGGER g BEFORE DELETE OR INSERT OR UPDATE ON t FOR EACH ROW FORWARD CROSSEDITION BEGIN NULL; END;",
+        Some(
+            r#"Trigger(Trigger { name: "G", timing: Before, events: [Delete, Insert, Update], on: "T", crossedition: Some(Forward), enabled: true, body: Block { declarations: [], statements: [Null], handlers: [] } })"#,
+        ),
+    ),
+    (
+        "TRIGGER g BEFORE UPDATE ON t FOR EACH ROW REVERSE CROSSEDITION DISABLE BEGIN NULL; END;",
+        Some(
+            r#"Trigger(Trigger { name: "G", timing: Before, events: [Update], on: "T", crossedition: Some(Reverse), enabled: false, body: Block { declarations: [], statements: [Null], handlers: [] } })"#,
+        ),
+    ),
+    (
+        "TRIGGER g AFTER DELETE ON t FOR EACH ROW ENABLE DECLARE BEGIN NULL; END;",
+        Some(
+            r#"Trigger(Trigger { name: "G", timing: After, events: [Delete], on: "T", crossedition: None, enabled: true, body: Block { declarations: [], statements: [Null], handlers: [] } })"#,
+        ),
+    ),
+    (
+        "TRIGGER before BEFORE INSERT ON t FOR EACH ROW DECLARE x EXCEPTION; BEGIN NULL; END;",
+        Some(
+            r#"Trigger(Trigger { name: "BEFORE", timing: Before, events: [Insert], on: "T", crossedition: None, enabled: true, body: Block { declarations: [Exception("X")], statements: [Null], handlers: [] } })"#,
+        ),
+    ),
+    (
+        "TRIGGER g AFTER INSERT ON t FOR EACH ROW BEGIN NULL; END;",
+        Some(
+            r#"Trigger(Trigger { name: "G", timing: After, events: [Insert], on: "T", crossedition: None, enabled: true, body: Block { declarations: [], statements: [Null], handlers: [] } })"#,
+        ),
+    ),
+    // Views, blocks and calls.
+    (
+        "EDITIONING VIEW v AS SELECT a FROM t",
+        Some(
+            r#"View(EditioningView { name: "V", names: [], items: [ViewItem { column: "A", alias: None }], table: "T" })"#,
+        ),
+    ),
+    (
+        "DECLARE x EXCEPTION; BEGIN NULL; EXCEPTION WHEN OTHERS THEN NULL; END b;",
+        Some(
+            r#"Block(Block { declarations: [Exception("X")], statements: [Null], handlers: [Handler { caught: Others, statements: [Null] }] })"#,
+        ),
+    ),
+    (
+        "CALL p()",
+        Some(
+            r#"Block(Block { declarations: [], statements: [Call(Path { name: "P", member: None }, Some([]))], handlers: [] })"#,
+        ),
+    ),
+    (
+        "CALL p.q(1, NULL)",
+        Some(
+            r#"Block(Block { declarations: [], statements: [Call(Path { name: "P", member: Some("Q") }, Some([Number(1), Null]))], handlers: [] })"#,
+        ),
+    ),
+    (
+        "BEGIN NULL; END;",
+        Some("Block(Block { declarations: [], statements: [Null], handlers: [] })"),
+    ),
+    (
+        "DECLARE x EXCEPTION; BEGIN NULL; END b;",
+        Some(
+            r#"Block(Block { declarations: [Exception("X")], statements: [Null], handlers: [] })"#,
+        ),
+    ),
+    (
+        "CALL p.q(1)",
+        Some(
+            r#"Block(Block { declarations: [], statements: [Call(Path { name: "P", member: Some("Q") }, Some([Number(1)]))], handlers: [] })"#,
+        ),
+    ),
+    // No units.
+    ("", None),
+    ("PROCEDURE IS BEGIN NULL; END;", None),
+    ("PROCEDURE p BEGIN NULL; END;", None),
+    ("PROCEDURE p; IS BEGIN NULL; END;", None),
+    ("PROCEDURE p() IS BEGIN NULL; END;", None),
+    ("PROCEDURE p(a) IS BEGIN NULL; END;", None),
+    ("PROCEDURE p(a NUMBER IS BEGIN NULL; END;", None),
+    ("PROCEDURE p(a NUMBER,) IS BEGIN NULL; END;", None),
+    ("PROCEDURE p(a NUMBER b NUMBER) IS BEGIN NULL; END;", None),
+    ("PROCEDURE p(a NUMBER(3)) IS BEGIN NULL; END;", None),
+    ("PROCEDURE p(a VARCHAR2(3)) IS BEGIN NULL; END;", None),
+    ("PROCEDURE p(a OUT) IS BEGIN NULL; END;", None),
+    ("PROCEDURE p(a OUT IN NUMBER) IS BEGIN NULL; END;", None),
+    ("PROCEDURE p(a OUT.c) IS BEGIN NULL; END;", None),
+    ("PROCEDURE p(a IN OUT.c%ROWTYPE) IS BEGIN NULL; END;", None),
+    ("PROCEDURE p(a NUMBER DEFAULT 1) IS BEGIN NULL; END;", None),
+    ("PROCEDURE p IS BEGIN NULL; END", None),
+    ("PROCEDURE p IS BEGIN NULL; END; ;", None),
+    ("PROCEDURE p IS NULL; END;", None),
+    ("PROCEDURE p RETURN NUMBER IS BEGIN NULL; END;", None),
+    ("FUNCTION f IS BEGIN NULL; END;", None),
+    ("FUNCTION f RETURN IS BEGIN NULL; END;", None),
+    ("FUNCTION f RETURN NUMBER(3) IS BEGIN NULL; END;", None),
+    ("PACKAGE p", None),
+    ("PACKAGE p IS", None),
+    ("PACKAGE p END;", None),
+    ("PACKAGE p IS END", None),
+    ("PACKAGE p IS END p q;", None),
+    ("PACKAGE p IS END; END;", None),
+    ("PACKAGE p IS PROCEDURE q END;", None),
+    ("PACKAGE p IS PROCEDURE q IS BEGIN NULL; END; END;", None),
+    ("PACKAGE p IS BEGIN NULL; END;", None),
+    ("PACKAGE BODY END;", None),
+    ("PACKAGE BODY p END;", None),
+    ("PACKAGE BODY p IS PROCEDURE q; END;", None),
+    (
+        "PACKAGE BODY p IS PROCEDURE q IS BEGIN NULL; END; x EXCEPTION; END;",
+        None,
+    ),
+    ("PACKAGE BODY p IS BEGIN END;", None),
+    ("PACKAGE BODY p IS BEGIN NULL; END; BEGIN NULL; END;", None),
+    ("TRIGGER g INSERT ON t FOR EACH ROW BEGIN NULL; END;", None),
+    ("TRIGGER g BEFORE ON t FOR EACH ROW BEGIN NULL; END;", None),
+    (
+        "TRIGGER g BEFORE AFTER INSERT ON t FOR EACH ROW BEGIN NULL; END;",
+        None,
+    ),
+    (
+        "TRIGGER g BEFORE INSERT, UPDATE ON t FOR EACH ROW BEGIN NULL; END;",
+        None,
+    ),
+    (
+        "TRIGGER g BEFORE INSERT OR ON t FOR EACH ROW BEGIN NULL; END;",
+        None,
+    ),
+    (
+        "TRIGGER g BEFORE INSERT FOR EACH ROW BEGIN NULL; END;",
+        None,
+    ),
+    ("TRIGGER g BEFORE INSERT ON t BEGIN NULL; END;", None),
+    (
+        "TRIGGER g BEFORE INSERT ON t FOR EACH BEGIN NULL; END;",
+        None,
+    ),
+    (
+        "TRIGGER g BEFORE INSERT ON t FOR EACH ROW FORWARD BEGIN NULL; END;",
+        None,
+    ),
+    (
+        "TRIGGER g BEFORE INSERT ON t FOR EACH ROW CROSSEDITION BEGIN NULL; END;",
+        None,
+    ),
+    (
+        "TRIGGER g BEFORE INSERT ON t FOR EACH ROW DISABLE FORWARD CROSSEDITION BEGIN NULL; END;",
+        None,
+    ),
+    (
+        "TRIGGER g BEFORE INSERT ON t FOR EACH ROW ENABLE DISABLE BEGIN NULL; END;",
+        None,
+    ),
+    ("TRIGGER g BEFORE INSERT ON t FOR EACH ROW CALL p()", None),
+    (
+        "TRIGGER g BEFORE INSERT ON t FOR EACH ROW IS BEGIN NULL; END;",
+        None,
+    ),
+    ("VIEW v AS SELECT a FROM t", None),
+    ("EDITIONING VIEW v AS SELECT * FROM t", None),
+    ("CALL p", None),
+    ("CALL p.q", None),
+    ("CALL p(1);", None),
+    ("CALL p(1,)", None),
+    ("CALL p.q.r()", None),
+    ("BEGIN NULL; END", None),
+    ("BEGIN END;", None),
+    ("DECLARE NULL; END;", None),
+    ("CREATE PROCEDURE p IS BEGIN NULL; END;", None),
+];
 
 #[test]
-fn subprograms_have_their_trees(rt: HostRuntime) -> Result<(), Fail> {
-    let alloc = rt.alloc();
+fn units_have_their_trees(rt: HostRuntime) -> Result<(), Fail> {
     one_tree();
-    for at in 0..6 {
-        let (text, trees) = subprograms(alloc, at)?;
-        assert!(rt; units_of(&rt, alloc, text)? == trees, "{text:?}");
-    }
-    Ok(())
+    all_spell(&rt, rt.alloc(), By::Unit, &UNITS)
 }
 
-/// Packages and their bodies, with their trees.
-fn packages(alloc: Global, at: usize) -> Result<(&'static [u8], List<UnitTree>), NoMemory> {
-    match at {
-        0 => Ok((
-            b"PACKAGE p IS END;",
-            package(alloc, b"P", List::new(alloc))?,
-        )),
-        1 => Ok((
-            b"PACKAGE p AS x EXCEPTION; PROCEDURE q; FUNCTION f RETURN NUMBER; PRAGMA EXCEPTION_INIT(x, -7); END p;",
-            package(alloc, b"P", four_items(alloc)?)?,
-        )),
-        2 => Ok((
-            b"PACKAGE body IS END body;",
-            package(alloc, b"BODY", List::new(alloc))?,
-        )),
-        3 => Ok((
-            b"PACKAGE body AS END;",
-            package(alloc, b"BODY", List::new(alloc))?,
-        )),
-        4 => Ok((b"PACKAGE BODY p IS END;", empty_body(alloc, b"P")?)),
-        5 => Ok((
-            b"PACKAGE BODY body AS END body;",
-            empty_body(alloc, b"BODY")?,
-        )),
-        6 => Ok((
-            b"PACKAGE BODY p IS x EXCEPTION; PROCEDURE q IS BEGIN NULL; END; FUNCTION f RETURN NUMBER AS BEGIN NULL; END; END p;",
-            full_body(alloc)?,
-        )),
-        _ => Ok((
-            b"PACKAGE BODY p IS BEGIN NULL; EXCEPTION WHEN OTHERS THEN NULL; END;",
-            body_with_initial(alloc)?,
-        )),
-    }
-}
-
-#[test]
-fn packages_have_their_trees(rt: HostRuntime) -> Result<(), Fail> {
-    let alloc = rt.alloc();
-    for at in 0..8 {
-        let (text, trees) = packages(alloc, at)?;
-        assert!(rt; units_of(&rt, alloc, text)? == trees, "{text:?}");
-    }
-    Ok(())
-}
-
-/// Views, blocks and calls, with their trees.
-fn others(alloc: Global, at: usize) -> Result<(&'static [u8], List<UnitTree>), NoMemory> {
-    match at {
-        0 => Ok((b"EDITIONING VIEW v AS SELECT a FROM t", view(alloc)?)),
-        1 => Ok((
-            b"DECLARE x EXCEPTION; BEGIN NULL; EXCEPTION WHEN OTHERS THEN NULL; END b;",
-            full_block(alloc)?,
-        )),
-        2 => Ok((b"CALL p()", short_call(alloc)?)),
-        _ => Ok((b"CALL p.q(1, NULL)", long_call(alloc)?)),
-    }
-}
-
-#[test]
-fn views_and_blocks_have_their_trees(rt: HostRuntime) -> Result<(), Fail> {
-    let alloc = rt.alloc();
-    for at in 0..4 {
-        let (text, trees) = others(alloc, at)?;
-        assert!(rt; units_of(&rt, alloc, text)? == trees, "{text:?}");
-    }
-    Ok(())
-}
-
-/// A procedure with one parameter: its text, and the parameter's name, mode and type.
-type Row = (&'static [u8], &'static [u8], Option<Mode>, Type);
-
-fn parameter_row(at: usize) -> Row {
-    match at {
-        0 => (
-            b"PROCEDURE p(a NUMBER) IS BEGIN NULL; END;",
-            b"A",
-            None,
-            Type::Number,
+/// Creations of units, and what is none.
+static CREATIONS: [Row; 17] = [
+    (
+        "CREATE PROCEDURE p IS BEGIN NULL; END;",
+        Some(
+            r#"CreateObject { replace: false, unit: Subprogram(Subprogram { head: Head { name: "P", parameters: [], result: None }, body: Block { declarations: [], statements: [Null], handlers: [] } }) }"#,
         ),
-        1 => (
-            b"PROCEDURE p(a IN NUMBER) IS BEGIN NULL; END;",
-            b"A",
-            Some(Mode::In),
-            Type::Number,
+    ),
+    (
+        "CREATE OR REPLACE FUNCTION f RETURN NUMBER IS BEGIN NULL; END;",
+        Some(
+            r#"CreateObject { replace: true, unit: Subprogram(Subprogram { head: Head { name: "F", parameters: [], result: Some(Number) }, body: Block { declarations: [], statements: [Null], handlers: [] } }) }"#,
         ),
-        2 => (
-            b"PROCEDURE p(a OUT INTEGER) IS BEGIN NULL; END;",
-            b"A",
-            Some(Mode::Out),
-            Type::Integer,
+    ),
+    (
+        "CREATE EDITIONABLE PACKAGE p IS END;",
+        Some(r#"CreateObject { replace: false, unit: Package("P", []) }"#),
+    ),
+    (
+        "CREATE OR REPLACE EDITIONABLE PACKAGE BODY p IS END;",
+        Some(
+            r#"CreateObject { replace: true, unit: PackageBody(PackageBody { name: "P", declarations: [], subprograms: [], statements: [], handlers: [] }) }"#,
         ),
-        3 => (
-            b"PROCEDURE p(a IN OUT VARCHAR2) IS BEGIN NULL; END;",
-            b"A",
-            Some(Mode::InOut),
-            Type::Varchar2,
+    ),
+    (
+        "CREATE TRIGGER g AFTER INSERT ON t FOR EACH ROW BEGIN NULL; END;",
+        Some(
+            r#"CreateObject { replace: false, unit: Trigger(Trigger { name: "G", timing: After, events: [Insert], on: "T", crossedition: None, enabled: true, body: Block { declarations: [], statements: [Null], handlers: [] } }) }"#,
         ),
-        4 => (
-            b"PROCEDURE p(a BOOLEAN) IS BEGIN NULL; END;",
-            b"A",
-            None,
-            Type::Boolean,
+    ),
+    (
+        "CREATE OR REPLACE EDITIONING VIEW v AS SELECT a FROM t",
+        Some(
+            r#"CreateObject { replace: true, unit: View(EditioningView { name: "V", names: [], items: [ViewItem { column: "A", alias: None }], table: "T" }) }"#,
         ),
-        5 => (
-            b"PROCEDURE p(a t.c%TYPE) IS BEGIN NULL; END;",
-            b"A",
-            None,
-            Type::Of(b"T", b"C"),
-        ),
-        6 => (
-            b"PROCEDURE p(a IN t.c%TYPE) IS BEGIN NULL; END;",
-            b"A",
-            Some(Mode::In),
-            Type::Of(b"T", b"C"),
-        ),
-        7 => (
-            b"PROCEDURE p(a OUT t.c%TYPE) IS BEGIN NULL; END;",
-            b"A",
-            Some(Mode::Out),
-            Type::Of(b"T", b"C"),
-        ),
-        8 => (
-            b"PROCEDURE p(a OUT.c%TYPE) IS BEGIN NULL; END;",
-            b"A",
-            None,
-            Type::Of(b"OUT", b"C"),
-        ),
-        9 => (
-            b"PROCEDURE p(a IN OUT.c%TYPE) IS BEGIN NULL; END;",
-            b"A",
-            Some(Mode::In),
-            Type::Of(b"OUT", b"C"),
-        ),
-        10 => (
-            b"PROCEDURE p(a OUT OUT.c%TYPE) IS BEGIN NULL; END;",
-            b"A",
-            Some(Mode::Out),
-            Type::Of(b"OUT", b"C"),
-        ),
-        11 => (
-            b"PROCEDURE p(a IN OUT OUT.c%TYPE) IS BEGIN NULL; END;",
-            b"A",
-            Some(Mode::InOut),
-            Type::Of(b"OUT", b"C"),
-        ),
-        12 => (
-            b"PROCEDURE p(out OUT NUMBER) IS BEGIN NULL; END;",
-            b"OUT",
-            Some(Mode::Out),
-            Type::Number,
-        ),
-        13 => (
-            b"PROCEDURE p(out NUMBER) IS BEGIN NULL; END;",
-            b"OUT",
-            None,
-            Type::Number,
-        ),
-        14 => (
-            b"PROCEDURE p(a NUMBER.c%TYPE) IS BEGIN NULL; END;",
-            b"A",
-            None,
-            Type::Of(b"NUMBER", b"C"),
-        ),
-        15 => (
-            b"PROCEDURE p(a IN INTEGER.c%TYPE) IS BEGIN NULL; END;",
-            b"A",
-            Some(Mode::In),
-            Type::Of(b"INTEGER", b"C"),
-        ),
-        16 => (
-            b"PROCEDURE p(a OUT VARCHAR2.c%TYPE) IS BEGIN NULL; END;",
-            b"A",
-            Some(Mode::Out),
-            Type::Of(b"VARCHAR2", b"C"),
-        ),
-        _ => (
-            b"PROCEDURE p(a IN OUT BOOLEAN.type%TYPE) IS BEGIN NULL; END;",
-            b"A",
-            Some(Mode::InOut),
-            Type::Of(b"BOOLEAN", b"TYPE"),
-        ),
-    }
-}
-
-#[test]
-fn out_is_a_mode_or_names_a_table(rt: HostRuntime) -> Result<(), Fail> {
-    let alloc = rt.alloc();
-    for at in 0..18 {
-        let (text, bytes, mode, ty) = parameter_row(at);
-        let parameters = one_parameter(alloc, bytes, mode, ty)?;
-        let trees = procedure(alloc, parameters)?;
-        assert!(rt; units_of(&rt, alloc, text)? == trees, "{text:?}");
-    }
-    Ok(())
-}
-
-fn trigger_row(at: usize) -> (&'static [u8], Fires) {
-    match at {
-        0 => (
-            b"TRIGGER g BEFORE INSERT ON t FOR EACH ROW BEGIN NULL; END;",
-            (Timing::Before, &[Op::Insert], None, true),
-        ),
-        1 => (
-            b"TRIGGER g AFTER UPDATE OR DELETE ON t FOR EACH ROW DISABLE BEGIN NULL; END g;",
-            (Timing::After, &[Op::Update, Op::Delete], None, false),
-        ),
-        2 => (
-            b"TRIGGER g BEFORE DELETE OR INSERT OR UPDATE ON t FOR EACH ROW FORWARD CROSSEDITION BEGIN NULL; END;",
-            (
-                Timing::Before,
-                &[Op::Delete, Op::Insert, Op::Update],
-                Some(Direction::Forward),
-                true,
-            ),
-        ),
-        3 => (
-            b"TRIGGER g BEFORE UPDATE ON t FOR EACH ROW REVERSE CROSSEDITION DISABLE BEGIN NULL; END;",
-            (
-                Timing::Before,
-                &[Op::Update],
-                Some(Direction::Reverse),
-                false,
-            ),
-        ),
-        _ => (
-            b"TRIGGER g AFTER DELETE ON t FOR EACH ROW ENABLE DECLARE BEGIN NULL; END;",
-            (Timing::After, &[Op::Delete], None, true),
-        ),
-    }
-}
-
-#[test]
-fn triggers_have_their_trees(rt: HostRuntime) -> Result<(), Fail> {
-    let alloc = rt.alloc();
-    for at in 0..5 {
-        let (text, fires) = trigger_row(at);
-        let trees = plain_trigger(alloc, fires)?;
-        assert!(rt; units_of(&rt, alloc, text)? == trees, "{text:?}");
-    }
-    Ok(())
-}
-
-#[test]
-fn a_trigger_has_a_name_and_a_block_with_declarations(rt: HostRuntime) -> Result<(), Fail> {
-    let alloc = rt.alloc();
-    let text =
-        b"TRIGGER before BEFORE INSERT ON t FOR EACH ROW DECLARE x EXCEPTION; BEGIN NULL; END;";
-    let body = block_with(alloc, declared(alloc)?)?;
-    let fires: Fires = (Timing::Before, &[Op::Insert], None, true);
-    let trees = trigger(alloc, b"BEFORE", fires, body)?;
-    assert!(rt; units_of(&rt, alloc, text)? == trees);
-    Ok(())
-}
-
-/// The tree of a text is this unit.
-fn is_unit(rt: &impl Abort, alloc: Global, unit: &UnitTree, text: &[u8]) -> Result<bool, NoMemory> {
-    match units_of(rt, alloc, text)?.get(0) {
-        Some(other) => Ok(*other == *unit),
-        None => Ok(false),
-    }
-}
-
-/// The text creates, by OR REPLACE or not, the unit of the other text.
-fn creates(rt: &impl Abort, alloc: Global, row: Creation) -> Result<bool, NoMemory> {
-    let (text, by_replacing, unit_text) = row;
-    match created_of(rt, alloc, text)?.get(0) {
-        Some(Definition::CreateObject { replace, unit }) => {
-            Ok(*replace == by_replacing && is_unit(rt, alloc, unit, unit_text)?)
-        }
-        _ => Ok(false),
-    }
-}
-
-/// A text that creates a unit, whether it replaces, and the unit's own text.
-type Creation = (&'static [u8], bool, &'static [u8]);
+    ),
+    // No creations.
+    ("PROCEDURE p IS BEGIN NULL; END;", None),
+    ("OR REPLACE PROCEDURE p IS BEGIN NULL; END;", None),
+    ("CREATE", None),
+    ("CREATE OR PROCEDURE p IS BEGIN NULL; END;", None),
+    ("CREATE REPLACE PROCEDURE p IS BEGIN NULL; END;", None),
+    (
+        "CREATE EDITIONABLE OR REPLACE PROCEDURE p IS BEGIN NULL; END;",
+        None,
+    ),
+    ("CREATE OR REPLACE BEGIN NULL; END;", None),
+    ("CREATE CALL p()", None),
+    ("CREATE PROCEDURE p IS BEGIN NULL; END; ;", None),
+    ("CREATE TABLE t (a INTEGER)", None),
+    ("CREATE EDITION e", None),
+];
 
 #[test]
 fn creations_have_their_units(rt: HostRuntime) -> Result<(), Fail> {
-    let alloc = rt.alloc();
-    let rows: &[Creation] = &[
-        (
-            b"CREATE PROCEDURE p IS BEGIN NULL; END;",
-            false,
-            b"PROCEDURE p IS BEGIN NULL; END;",
-        ),
-        (
-            b"CREATE OR REPLACE FUNCTION f RETURN NUMBER IS BEGIN NULL; END;",
-            true,
-            b"FUNCTION f RETURN NUMBER IS BEGIN NULL; END;",
-        ),
-        (
-            b"CREATE EDITIONABLE PACKAGE p IS END;",
-            false,
-            b"PACKAGE p IS END;",
-        ),
-        (
-            b"CREATE OR REPLACE EDITIONABLE PACKAGE BODY p IS END;",
-            true,
-            b"PACKAGE BODY p IS END;",
-        ),
-        (
-            b"CREATE TRIGGER g AFTER INSERT ON t FOR EACH ROW BEGIN NULL; END;",
-            false,
-            b"TRIGGER g AFTER INSERT ON t FOR EACH ROW BEGIN NULL; END;",
-        ),
-        (
-            b"CREATE OR REPLACE EDITIONING VIEW v AS SELECT a FROM t",
-            true,
-            b"EDITIONING VIEW v AS SELECT a FROM t",
-        ),
-    ];
-    for row in rows {
-        assert!(rt; creates(&rt, alloc, *row)?, "{:?}", row.0);
-    }
-    Ok(())
+    all_spell(&rt, rt.alloc(), By::Creation, &CREATIONS)
 }
 
-/// The text spells a block, and the unit that is this block.
-fn is_block(rt: &impl Abort, alloc: Global, text: &[u8]) -> Result<bool, NoMemory> {
-    let units = units_of(rt, alloc, text)?;
-    let blocks = blocks_of(rt, alloc, text)?;
-    match (units.get(0), blocks.get(0)) {
-        (Some(UnitTree::Block(unit)), Some(block)) => Ok(*unit == *block),
-        _ => Ok(false),
-    }
-}
+/// Blocks and what a CALL means, and what is none.
+static BLOCKS: [Row; 8] = [
+    (
+        "BEGIN NULL; END;",
+        Some("Block { declarations: [], statements: [Null], handlers: [] }"),
+    ),
+    (
+        "DECLARE x EXCEPTION; BEGIN NULL; END b;",
+        Some(r#"Block { declarations: [Exception("X")], statements: [Null], handlers: [] }"#),
+    ),
+    (
+        "CALL p.q(1)",
+        Some(
+            r#"Block { declarations: [], statements: [Call(Path { name: "P", member: Some("Q") }, Some([Number(1)]))], handlers: [] }"#,
+        ),
+    ),
+    // No blocks.
+    ("PROCEDURE p IS BEGIN NULL; END;", None),
+    ("BEGIN NULL; END; BEGIN NULL; END;", None),
+    ("CALL p", None),
+    ("CALL p() ;", None),
+    ("DECLARE x EXCEPTION; END;", None),
+];
 
 #[test]
 fn a_block_is_the_block_of_its_unit(rt: HostRuntime) -> Result<(), Fail> {
-    let alloc = rt.alloc();
-    let rows: &[&[u8]] = &[
-        b"BEGIN NULL; END;",
-        b"DECLARE x EXCEPTION; BEGIN NULL; END b;",
-        b"CALL p.q(1)",
-    ];
-    for text in rows {
-        assert!(rt; is_block(&rt, alloc, text)?, "{text:?}");
-    }
-    Ok(())
-}
-
-#[test]
-fn texts_that_almost_spell_a_unit_give_none(rt: HostRuntime) -> Result<(), Fail> {
-    let alloc = rt.alloc();
-    let rows: &[&[u8]] = &[
-        b"",
-        b"PROCEDURE IS BEGIN NULL; END;",
-        b"PROCEDURE p BEGIN NULL; END;",
-        b"PROCEDURE p; IS BEGIN NULL; END;",
-        b"PROCEDURE p() IS BEGIN NULL; END;",
-        b"PROCEDURE p(a) IS BEGIN NULL; END;",
-        b"PROCEDURE p(a NUMBER IS BEGIN NULL; END;",
-        b"PROCEDURE p(a NUMBER,) IS BEGIN NULL; END;",
-        b"PROCEDURE p(a NUMBER b NUMBER) IS BEGIN NULL; END;",
-        b"PROCEDURE p(a NUMBER(3)) IS BEGIN NULL; END;",
-        b"PROCEDURE p(a VARCHAR2(3)) IS BEGIN NULL; END;",
-        b"PROCEDURE p(a OUT) IS BEGIN NULL; END;",
-        b"PROCEDURE p(a OUT IN NUMBER) IS BEGIN NULL; END;",
-        b"PROCEDURE p(a OUT.c) IS BEGIN NULL; END;",
-        b"PROCEDURE p(a IN OUT.c%ROWTYPE) IS BEGIN NULL; END;",
-        b"PROCEDURE p(a NUMBER DEFAULT 1) IS BEGIN NULL; END;",
-        b"PROCEDURE p IS BEGIN NULL; END",
-        b"PROCEDURE p IS BEGIN NULL; END; ;",
-        b"PROCEDURE p IS NULL; END;",
-        b"PROCEDURE p RETURN NUMBER IS BEGIN NULL; END;",
-        b"FUNCTION f IS BEGIN NULL; END;",
-        b"FUNCTION f RETURN IS BEGIN NULL; END;",
-        b"FUNCTION f RETURN NUMBER(3) IS BEGIN NULL; END;",
-        b"PACKAGE p",
-        b"PACKAGE p IS",
-        b"PACKAGE p END;",
-        b"PACKAGE p IS END",
-        b"PACKAGE p IS END p q;",
-        b"PACKAGE p IS END; END;",
-        b"PACKAGE p IS PROCEDURE q END;",
-        b"PACKAGE p IS PROCEDURE q IS BEGIN NULL; END; END;",
-        b"PACKAGE p IS BEGIN NULL; END;",
-        b"PACKAGE BODY END;",
-        b"PACKAGE BODY p END;",
-        b"PACKAGE BODY p IS PROCEDURE q; END;",
-        b"PACKAGE BODY p IS PROCEDURE q IS BEGIN NULL; END; x EXCEPTION; END;",
-        b"PACKAGE BODY p IS BEGIN END;",
-        b"PACKAGE BODY p IS BEGIN NULL; END; BEGIN NULL; END;",
-        b"TRIGGER g INSERT ON t FOR EACH ROW BEGIN NULL; END;",
-        b"TRIGGER g BEFORE ON t FOR EACH ROW BEGIN NULL; END;",
-        b"TRIGGER g BEFORE AFTER INSERT ON t FOR EACH ROW BEGIN NULL; END;",
-        b"TRIGGER g BEFORE INSERT, UPDATE ON t FOR EACH ROW BEGIN NULL; END;",
-        b"TRIGGER g BEFORE INSERT OR ON t FOR EACH ROW BEGIN NULL; END;",
-        b"TRIGGER g BEFORE INSERT FOR EACH ROW BEGIN NULL; END;",
-        b"TRIGGER g BEFORE INSERT ON t BEGIN NULL; END;",
-        b"TRIGGER g BEFORE INSERT ON t FOR EACH BEGIN NULL; END;",
-        b"TRIGGER g BEFORE INSERT ON t FOR EACH ROW FORWARD BEGIN NULL; END;",
-        b"TRIGGER g BEFORE INSERT ON t FOR EACH ROW CROSSEDITION BEGIN NULL; END;",
-        b"TRIGGER g BEFORE INSERT ON t FOR EACH ROW DISABLE FORWARD CROSSEDITION BEGIN NULL; END;",
-        b"TRIGGER g BEFORE INSERT ON t FOR EACH ROW ENABLE DISABLE BEGIN NULL; END;",
-        b"TRIGGER g BEFORE INSERT ON t FOR EACH ROW CALL p()",
-        b"TRIGGER g BEFORE INSERT ON t FOR EACH ROW IS BEGIN NULL; END;",
-        b"VIEW v AS SELECT a FROM t",
-        b"EDITIONING VIEW v AS SELECT * FROM t",
-        b"CALL p",
-        b"CALL p.q",
-        b"CALL p(1);",
-        b"CALL p(1,)",
-        b"CALL p.q.r()",
-        b"BEGIN NULL; END",
-        b"BEGIN END;",
-        b"DECLARE NULL; END;",
-        b"CREATE PROCEDURE p IS BEGIN NULL; END;",
-    ];
-    for text in rows {
-        let text: &[u8] = text;
-        assert!(rt; units_of(&rt, alloc, text)?.is_empty(), "{text:?}");
-    }
-    Ok(())
-}
-
-#[test]
-fn texts_that_almost_spell_a_creation_give_none(rt: HostRuntime) -> Result<(), Fail> {
-    let alloc = rt.alloc();
-    let rows: &[&[u8]] = &[
-        b"PROCEDURE p IS BEGIN NULL; END;",
-        b"OR REPLACE PROCEDURE p IS BEGIN NULL; END;",
-        b"CREATE",
-        b"CREATE OR PROCEDURE p IS BEGIN NULL; END;",
-        b"CREATE REPLACE PROCEDURE p IS BEGIN NULL; END;",
-        b"CREATE EDITIONABLE OR REPLACE PROCEDURE p IS BEGIN NULL; END;",
-        b"CREATE OR REPLACE BEGIN NULL; END;",
-        b"CREATE CALL p()",
-        b"CREATE PROCEDURE p IS BEGIN NULL; END; ;",
-        b"CREATE TABLE t (a INTEGER)",
-        b"CREATE EDITION e",
-    ];
-    for text in rows {
-        let text: &[u8] = text;
-        assert!(rt; created_of(&rt, alloc, text)?.is_empty(), "{text:?}");
-    }
-    Ok(())
-}
-
-#[test]
-fn texts_that_almost_spell_a_block_give_none(rt: HostRuntime) -> Result<(), Fail> {
-    let alloc = rt.alloc();
-    let rows: &[&[u8]] = &[
-        b"PROCEDURE p IS BEGIN NULL; END;",
-        b"BEGIN NULL; END; BEGIN NULL; END;",
-        b"CALL p",
-        b"CALL p() ;",
-        b"DECLARE x EXCEPTION; END;",
-    ];
-    for text in rows {
-        let text: &[u8] = text;
-        assert!(rt; blocks_of(&rt, alloc, text)?.is_empty(), "{text:?}");
-    }
-    Ok(())
+    all_spell(&rt, rt.alloc(), By::BlockOrCall, &BLOCKS)
 }

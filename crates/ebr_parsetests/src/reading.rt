@@ -1,0 +1,201 @@
+//! What texts are read as. Trees are compared as they are printed.
+
+use ebr_base::{List, MAX_COUNT, NoMemory};
+use ebr_ddlparse::{definition, read_editioning_view, read_type};
+use ebr_exprparse::{expr, read_expression};
+use ebr_grammar::{ReadStop, Tokens};
+use ebr_lexer::{LexStop, Token, lex};
+use ebr_plparse::{block, created, unit};
+use ebr_simpleparse::{read_caught, read_heading, read_simple};
+use ebr_sqlparse::{session, sql, transaction};
+use ebr_stmtparse::{read_block, read_body, read_call, read_declaration, read_initial};
+use std::alloc::Global;
+use std::fmt::Debug;
+use std::process::Abort;
+use std::test::Fail;
+
+/// A text, and the tree that it spells as it is printed; None where it spells none.
+pub type Row = (&'static str, Option<&'static str>);
+
+/// What a text is read as: all of it, or what stands first in it, printed with a number of tokens.
+#[derive(Clone, Copy)]
+pub enum By {
+    Expression,
+    /// With the number of its tokens.
+    FirstExpression,
+    Definition,
+    /// With the number of the tokens behind it.
+    FirstType,
+    /// With the number of the tokens behind it.
+    FirstView,
+    Sql,
+    Transaction,
+    Session,
+    Declaration,
+    Simple,
+    Heading,
+    Call,
+    Caught,
+    Block,
+    Body,
+    Initial,
+    Unit,
+    Creation,
+    BlockOrCall,
+}
+
+/// The tokens of a short text; where it has none, the test fails with want of memory.
+fn tokens_of(alloc: Global, text: &str) -> Result<List<Token>, NoMemory> {
+    if text.len() >= MAX_COUNT {
+        return Err(NoMemory);
+    }
+    match lex(alloc, text.as_bytes()) {
+        Ok(tokens) => Ok(tokens),
+        Err(LexStop::NoMemory) | Err(LexStop::Fault { .. }) => Err(NoMemory),
+    }
+}
+
+fn text_of<T: Debug>(alloc: Global, tree: &T) -> Result<Option<String>, NoMemory> {
+    Ok(Some(format!(in alloc; "{tree:?}")?))
+}
+
+/// The tree that was found.
+fn found<T: Debug + Drop>(
+    alloc: Global,
+    tree: Result<Option<T>, NoMemory>,
+) -> Result<Option<String>, NoMemory> {
+    match tree {
+        Ok(Some(tree)) => text_of(alloc, &tree),
+        Ok(None) => Ok(None),
+        Err(NoMemory) => Err(NoMemory),
+    }
+}
+
+/// The tree that was read, where no token is left.
+fn whole<T: Debug + Drop>(
+    alloc: Global,
+    read: Result<T, ReadStop>,
+    left: usize,
+) -> Result<Option<String>, NoMemory> {
+    match read {
+        Ok(tree) => {
+            if left == 0 {
+                text_of(alloc, &tree)
+            } else {
+                Ok(None)
+            }
+        }
+        Err(ReadStop::NoTree) => Ok(None),
+        Err(ReadStop::NoMemory) => Err(NoMemory),
+    }
+}
+
+/// The tree that was read, with the number of the tokens behind it.
+fn first<T: Debug + Drop>(
+    alloc: Global,
+    read: Result<T, ReadStop>,
+    left: usize,
+) -> Result<Option<String>, NoMemory> {
+    match read {
+        Ok(tree) => text_of(alloc, &(tree, left)),
+        Err(ReadStop::NoTree) => Ok(None),
+        Err(ReadStop::NoMemory) => Err(NoMemory),
+    }
+}
+
+fn first_expression(alloc: Global, tokens: &[Token]) -> Result<Option<String>, NoMemory> {
+    if tokens.len() >= MAX_COUNT {
+        return Err(NoMemory);
+    }
+    found(alloc, expr(alloc, tokens, 0))
+}
+
+/// The tree that the text spells.
+fn tree_of(alloc: Global, by: By, text: &str) -> Result<Option<String>, NoMemory> {
+    let list = tokens_of(alloc, text)?;
+    let all = list.as_slice();
+    let mut tokens = Tokens::new(all);
+    match by {
+        By::Expression => {
+            let read = read_expression(alloc, &mut tokens);
+            whole(alloc, read, tokens.left())
+        }
+        By::FirstExpression => first_expression(alloc, all),
+        By::Definition => found(alloc, definition(alloc, all)),
+        By::FirstType => {
+            let read = read_type(alloc, &mut tokens);
+            first(alloc, read, tokens.left())
+        }
+        By::FirstView => {
+            let read = read_editioning_view(alloc, &mut tokens);
+            first(alloc, read, tokens.left())
+        }
+        By::Sql => found(alloc, sql(alloc, all)),
+        By::Transaction => found(alloc, transaction(alloc, all)),
+        By::Session => found(alloc, session(alloc, all)),
+        By::Declaration => {
+            let read = read_declaration(alloc, &mut tokens);
+            whole(alloc, read, tokens.left())
+        }
+        By::Simple => {
+            let read = read_simple(alloc, &mut tokens);
+            whole(alloc, read, tokens.left())
+        }
+        By::Heading => {
+            let read = read_heading(alloc, &mut tokens);
+            whole(alloc, read, tokens.left())
+        }
+        By::Call => {
+            let read = read_call(alloc, &mut tokens);
+            whole(alloc, read, tokens.left())
+        }
+        By::Caught => {
+            let read = read_caught(alloc, &mut tokens);
+            whole(alloc, read, tokens.left())
+        }
+        By::Block => {
+            let read = read_block(alloc, &mut tokens);
+            whole(alloc, read, tokens.left())
+        }
+        By::Body => {
+            let read = read_body(alloc, &mut tokens);
+            whole(alloc, read, tokens.left())
+        }
+        By::Initial => {
+            let read = read_initial(alloc, &mut tokens);
+            whole(alloc, read, tokens.left())
+        }
+        By::Unit => found(alloc, unit(alloc, all)),
+        By::Creation => found(alloc, created(alloc, all)),
+        By::BlockOrCall => found(alloc, block(alloc, all)),
+    }
+}
+
+/// What the text spells, where its row says otherwise.
+fn fault(alloc: Global, by: By, row: Row) -> Result<Option<String>, NoMemory> {
+    let (text, tree) = row;
+    let found = tree_of(alloc, by, text)?;
+    if found.as_deref() == tree {
+        return Ok(None);
+    }
+    Ok(Some(format!(in alloc; "{text} spells {found:?}")?))
+}
+
+/// The first fault of the rows.
+fn first_fault(alloc: Global, by: By, rows: &[Row]) -> Result<Option<String>, NoMemory> {
+    for row in rows {
+        let found = fault(alloc, by, *row)?;
+        if found.is_some() {
+            return Ok(found);
+        }
+    }
+    Ok(None)
+}
+
+/// Each text of the rows spells the tree that stands beside it, or none.
+pub fn all_spell(rt: &impl Abort, alloc: Global, by: By, rows: &[Row]) -> Result<(), Fail> {
+    match first_fault(alloc, by, rows)? {
+        Some(fault) => panic!(rt; "{fault}"),
+        None => Ok(()),
+    }
+}
