@@ -1,5 +1,5 @@
 -- The statement that tokens spell is the one that is read from them.
-use Rattle.std.proofs.Common.{◌≡◌, Bool, true, false, List, [], ◌∷◌, Option, Some, None, inl, inr, refl, ap, subst}
+use Rattle.std.proofs.Common.{◌≡◌, Bool, true, false, List, [], ◌∷◌, Option, Some, None, Ok, inl, inr, refl, sym, ap, subst}
 use Rattle.std.specs.Prelude.{if◌then◌else◌, option_map}
 use Rattle.ebr_lexer.specs.declared.token.Token.{Token}
 use Rattle.ebr_grammar.specs.declared.kind.Kind.TheVariants as k
@@ -52,15 +52,21 @@ creation_complete ts d s = unit_complete unit_grammar.definition unit_clear.defi
 
 -- ---- definitions
 
+pub other_sound : (ts : List Token) (d : Definition) → whole (definitions.reads_by definitions.definition ts) ≡ Some d → definitions.SpellsDefinition ts d
+other_sound ts d e = ddl.is_found {E = Unit {0}} ts (Ok (Some d)) (sym e)
+
+pub other_complete : (ts : List Token) (d : Definition) → definitions.SpellsDefinition ts d → whole (definitions.reads_by definitions.definition ts) ≡ Some d
+other_complete ts d s = ddl.is_only {E = Unit {0}} ts (Ok (whole (definitions.reads_by definitions.definition ts))) refl d s
+
 sound_of : (b : Bool) (ts : List Token) (d : Definition) → (if b then creation_of ts else whole (definitions.reads_by definitions.definition ts)) ≡ Some d
     → SpellsOneOf b ts d
 sound_of true ts d e = creation_sound ts d e
-sound_of false ts d e = ddl.is_found ts d e
+sound_of false ts d e = other_sound ts d e
 
 complete_of : (b : Bool) (ts : List Token) (d : Definition) → SpellsOneOf b ts d
     → (if b then creation_of ts else whole (definitions.reads_by definitions.definition ts)) ≡ Some d
 complete_of true ts d s = creation_complete ts d s
-complete_of false ts d s = ddl.is_only ts d s
+complete_of false ts d s = other_complete ts d s
 
 pub definition_sound : (ts : List Token) (d : Definition) → definition_of ts ≡ Some d → Defines ts d
 unfolding definition_of

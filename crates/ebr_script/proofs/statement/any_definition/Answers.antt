@@ -1,9 +1,8 @@
 use Rattle.std.proofs.Common.{◌≡◌, true, false, rules}
 use Rattle.ebr_grammar.specs.Reading.{whole}
 use Rattle.ebr_ddlparse.specs.Definitions.{SpellsDefinition, definition, reads_by}
-use Rattle.ebr_ddlparse.proofs.Whole.{is_found, is_only}
 use Rattle.ebr_script.specs.Statements.{creates_object}
-use Rattle.ebr_script.proofs.Spelled.{definition_created, definition_other}
+use Rattle.ebr_script.proofs.Spelled.{definition_created, definition_other, other_sound, other_complete}
 use Rattle.ebr_script.proofs.Values.{valued}
 use Rattle.ebr_script.proofs.statement.any_definition.Goals as goal
 
@@ -16,4 +15,4 @@ pub returns-else-creates_object : goal.returns-else-creates_object
 returns-else-creates_object c =
     let ts = c.args.tokens.now in
     let unseen : creates_object ts ≡ false = search rules in
-    rw (definition_other ts unseen) (valued (SpellsDefinition ts) (whole (reads_by definition ts)) (is_found ts) (is_only ts) c.definition.result c.definition.ensures.found c.definition.ensures.only)
+    rw (definition_other ts unseen) (valued (SpellsDefinition ts) (whole (reads_by definition ts)) (other_sound ts) (other_complete ts) c.definition.result c.definition.ensures.found c.definition.ensures.only)
