@@ -1,0 +1,70 @@
+-- Worked scripts, whose replies the definitions alone give. What the pieces and the stored texts spell is a premise, so that
+-- all but the grammar is computed.
+use Rattle.std.specs.Prelude.{ℕ, Bool, true, false, ◌≡◌, codes, List, [], ◌∷◌, Some, None}
+use Rattle.ebr_ast.specs.declared.definition.Definition.{Definition}
+use Rattle.ebr_ast.specs.declared.definition.Definition.TheVariants.{CreateEdition, CreateObject}
+use Rattle.ebr_ast.specs.declared.definition.Statement.TheVariants as statement
+use Rattle.ebr_ast.specs.declared.unit.UnitTree.TheVariants as unit
+use Rattle.ebr_ast.specs.declared.statement.Block.{Block, roll-Block}
+use Rattle.ebr_ast.specs.declared.statement.Stmt.{Stmt}
+use Rattle.ebr_ast.specs.declared.statement.Stmt.TheVariants as stmt
+use Rattle.ebr_ast.specs.declared.expression.Expr.TheVariants as expression
+use Rattle.ebr_script.specs.declared.piece.Piece.{Piece}
+use Rattle.ebr_script.specs.declared.piece.PieceKind.TheVariants as piece
+use Rattle.ebr_script.specs.Pieces.{pieces_of, stored_definition, text_of}
+use Rattle.ebr_server.specs.declared.ask.Entry.{Entry}
+use Rattle.ebr_server.specs.History.{Mine, Legal}
+use Rattle.ebr_server.specs.Forms.{MakesProcedure, effect_of, called_name}
+use Rattle.ebr_server.specs.Machine.{the_session, start}
+use Rattle.ebr_server.specs.Program.{RanToEnd}
+
+-- A script gives these replies: there is a history that the machine replays, and by which the script is run to its end.
+pub record Gives (script replies : List ℕ) : Type 0 where
+  pub history : List Entry
+  pub legal : Legal start history
+  pub ran : RanToEnd script (Mine history the_session) replies
+
+-- A piece makes a procedure, and its stored text spells what it does.
+pub record Makes (script : List ℕ) (p : Piece) (replace : Bool) (name line : List ℕ) : Type 0 where
+  pub what : Definition
+  pub spells : p.what ≡ piece.Tree (statement.Definition what)
+  pub makes : effect_of what ≡ MakesProcedure replace name line
+  pub again : stored_definition (text_of script p) ≡ Some what
+
+-- A piece calls a procedure.
+pub record Calls (p : Piece) (name : List ℕ) : Type 0 where
+  pub block : Block
+  pub spells : p.what ≡ piece.Tree (statement.Block block)
+  pub calls : called_name block ≡ Some name
+
+-- A script makes a procedure, calls it, and calls one that isn't there.
+abbrev pub CallsGive : List ℕ → Type 0
+CallsGive replies = (script : List ℕ) (p q r : Piece) → pieces_of script ≡ p ∷ q ∷ r ∷ []
+    → Makes script p false (codes "A") (codes "a") → Calls q (codes "A") → Calls r (codes "B") → Gives script replies
+
+-- A script makes a procedure and replaces it in a child edition, and calls it there and in the first one.
+abbrev pub UpgradeGives : List ℕ → Type 0
+UpgradeGives replies = (script : List ℕ) (p q r s t u v : Piece) → pieces_of script ≡ p ∷ q ∷ r ∷ s ∷ t ∷ u ∷ v ∷ []
+    → Makes script p false (codes "A") (codes "a")
+    → q.what ≡ piece.Tree (statement.Definition (CreateEdition (codes "V2") None))
+    → r.what ≡ piece.Tree (statement.SetEdition (codes "V2"))
+    → Makes script s true (codes "A") (codes "b")
+    → Calls t (codes "A")
+    → u.what ≡ piece.Tree (statement.SetEdition (codes "ORA$BASE"))
+    → Calls v (codes "A")
+    → Gives script replies
+
+-- `BEGIN` this statement `END`
+abbrev pub block_of : Stmt → Block
+block_of s = roll-Block (record { declarations = []; statements = s ∷ []; handlers = [] })
+
+-- the tree of `CREATE [OR REPLACE] PROCEDURE name IS BEGIN DBMS_OUTPUT.PUT_LINE('line'); END;`
+abbrev pub printing_procedure : Bool → List ℕ → List ℕ → Definition
+printing_procedure replace name line = CreateObject replace (unit.Subprogram (record {
+  head = record { name = name; parameters = []; result = None };
+  body = block_of (stmt.PutLine (expression.Text line));
+}))
+
+-- the tree of `CALL name()`
+abbrev pub call_of : List ℕ → Block
+call_of name = block_of (stmt.Call (record { name = name; member = None }) (Some []))

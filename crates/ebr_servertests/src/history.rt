@@ -1,0 +1,76 @@
+//! What the history of a run has.
+
+use crate::run::{FIRST_CALLS, NO_FAULTS, TRY, UPGRADE, served};
+use ebr_server::{Answer, Ask, Entry};
+use std::test::Fail;
+
+/// What an entry is: its ask, and for a view the line of its first procedure.
+#[derive(Clone, Copy, Debug, PartialEq, Eq)]
+enum Kind {
+    Begin(u8),
+    Ddl,
+    SetEdition,
+    EndCall,
+    FailedCall,
+    Leave,
+}
+
+/// The first byte of the line of the first procedure that is seen; 0 where none is.
+fn first_line(answer: &Answer) -> u8 {
+    let Answer::View(view) = answer else {
+        return 0;
+    };
+    let Some(procedure) = view.get().get(0) else {
+        return 0;
+    };
+    match procedure.get().line.as_slice() {
+        [byte, ..] => *byte,
+        [] => 0,
+    }
+}
+
+fn kind_of(entry: &Entry) -> Kind {
+    match &entry.ask {
+        Ask::Begin => Kind::Begin(first_line(&entry.answer)),
+        Ask::Ddl { .. } => Kind::Ddl,
+        Ask::SetEdition(_) => Kind::SetEdition,
+        Ask::EndCall { failed: false } => Kind::EndCall,
+        Ask::EndCall { failed: true } => Kind::FailedCall,
+        Ask::Leave => Kind::Leave,
+    }
+}
+
+static FIRST: [Kind; 6] = [
+    Kind::Ddl,
+    Kind::Begin(b'a'),
+    Kind::EndCall,
+    Kind::Begin(b'a'),
+    Kind::FailedCall,
+    Kind::Leave,
+];
+
+static UPGRADED: [Kind; 10] = [
+    Kind::Ddl,
+    Kind::Ddl,
+    Kind::SetEdition,
+    Kind::Ddl,
+    Kind::Begin(b'b'),
+    Kind::EndCall,
+    Kind::SetEdition,
+    Kind::Begin(b'a'),
+    Kind::EndCall,
+    Kind::Leave,
+];
+
+#[test]
+fn history_has_each_ask_with_what_its_edition_saw(rt: HostRuntime) -> Result<(), Fail> {
+    let rows: [(&[u8], &[Kind]); 2] = [(FIRST_CALLS, &FIRST), (UPGRADE, &UPGRADED)];
+    for (script, kinds) in rows {
+        let outcome = served(rt.alloc(), TRY, script, NO_FAULTS)?;
+        assert_eq!(rt; outcome.history.len(), kinds.len());
+        for (entry, kind) in outcome.history.as_slice().iter().zip(kinds) {
+            assert_eq!(rt; kind_of(entry), *kind);
+        }
+    }
+    Ok(())
+}

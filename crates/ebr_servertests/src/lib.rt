@@ -1,0 +1,17 @@
+//! Tests of the pieces of scripts, and of `serve` over a host in memory, byte for byte.
+#![tactic(auto)]
+
+#[cfg(test)]
+mod editions;
+#[cfg(test)]
+mod faults;
+#[cfg(test)]
+mod history;
+#[cfg(test)]
+mod pieces;
+#[cfg(test)]
+mod run;
+#[cfg(test)]
+mod script;
+#[cfg(test)]
+mod worked;
