@@ -7,4 +7,4 @@ pub mod Cuts
 pub mod Values
 pub mod TextsOfObjects
 pub mod Creations
-pub mod Kept
+pub mod PieceTexts

@@ -36,70 +36,70 @@ or_nothing : Option (List ℕ) → List ℕ
 or_nothing None = []
 or_nothing (Some bytes) = bytes
 
-is_script : (told : Option (List ℕ)) → IfSome told (λ bytes. or_nothing told ≡ bytes)
+is_script : (known : Option (List ℕ)) → IfSome known (λ bytes. or_nothing known ≡ bytes)
 unfolding or_nothing
 is_script None = tt
 is_script (Some bytes) = refl
 
-pub Tried-stopped : (told : Option (List ℕ)) (c c' : ExitCode) (h : List Entry) (first held : Option (List ℕ)) → StopsEarly c' → c ≡ c' → h ≡ [] → held ≡ first
-    → IfSome first (λ bytes. bytes ≡ []) → Tried told c h held
-Tried-stopped told c c' h first held early is none same empty = record {
-  script = or_nothing told;
-  is_script = is_script told;
+pub Tried-stopped : (known : Option (List ℕ)) (c c' : ExitCode) (h : List Entry) (first held : Option (List ℕ)) → StopsEarly c' → c ≡ c' → h ≡ [] → held ≡ first
+    → IfSome first (λ bytes. bytes ≡ []) → Tried known c h held
+Tried-stopped known c c' h first held early is none same empty = record {
+  script = or_nothing known;
+  is_script = is_script known;
   replies = [];
-  session = subst (λ d. Session d (or_nothing told) h []) (sym is) (no_session c' (or_nothing told) h early none);
+  session = subst (λ d. Session d (or_nothing known) h []) (sym is) (no_session c' (or_nothing known) h early none);
   holds = subst (λ o. IfSome o (λ bytes. bytes ≡ [])) (sym same) empty;
 }
 
--- what was read, by what the host told
-pub read_told : (told left : Option (List ℕ)) (bytes : List ℕ) (most : ℕ) → IfSome told (λ b. left ≡ Some b) → IfSome left (λ l. bytes ≡ take most l)
-    → IfSome told (λ b. bytes ≡ take most b)
-read_told None left bytes most from_told from_left = tt
-read_told (Some b) left bytes most from_told from_left =
+-- what was read, by what the host known
+pub read_known : (known left : Option (List ℕ)) (bytes : List ℕ) (most : ℕ) → IfSome known (λ b. left ≡ Some b) → IfSome left (λ l. bytes ≡ take most l)
+    → IfSome known (λ b. bytes ≡ take most b)
+read_known None left bytes most from_known from_left = tt
+read_known (Some b) left bytes most from_known from_left =
     let P : Option (List ℕ) → Type 0 = λ o. IfSome o (λ l. bytes ≡ take most l) in
-    subst P from_told from_left
+    subst P from_known from_left
 
 short_is_whole : (bytes b : List ℕ) (most : ℕ) → bytes ≡ take most b → length bytes < most → bytes ≡ b
 short_is_whole bytes b most e short =
     let n : length bytes ≡ min most (length b) = ap length e ∙ length-take most b in
     e ∙ take_all most b (omega (arith, n, short))
 
--- a script that isn't too long is all that the host told
-pub read_whole : (told : Option (List ℕ)) (bytes : List ℕ) (most : ℕ) → IfSome told (λ b. bytes ≡ take most b) → length bytes < most → IfSome told (λ b. bytes ≡ b)
+-- a script that isn't too long is all that the host known
+pub read_whole : (known : Option (List ℕ)) (bytes : List ℕ) (most : ℕ) → IfSome known (λ b. bytes ≡ take most b) → length bytes < most → IfSome known (λ b. bytes ≡ b)
 read_whole None bytes most e short = tt
 read_whole (Some b) bytes most e short = short_is_whole bytes b most e short
 
 -- a script that is too long
-pub read_long : (told : Option (List ℕ)) (bytes : List ℕ) (most limit : ℕ) → IfSome told (λ b. bytes ≡ take most b) → limit < length bytes → IfSome told (λ b. limit < length b)
+pub read_long : (known : Option (List ℕ)) (bytes : List ℕ) (most limit : ℕ) → IfSome known (λ b. bytes ≡ take most b) → limit < length bytes → IfSome known (λ b. limit < length b)
 read_long None bytes most limit e long = tt
 read_long (Some b) bytes most limit e long =
     let n : length bytes ≡ min most (length b) = ap length e ∙ length-take most b in
     omega (arith, n, long)
 
-pub read_short : (told : Option (List ℕ)) (bytes : List ℕ) (most limit : ℕ) (P : Type 0) → IfSome told (λ b. bytes ≡ take most b) → length bytes < most → length bytes ≤ limit
-    → IfSome told (λ b. limit < length b → P)
+pub read_short : (known : Option (List ℕ)) (bytes : List ℕ) (most limit : ℕ) (P : Type 0) → IfSome known (λ b. bytes ≡ take most b) → length bytes < most → length bytes ≤ limit
+    → IfSome known (λ b. limit < length b → P)
 read_short None bytes most limit P e short within = tt
 read_short (Some b) bytes most limit P e short within = λ long. absurd (omega (arith, ap length (short_is_whole bytes b most e short), long, within))
 
--- the same run, of the script that the host told
-pub Tried-told : (told : Option (List ℕ)) (script : List ℕ) (c : ExitCode) (h : List Entry) (held : Option (List ℕ)) → IfSome told (λ b. script ≡ b)
-    → Tried (Some script) c h held → Tried told c h held
-Tried-told told script c h held from_told tried = record {
+-- the same run, of the script that the host known
+pub Tried-known : (known : Option (List ℕ)) (script : List ℕ) (c : ExitCode) (h : List Entry) (held : Option (List ℕ)) → IfSome known (λ b. script ≡ b)
+    → Tried (Some script) c h held → Tried known c h held
+Tried-known known script c h held from_known tried = record {
   script = tried.script;
-  is_script = told_too told from_told;
+  is_script = known_too known from_known;
   replies = tried.replies;
   session = tried.session;
   holds = tried.holds;
 }
   where
-    told_too : (told : Option (List ℕ)) → IfSome told (λ b. script ≡ b) → IfSome told (λ b. tried.script ≡ b)
-    told_too None e = tt
-    told_too (Some b) e = tried.is_script ∙ e
+    known_too : (known : Option (List ℕ)) → IfSome known (λ b. script ≡ b) → IfSome known (λ b. tried.script ≡ b)
+    known_too None e = tt
+    known_too (Some b) e = tried.is_script ∙ e
 
 pub TooLong-word : (v w : ℕ) → code.TooLong v ≡ code.TooLong w → w ≡ v
 TooLong-word v w e = cc
 
-pub stops_anyway : (told : Option (List ℕ)) (limit : ℕ) (c c' : ExitCode) → c ≡ c' → StopsTooLong c' → IfSome told (λ b. limit < length b → StopsTooLong c)
+pub stops_anyway : (known : Option (List ℕ)) (limit : ℕ) (c c' : ExitCode) → c ≡ c' → StopsTooLong c' → IfSome known (λ b. limit < length b → StopsTooLong c)
 stops_anyway None limit c c' is stops = tt
 stops_anyway (Some b) limit c c' is stops = λ long. subst StopsTooLong (sym is) stops
 
@@ -146,23 +146,23 @@ Served-tried r words source c h first now old new tried part whole failed = reco
 }
 
 -- what the host tells of the word that the words name
-pub told_at : (bytes : List ℕ → Option (List ℕ)) (words : List (List ℕ)) (word : List ℕ) → Some word ≡ script_word words → script_bytes bytes words ≡ bytes word
-told_at bytes words word e = ap (option_and_then bytes) (sym e)
+pub known_at : (bytes : List ℕ → Option (List ℕ)) (words : List (List ℕ)) (word : List ℕ) → Some word ≡ script_word words → script_bytes bytes words ≡ bytes word
+known_at bytes words word e = ap (option_and_then bytes) (sym e)
 
-pub told_of_word : (bytes : List ℕ → Option (List ℕ)) (words : List (List ℕ)) (word : List ℕ) (P : List ℕ → Type 0) → Some word ≡ script_word words
+pub known_of_word : (bytes : List ℕ → Option (List ℕ)) (words : List (List ℕ)) (word : List ℕ) (P : List ℕ → Type 0) → Some word ≡ script_word words
     → IfSome (bytes word) P → IfSome (script_bytes bytes words) P
-told_of_word bytes words word P e fact = subst (λ o. IfSome o P) (sym (told_at bytes words word e)) fact
+known_of_word bytes words word P e fact = subst (λ o. IfSome o P) (sym (known_at bytes words word e)) fact
 
-told_in : (bytes bytes' : List ℕ → Option (List ℕ)) (word : Option (List ℕ)) → ((w : List ℕ) → bytes' w ≡ bytes w) → option_and_then bytes' word ≡ option_and_then bytes word
-told_in bytes bytes' None same = refl
-told_in bytes bytes' (Some w) same = same w
+known_in : (bytes bytes' : List ℕ → Option (List ℕ)) (word : Option (List ℕ)) → ((w : List ℕ) → bytes' w ≡ bytes w) → option_and_then bytes' word ≡ option_and_then bytes word
+known_in bytes bytes' None same = refl
+known_in bytes bytes' (Some w) same = same w
 
 -- A host tells the same before and after it made the report.
-pub told_same : (bytes bytes' : List ℕ → Option (List ℕ)) (words : List (List ℕ)) → ((w : List ℕ) → bytes' w ≡ bytes w) → script_bytes bytes' words ≡ script_bytes bytes words
-told_same bytes bytes' words same = told_in bytes bytes' (script_word words) same
+pub known_same : (bytes bytes' : List ℕ → Option (List ℕ)) (words : List (List ℕ)) → ((w : List ℕ) → bytes' w ≡ bytes w) → script_bytes bytes' words ≡ script_bytes bytes words
+known_same bytes bytes' words same = known_in bytes bytes' (script_word words) same
 
-told_none : (bytes : List ℕ → Option (List ℕ)) (words : List (List ℕ)) → script_word words ≡ None → script_bytes bytes words ≡ None
-told_none bytes words none = ap (option_and_then bytes) none
+known_none : (bytes : List ℕ → Option (List ℕ)) (words : List (List ℕ)) → script_word words ≡ None → script_bytes bytes words ≡ None
+known_none bytes words none = ap (option_and_then bytes) none
 
 no_fault : {S : Type 0} (faults : S → ℕ) (source : Option S) → IsSomeAnd source (λ s. 0 < faults s) → IfSome source (λ s. ¬ (0 < faults s)) → ⊥
 no_fault faults None fault none = absurd fault
@@ -181,16 +181,16 @@ complete_at faults source (code.HostFault w) bytes limit old new report usage ho
     elim (host w refl).1 [ inl rises ↦ absurd (no_host rises) | inr fault ↦ absurd (no_fault faults source fault no_source) ]
 
 -- Each other code has its cause, so where there is none the run is complete.
-pub complete : {S : Type 0} (faults : S → ℕ) (source : Option S) (told : Option (List ℕ)) (c : ExitCode) (limit old new report : ℕ) → (c ≡ code.Usage → told ≡ None)
+pub complete : {S : Type 0} (faults : S → ℕ) (source : Option S) (known : Option (List ℕ)) (c : ExitCode) (limit old new report : ℕ) → (c ≡ code.Usage → known ≡ None)
     → ((w : ℕ) → c ≡ code.HostFault w → (w ≡ 1) × (Rises old new ⊎ IsSomeAnd source (λ s. 0 < faults s))) → (c ≡ code.SinkFault → 0 < report)
-    → ((w : ℕ) → c ≡ code.TooLong w → (w ≡ 1) × IfSome told (λ bytes. limit < length bytes))
-    → IfSome told (λ bytes. length bytes ≤ limit → ¬ Rises old new → IfSome source (λ s. ¬ (0 < faults s)) → ¬ (0 < report) → IsComplete c)
+    → ((w : ℕ) → c ≡ code.TooLong w → (w ≡ 1) × IfSome known (λ bytes. limit < length bytes))
+    → IfSome known (λ bytes. length bytes ≤ limit → ¬ Rises old new → IfSome source (λ s. ¬ (0 < faults s)) → ¬ (0 < report) → IsComplete c)
 complete faults source None c limit old new report usage host sink long = tt
 complete faults source (Some bytes) c limit old new report usage host sink long =
     complete_at faults source c bytes limit old new report (λ e. some_is_none (usage e)) host sink long
 
 pub usage_none : (bytes : List ℕ → Option (List ℕ)) (words : List (List ℕ)) (c : ExitCode) → ((c ≡ code.Usage) ↔ (script_word words ≡ None)) → c ≡ code.Usage → script_bytes bytes words ≡ None
-usage_none bytes words c usage e = told_none bytes words (usage.0 e)
+usage_none bytes words c usage e = known_none bytes words (usage.0 e)
 
 pub rises_since : (old mid new : ℕ) → old ≤ mid → Rises mid new → Rises old new
 rises_since old mid new grown rises = omega arith

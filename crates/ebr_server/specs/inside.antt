@@ -1,4 +1,4 @@
-pub mod Effects
+pub mod Makes
 pub mod Procedures
 pub mod Engine
 pub mod Reading

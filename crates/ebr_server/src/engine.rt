@@ -9,7 +9,7 @@ ghost use Rattle.ebr_server.specs.declared.ask.Answer.TheVariants.{Refused};
 ghost use Rattle.ebr_server.specs.declared.ask.Ask.TheVariants.{Leave};
 
 use crate::ask::{Answer, Ask, Entry, Procedure, Procedures};
-use crate::forms::{Effect, effect_of};
+use crate::forms::{Makes, effect_of};
 use crate::procedures::{Version, copy_of, look_up, number_of, put, seen_in};
 use ebr_ast::Definition;
 use ebr_base::{Bytes, CloneIn, Code, List, Name, NoMemory, SessionId, Shared};
@@ -170,13 +170,13 @@ fn define(alloc: Global, editions: &mut Editions, what: &Definition) -> Result<A
     ensures err { OnErr result (editions.new ≡ editions.old) }
 {
     match effect_of(what) {
-        Effect::Procedure {
+        Makes::Procedure {
             replace,
             name,
             line,
         } => create(alloc, editions, replace, name, line),
-        Effect::Edition(name) => create_edition(alloc, editions, name),
-        Effect::Nothing => Ok(refusal(alloc, Code::Ebr(1))),
+        Makes::Edition(name) => create_edition(alloc, editions, name),
+        Makes::Nothing => Ok(refusal(alloc, Code::Ebr(1))),
     }
 }
 

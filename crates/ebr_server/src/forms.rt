@@ -4,14 +4,14 @@ ghost use Rattle.std.specs.Prelude.{◌≡◌};
 ghost use Rattle.std.specs.Option.{option_copied};
 ghost use Rattle.ebr_ast.specs.declared.expression.Expr.{out-Expr};
 ghost use Rattle.ebr_server.specs.Forms as spec;
-ghost use Rattle.ebr_server.specs.inside.Effects.{effect};
+ghost use Rattle.ebr_server.specs.inside.Makes.{effect_in};
 
 use ebr_ast::{Block, Decl, Definition, Expr, Handler, Stmt, Subprogram, UnitTree};
 use ebr_base::{Bytes, Name, Shared};
 
-/// What a definition makes.
+/// What a definition makes, borrowed from its tree.
 #[derive(Drop)]
-pub enum Effect<'a> {
+pub enum Makes<'a> {
     /// A procedure that prints one line.
     Procedure {
         replace: bool,
@@ -25,32 +25,32 @@ pub enum Effect<'a> {
 
 /// What a definition makes, as far as definitions are carried out yet.
 #[tactic(auto, unfolding(crate::specs::Forms::effect_of))]
-pub fn effect_of(what: &Definition) -> Effect<'_>
-    ensures { effect result ≡ spec.effect_of what.now }
+pub fn effect_of(what: &Definition) -> Makes<'_>
+    ensures { effect_in result ≡ spec.effect_of what.now }
 {
     match what {
-        Definition::CreateEdition { name, parent: None } => Effect::Edition(name),
+        Definition::CreateEdition { name, parent: None } => Makes::Edition(name),
         Definition::CreateObject {
             replace,
             unit: UnitTree::Subprogram(unit),
         } => procedure(*replace, unit.get()),
-        _ => Effect::Nothing,
+        _ => Makes::Nothing,
     }
 }
 
-fn procedure(replace: bool, unit: &Subprogram) -> Effect<'_>
-    ensures { effect result ≡ spec.makes_procedure replace unit.now.head.name unit.now.head.parameters unit.now.head.result (spec.printed_line unit.now.body) }
+fn procedure(replace: bool, unit: &Subprogram) -> Makes<'_>
+    ensures { effect_in result ≡ spec.makes_procedure replace unit.now.head.name unit.now.head.parameters unit.now.head.result (spec.printed_line unit.now.body) }
 {
     if !unit.head.parameters.is_empty() || unit.head.result.is_some() {
-        return Effect::Nothing;
+        return Makes::Nothing;
     }
     match printed_line(&unit.body) {
-        Some(line) => Effect::Procedure {
+        Some(line) => Makes::Procedure {
             replace,
             name: &unit.head.name,
             line,
         },
-        None => Effect::Nothing,
+        None => Makes::Nothing,
     }
 }
 

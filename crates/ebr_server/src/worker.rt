@@ -16,7 +16,7 @@ ghost use Rattle.ebr_server.specs.inside.Engine.{IsOpen, IsSpelled, entries};
 use crate::ask::{Answer, Ask};
 use crate::engine::Engine;
 use crate::exit::ExitCode;
-use crate::forms::{Effect, called_name, effect_of};
+use crate::forms::{Makes, called_name, effect_of};
 use crate::offer::offer;
 use crate::procedures::look_up;
 use ebr_ast::{Block, Definition, Statement};
@@ -218,9 +218,9 @@ impl<S: Sink> Worker<S> {
         ensures { Does result (run_definition (spec.effect_of what.now) what.now (text_of script.now piece.now)) engine.old self.old engine.new self.new }
     {
         match effect_of(what) {
-            Effect::Procedure { .. } => self.create(alloc, engine, script, piece, what),
-            Effect::Edition(_) => self.create_edition(alloc, engine, what),
-            Effect::Nothing => self.print_code(Code::Ebr(1)),
+            Makes::Procedure { .. } => self.create(alloc, engine, script, piece, what),
+            Makes::Edition(_) => self.create_edition(alloc, engine, what),
+            Makes::Nothing => self.print_code(Code::Ebr(1)),
         }
     }
 

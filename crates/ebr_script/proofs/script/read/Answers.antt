@@ -1,5 +1,5 @@
 use Rattle.std.proofs.Common.{◌∙◌}
-use Rattle.ebr_script.proofs.Kept.{piece_more, pieces_all}
+use Rattle.ebr_script.proofs.PieceTexts.{piece_more, pieces_all}
 use Rattle.ebr_script.proofs.script.read.Goals as goal
 
 pub loop-span-preserved : goal.loop-span-preserved

@@ -1,7 +1,7 @@
 use Rattle.std.proofs.Common.{sym, ap, ◌∙◌}
 use Rattle.ebr_cut.specs.declared.scanned.Scanned.TheVariants as scanned
 use Rattle.ebr_cut.specs.Scans.{stored}
-use Rattle.ebr_script.proofs.Kept.{same_text}
+use Rattle.ebr_script.proofs.PieceTexts.{same_text}
 use Rattle.ebr_script.proofs.script.text_of.Goals as goal
 
 pub returns-in-Fault : goal.returns-in-Fault

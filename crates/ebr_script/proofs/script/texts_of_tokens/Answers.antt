@@ -1,4 +1,4 @@
-use Rattle.ebr_script.proofs.Kept.{text_of_tokens, no_text_of_faults}
+use Rattle.ebr_script.proofs.PieceTexts.{text_of_tokens, no_text_of_faults}
 use Rattle.ebr_script.proofs.script.texts_of_tokens.Goals as goal
 
 pub returns-clause-tokens : goal.returns-clause-tokens

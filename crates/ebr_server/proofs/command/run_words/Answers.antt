@@ -1,6 +1,6 @@
 use Rattle.std.proofs.Common.{◌<◌, ◌≤◌, length, ap, refl, sym, ◌∙◌, arith}
 use Rattle.ebr_server.specs.Program.{StopsTooLong}
-use Rattle.ebr_server.proofs.Outcomes.{Tried-stopped, Tried-told, TooLong-word, stops_anyway, read_told, read_whole, read_long, read_short, told_of_word}
+use Rattle.ebr_server.proofs.Outcomes.{Tried-stopped, Tried-known, TooLong-word, stops_anyway, read_known, read_whole, read_long, read_short, known_of_word}
 use Rattle.ebr_server.proofs.command.run_words.Goals as goal
 
 pub returns-in-Err-Failed-clause-tried : goal.returns-in-Err-Failed-clause-tried
@@ -33,8 +33,8 @@ pub returns-then-len-gt-MAX_SCRIPT-clause-too_long :
     goal.returns-then-len-gt-MAX_SCRIPT-clause-too_long
 returns-then-len-gt-MAX_SCRIPT-clause-too_long g c =
     let long : 1048576 < length c.in-Ok-read_script.script = omega arith in
-    let told = read_told _ _ _ 1048577 (told_of_word (g.H.Host.bytes c.args.host.now) c.args.words.now c.in-Some.word.now _ c.in-Some.ensures c.in-Ok.ensures.told) c.in-Ok-read_script.ensures.bytes in
-    λ w e. (TooLong-word 1 w (sym c.stopped-then-len-gt-MAX_SCRIPT.ensures.code ∙ e), read_long _ _ 1048577 _ told long)
+    let known = read_known _ _ _ 1048577 (known_of_word (g.H.Host.bytes c.args.host.now) c.args.words.now c.in-Some.word.now _ c.in-Some.ensures c.in-Ok.ensures.told) c.in-Ok-read_script.ensures.bytes in
+    λ w e. (TooLong-word 1 w (sym c.stopped-then-len-gt-MAX_SCRIPT.ensures.code ∙ e), read_long _ _ 1048577 _ known long)
 
 pub returns-then-len-gt-MAX_SCRIPT-clause-stops : goal.returns-then-len-gt-MAX_SCRIPT-clause-stops
 returns-then-len-gt-MAX_SCRIPT-clause-stops g c = stops_anyway _ _ _ _ c.stopped-then-len-gt-MAX_SCRIPT.ensures.code refl
@@ -42,12 +42,12 @@ returns-then-len-gt-MAX_SCRIPT-clause-stops g c = stops_anyway _ _ _ _ c.stopped
 pub returns-clause-tried : goal.returns-clause-tried
 returns-clause-tried g c =
     let short : length c.in-Ok-read_script.script < 1048577 = omega arith in
-    let told = read_told _ _ _ 1048577 (told_of_word (g.H.Host.bytes c.args.host.now) c.args.words.now c.in-Some.word.now _ c.in-Some.ensures c.in-Ok.ensures.told) c.in-Ok-read_script.ensures.bytes in
-    Tried-told _ _ _ _ _ (read_whole _ _ 1048577 told short) (rw c.as_slice.ensures at c.run_session.ensures.tried)
+    let known = read_known _ _ _ 1048577 (known_of_word (g.H.Host.bytes c.args.host.now) c.args.words.now c.in-Some.word.now _ c.in-Some.ensures c.in-Ok.ensures.told) c.in-Ok-read_script.ensures.bytes in
+    Tried-known _ _ _ _ _ (read_whole _ _ 1048577 known short) (rw c.as_slice.ensures at c.run_session.ensures.tried)
 
 pub returns-clause-stops : goal.returns-clause-stops
 returns-clause-stops g c =
     let short : length c.in-Ok-read_script.script < 1048577 = omega arith in
     let within : length c.in-Ok-read_script.script ≤ 1048576 = omega arith in
-    let told = read_told _ _ _ 1048577 (told_of_word (g.H.Host.bytes c.args.host.now) c.args.words.now c.in-Some.word.now _ c.in-Some.ensures c.in-Ok.ensures.told) c.in-Ok-read_script.ensures.bytes in
-    read_short _ _ 1048577 _ (StopsTooLong c.run_session.result.code) told short within
+    let known = read_known _ _ _ 1048577 (known_of_word (g.H.Host.bytes c.args.host.now) c.args.words.now c.in-Some.word.now _ c.in-Some.ensures c.in-Ok.ensures.told) c.in-Ok-read_script.ensures.bytes in
+    read_short _ _ 1048577 _ (StopsTooLong c.run_session.result.code) known short within

@@ -28,10 +28,10 @@ use Rattle.ebr_script.proofs.Spelled.{statement_sound}
 use Rattle.ebr_script.proofs.TextsOfObjects.{stored_complete}
 use Rattle.ebr_script.proofs.Creations.{other_creates_none}
 
-kept_by : (b : Bool) (ts : List Token) (text : List ℕ) (d : Definition) → creates_object ts ≡ b → SpellsOneOf b ts d → CreatesObject d → Scans text (scanned.Tokens ts) → StandsInFront ts
+stored_by : (b : Bool) (ts : List Token) (text : List ℕ) (d : Definition) → creates_object ts ≡ b → SpellsOneOf b ts d → CreatesObject d → Scans text (scanned.Tokens ts) → StandsInFront ts
     → stored_definition (stored text ts) ≡ Some d
-kept_by true ts text d e s c scans front = stored_complete (stored text ts) d (record { tokens = ts; scans = stored_scans text ts scans front; spells = s })
-kept_by false ts text d e s c scans front = absurd (other_creates_none ts d s e c)
+stored_by true ts text d e s c scans front = stored_complete (stored text ts) d (record { tokens = ts; scans = stored_scans text ts scans front; spells = s })
+stored_by false ts text d e s c scans front = absurd (other_creates_none ts d s e c)
 
 abbrev tree_or : Statement → PieceKind → Statement
 tree_or s (piece.Tree t) = t
@@ -41,23 +41,23 @@ tree_of : (l : Lead) (o : Option Statement) (s : Statement) → spelled_or l o �
 tree_of l None s e = absurd cc
 tree_of l (Some t) s e = ap (λ k. Some (tree_or t k)) e
 
-text_kept : (l : Lead) (text : List ℕ) (s : Scanned) (d : Definition) → Scans text s → ((ts : List Token) → Scans text (scanned.Tokens ts) → StandsInFront ts) → kind_of_scan l s ≡ piece.Tree (statement.Definition d) → CreatesObject d
+text_stored : (l : Lead) (text : List ℕ) (s : Scanned) (d : Definition) → Scans text s → ((ts : List Token) → Scans text (scanned.Tokens ts) → StandsInFront ts) → kind_of_scan l s ≡ piece.Tree (statement.Definition d) → CreatesObject d
     → stored_definition (stored_of text s) ≡ Some d
-text_kept l text (scanned.Fault code) d scans front e c = absurd cc
-text_kept l text (scanned.Tokens ts) d scans front e c =
-    kept_by (creates_object ts) ts text d refl (statement_sound ts (statement.Definition d) (tree_of l (statement_of ts) (statement.Definition d) e)) c scans (front ts scans)
+text_stored l text (scanned.Fault code) d scans front e c = absurd cc
+text_stored l text (scanned.Tokens ts) d scans front e c =
+    stored_by (creates_object ts) ts text d refl (statement_sound ts (statement.Definition d) (tree_of l (statement_of ts) (statement.Definition d) e)) c scans (front ts scans)
 
-piece_kept : (script : List ℕ) (s : Span) → BeginsInFront script s → KeepsText script (piece_at script s)
+piece_stored : (script : List ℕ) (s : Span) → BeginsInFront script s → KeepsText script (piece_at script s)
 unfolding kind_of_text text_of
-piece_kept script s front d e c =
+piece_stored script s front d e c =
     let text = slice_range script s.from s.to in
-    text_kept s.lead text (scanned_of text) d (scans_so text) front e c
+    text_stored s.lead text (scanned_of text) d (scans_so text) front e c
 
-pub pieces_kept : (script : List ℕ) → All (KeepsText script) (pieces_of script)
+pub pieces_stored : (script : List ℕ) → All (KeepsText script) (pieces_of script)
 unfolding pieces_of
-pieces_kept script =
+pieces_stored script =
     All-map (KeepsText script) (piece_at script) (cut script)
-    (All-weaker (BeginsInFront script) (λ s. KeepsText script (piece_at script s)) (λ s h. piece_kept script s h) (cut script) (spans_in_front script (cut script) (cut_is script)))
+    (All-weaker (BeginsInFront script) (λ s. KeepsText script (piece_at script s)) (λ s h. piece_stored script s h) (cut script) (spans_in_front script (cut script) (cut_is script)))
 
 pub same_text : (script : List ℕ) (p : Piece) (text : List ℕ) (s : Scanned) → text ≡ slice_range script p.from p.to → scanned_of text ≡ s → stored_of text s ≡ text_of script p
 unfolding text_of
