@@ -110,71 +110,75 @@ fn first_expression(alloc: Global, tokens: &[Token]) -> Result<Option<String>, N
     found(alloc, expr(alloc, tokens, 0))
 }
 
-/// The tree that the text spells.
-fn tree_of(alloc: Global, by: By, text: &str) -> Result<Option<String>, NoMemory> {
-    let list = tokens_of(alloc, text)?;
-    let all = list.as_slice();
-    let mut tokens = Tokens::new(all);
+/// The tree that the tokens spell.
+fn tree_of(alloc: Global, by: By, tokens: &[Token]) -> Result<Option<String>, NoMemory> {
+    let mut rest = Tokens::new(tokens);
     match by {
         By::Expression => {
-            let read = read_expression(alloc, &mut tokens);
-            whole(alloc, read, tokens.left())
+            let read = read_expression(alloc, &mut rest);
+            whole(alloc, read, rest.left())
         }
-        By::FirstExpression => first_expression(alloc, all),
-        By::Definition => found(alloc, definition(alloc, all)),
+        By::FirstExpression => first_expression(alloc, tokens),
+        By::Definition => found(alloc, definition(alloc, tokens)),
         By::FirstType => {
-            let read = read_type(alloc, &mut tokens);
-            first(alloc, read, tokens.left())
+            let read = read_type(alloc, &mut rest);
+            first(alloc, read, rest.left())
         }
         By::FirstView => {
-            let read = read_editioning_view(alloc, &mut tokens);
-            first(alloc, read, tokens.left())
+            let read = read_editioning_view(alloc, &mut rest);
+            first(alloc, read, rest.left())
         }
-        By::Sql => found(alloc, sql(alloc, all)),
-        By::Transaction => found(alloc, transaction(alloc, all)),
-        By::Session => found(alloc, session(alloc, all)),
+        By::Sql => found(alloc, sql(alloc, tokens)),
+        By::Transaction => found(alloc, transaction(alloc, tokens)),
+        By::Session => found(alloc, session(alloc, tokens)),
         By::Declaration => {
-            let read = read_declaration(alloc, &mut tokens);
-            whole(alloc, read, tokens.left())
+            let read = read_declaration(alloc, &mut rest);
+            whole(alloc, read, rest.left())
         }
         By::Simple => {
-            let read = read_simple(alloc, &mut tokens);
-            whole(alloc, read, tokens.left())
+            let read = read_simple(alloc, &mut rest);
+            whole(alloc, read, rest.left())
         }
         By::Heading => {
-            let read = read_heading(alloc, &mut tokens);
-            whole(alloc, read, tokens.left())
+            let read = read_heading(alloc, &mut rest);
+            whole(alloc, read, rest.left())
         }
         By::Call => {
-            let read = read_call(alloc, &mut tokens);
-            whole(alloc, read, tokens.left())
+            let read = read_call(alloc, &mut rest);
+            whole(alloc, read, rest.left())
         }
         By::Caught => {
-            let read = read_caught(alloc, &mut tokens);
-            whole(alloc, read, tokens.left())
+            let read = read_caught(alloc, &mut rest);
+            whole(alloc, read, rest.left())
         }
         By::Block => {
-            let read = read_block(alloc, &mut tokens);
-            whole(alloc, read, tokens.left())
+            let read = read_block(alloc, &mut rest);
+            whole(alloc, read, rest.left())
         }
         By::Body => {
-            let read = read_body(alloc, &mut tokens);
-            whole(alloc, read, tokens.left())
+            let read = read_body(alloc, &mut rest);
+            whole(alloc, read, rest.left())
         }
         By::Initial => {
-            let read = read_initial(alloc, &mut tokens);
-            whole(alloc, read, tokens.left())
+            let read = read_initial(alloc, &mut rest);
+            whole(alloc, read, rest.left())
         }
-        By::Unit => found(alloc, unit(alloc, all)),
-        By::Creation => found(alloc, created(alloc, all)),
-        By::BlockOrCall => found(alloc, block(alloc, all)),
+        By::Unit => found(alloc, unit(alloc, tokens)),
+        By::Creation => found(alloc, created(alloc, tokens)),
+        By::BlockOrCall => found(alloc, block(alloc, tokens)),
     }
+}
+
+/// The tree that the text spells.
+fn spelled(alloc: Global, by: By, text: &str) -> Result<Option<String>, NoMemory> {
+    let tokens = tokens_of(alloc, text)?;
+    tree_of(alloc, by, tokens.as_slice())
 }
 
 /// What the text spells, where its row says otherwise.
 fn fault(alloc: Global, by: By, row: Row) -> Result<Option<String>, NoMemory> {
     let (text, tree) = row;
-    let found = tree_of(alloc, by, text)?;
+    let found = spelled(alloc, by, text)?;
     if found.as_deref() == tree {
         return Ok(None);
     }
