@@ -4,8 +4,8 @@ use crate::reading::{By, Row, all_spell};
 use ebr_ddlparse::one_tree;
 use std::test::Fail;
 
-/// Definitions, and what is none.
-static DEFINITIONS: [Row; 79] = [
+/// Definitions.
+static DEFINITIONS: [Row; 42] = [
     // Editions.
     (
         "CREATE EDITION e2",
@@ -202,7 +202,16 @@ static DEFINITIONS: [Row; 79] = [
             r#"CreateObject { replace: true, unit: View(EditioningView { name: "V", names: [], items: [ViewItem { column: "A", alias: None }, ViewItem { column: "B", alias: Some("X") }, ViewItem { column: "D", alias: Some("Y") }], table: "T" }) }"#,
         ),
     ),
-    // No definitions.
+];
+
+#[test]
+fn definitions_have_their_trees(rt: HostRuntime) -> Result<(), Fail> {
+    one_tree();
+    all_spell(&rt, rt.alloc(), By::Definition, &DEFINITIONS)
+}
+
+/// What is no definition.
+static NO_DEFINITIONS: [Row; 37] = [
     ("", None),
     ("CREATE EDITION", None),
     ("CREATE EDITION e AS CHILD e1", None),
@@ -252,9 +261,8 @@ static DEFINITIONS: [Row; 79] = [
 ];
 
 #[test]
-fn definitions_have_their_trees(rt: HostRuntime) -> Result<(), Fail> {
-    one_tree();
-    all_spell(&rt, rt.alloc(), By::Definition, &DEFINITIONS)
+fn what_is_no_definition_has_no_tree(rt: HostRuntime) -> Result<(), Fail> {
+    all_spell(&rt, rt.alloc(), By::Definition, &NO_DEFINITIONS)
 }
 
 /// A type, and the number of the tokens that are left.

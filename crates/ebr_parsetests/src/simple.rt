@@ -99,8 +99,8 @@ fn declarations_have_their_trees(rt: HostRuntime) -> Result<(), Fail> {
     all_spell(&rt, rt.alloc(), By::Declaration, &DECLARATIONS)
 }
 
-/// Statements that hold no others, and what is none.
-static STATEMENTS: [Row; 68] = [
+/// Statements that hold no others.
+static STATEMENTS: [Row; 30] = [
     ("NULL;", Some("Null")),
     (
         "a := 1;",
@@ -182,7 +182,15 @@ static STATEMENTS: [Row; 68] = [
         "RAISE_APPLICATION_ERROR(-20001, 1);",
         Some("RaiseApplicationError(20001, Number(1))"),
     ),
-    // No such statements.
+];
+
+#[test]
+fn simple_statements_have_their_trees(rt: HostRuntime) -> Result<(), Fail> {
+    all_spell(&rt, rt.alloc(), By::Simple, &STATEMENTS)
+}
+
+/// What is no such statement.
+static NO_STATEMENTS: [Row; 38] = [
     ("", None),
     ("NULL", None),
     ("NULL a;", None),
@@ -224,8 +232,8 @@ static STATEMENTS: [Row; 68] = [
 ];
 
 #[test]
-fn simple_statements_have_their_trees(rt: HostRuntime) -> Result<(), Fail> {
-    all_spell(&rt, rt.alloc(), By::Simple, &STATEMENTS)
+fn what_is_no_simple_statement_has_no_tree(rt: HostRuntime) -> Result<(), Fail> {
+    all_spell(&rt, rt.alloc(), By::Simple, &NO_STATEMENTS)
 }
 
 /// Headings of loops, and what is none.

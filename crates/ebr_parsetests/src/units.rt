@@ -4,8 +4,8 @@ use crate::reading::{By, Row, all_spell};
 use ebr_plparse::one_tree;
 use std::test::Fail;
 
-/// Units, and what is none.
-static UNITS: [Row; 110] = [
+/// Subprograms, packages and their bodies.
+static UNITS: [Row; 15] = [
     // Subprograms.
     (
         "PROCEDURE p IS BEGIN NULL; END;",
@@ -83,7 +83,16 @@ static UNITS: [Row; 110] = [
             r#"PackageBody(PackageBody { name: "P", declarations: [], subprograms: [], statements: [Null], handlers: [Handler { caught: Others, statements: [Null] }] })"#,
         ),
     ),
-    // OUT is a mode, or names a table.
+];
+
+#[test]
+fn subprograms_and_packages_have_their_trees(rt: HostRuntime) -> Result<(), Fail> {
+    one_tree();
+    all_spell(&rt, rt.alloc(), By::Unit, &UNITS)
+}
+
+/// Procedures with one parameter.
+static PARAMETERS: [Row; 18] = [
     (
         "PROCEDURE p(a NUMBER) IS BEGIN NULL; END;",
         Some(
@@ -192,6 +201,15 @@ static UNITS: [Row; 110] = [
             r#"Subprogram(Subprogram { head: Head { name: "P", parameters: [Parameter { name: "A", mode: Some(InOut), ty: OfColumn("BOOLEAN", "TYPE") }], result: None }, body: Block { declarations: [], statements: [Null], handlers: [] } })"#,
         ),
     ),
+];
+
+#[test]
+fn out_is_a_mode_or_names_a_table(rt: HostRuntime) -> Result<(), Fail> {
+    all_spell(&rt, rt.alloc(), By::Unit, &PARAMETERS)
+}
+
+/// Triggers, views and blocks.
+static OTHERS: [Row; 14] = [
     // Triggers.
     (
         "TRIGGER g BEFORE INSERT ON t FOR EACH ROW BEGIN NULL; END;",
@@ -276,7 +294,15 @@ static UNITS: [Row; 110] = [
             r#"Block(Block { declarations: [], statements: [Call(Path { name: "P", member: Some("Q") }, Some([Number(1)]))], handlers: [] })"#,
         ),
     ),
-    // No units.
+];
+
+#[test]
+fn triggers_views_and_blocks_have_their_trees(rt: HostRuntime) -> Result<(), Fail> {
+    all_spell(&rt, rt.alloc(), By::Unit, &OTHERS)
+}
+
+/// What is no subprogram and no package.
+static NO_UNITS: [Row; 38] = [
     ("", None),
     ("PROCEDURE IS BEGIN NULL; END;", None),
     ("PROCEDURE p BEGIN NULL; END;", None),
@@ -318,6 +344,15 @@ static UNITS: [Row; 110] = [
     ),
     ("PACKAGE BODY p IS BEGIN END;", None),
     ("PACKAGE BODY p IS BEGIN NULL; END; BEGIN NULL; END;", None),
+];
+
+#[test]
+fn what_is_no_subprogram_or_package_has_no_tree(rt: HostRuntime) -> Result<(), Fail> {
+    all_spell(&rt, rt.alloc(), By::Unit, &NO_UNITS)
+}
+
+/// What is no trigger, view or block.
+static NO_OTHERS: [Row; 25] = [
     ("TRIGGER g INSERT ON t FOR EACH ROW BEGIN NULL; END;", None),
     ("TRIGGER g BEFORE ON t FOR EACH ROW BEGIN NULL; END;", None),
     (
@@ -376,9 +411,8 @@ static UNITS: [Row; 110] = [
 ];
 
 #[test]
-fn units_have_their_trees(rt: HostRuntime) -> Result<(), Fail> {
-    one_tree();
-    all_spell(&rt, rt.alloc(), By::Unit, &UNITS)
+fn what_is_no_trigger_view_or_block_has_no_tree(rt: HostRuntime) -> Result<(), Fail> {
+    all_spell(&rt, rt.alloc(), By::Unit, &NO_OTHERS)
 }
 
 /// Creations of units, and what is none.
