@@ -1,8 +1,9 @@
 -- Reading an expression is right.
 use Rattle.std.proofs.Common.{◌≡◌, ℕ, ◌-◌, ◌≤◌, Bool, false, List, length, drop, Option, Some, None, ◌++◌, ap, subst, ◌∙◌}
 use Rattle.ebr_lexer.specs.declared.token.Token.{Token}
-use Rattle.ebr_grammar.specs.Forms.{Found, IsReader}
+use Rattle.ebr_grammar.specs.Forms.{Found}
 use Rattle.ebr_grammar.specs.Grammar.{SpellsAny}
+use Rattle.ebr_grammar.proofs.Right.{IsReader}
 use Rattle.ebr_grammar.proofs.Laws.{bind_some, some_is}
 use Rattle.ebr_grammar.proofs.Depth.{reader}
 use Rattle.ebr_grammar.proofs.Places.{found_at, agree_at, none_at}

@@ -6,12 +6,12 @@ use Rattle.ebr_grammar.specs.declared.kind.Kind.{Kind}
 use Rattle.ebr_grammar.specs.declared.kind.Kind.TheVariants as k
 use Rattle.ebr_grammar.specs.declared.tokens.ReadStop.{ReadStop}
 use Rattle.ebr_grammar.specs.declared.tokens.ReadStop.TheVariants.{NoMemory}
-use Rattle.ebr_grammar.specs.Kinds.{name_kinds}
+use Rattle.ebr_grammar.specs.Kinds.{name_kinds, names_but}
 use Rattle.ebr_grammar.specs.Forms.{Found, Reader, sees}
 use Rattle.ebr_grammar.specs.Grammar.{Production, token, word, nothing, both, many, made, tested, led, named, SpellsAny}
 use Rattle.ebr_grammar.specs.Reading.{and_then, before, Hints, reads, reads_within}
 use Rattle.ebr_grammar.specs.Outcome.{number_of, content_of, named_by}
-use Rattle.ebr_grammar.specs.Words.{mark, ◌▸◌, ◌◂◌, ◌∣◌, maybe, is_there, all}
+use Rattle.ebr_grammar.specs.Words.{mark, ◌▸◌, ◌◂◌, ◌∣◌, maybe, name, is_there, all}
 use Rattle.ebr_ast.specs.declared.expression.Expr.{Expr}
 use Rattle.ebr_ast.specs.declared.expression.Expr.TheVariants as e
 use Rattle.ebr_ast.specs.declared.expression.Addend.{Addend, roll-Addend}
@@ -27,7 +27,6 @@ use Rattle.ebr_ast.specs.declared.expression.Attribute.TheVariants as attribute_
 use Rattle.ebr_ast.specs.declared.kinds.Op.TheVariants as op
 use Rattle.ebr_exprparse.specs.declared.level.Level.{Level}
 use Rattle.ebr_exprparse.specs.declared.level.Level.TheVariants.{Whole, Sum}
-use Rattle.ebr_exprparse.specs.declared.level.TheConstants.{PLAIN_NAMES}
 
 -- ---- trees
 
@@ -63,13 +62,6 @@ abbrev pub quotient : Read → Expr → Option Expr
 quotient a b = if a.1 then Some (e.Quotient a.0 b) else None
 
 -- ---- productions
-
-abbrev pub name : P (List ℕ)
-name = token name_kinds named_by
-
--- the names but TRUNC
-unfoldable pub plain_names : List Kind
-plain_names = PLAIN_NAMES
 
 abbrev pub whole : P Read
 whole = named Whole (λ x. x)
@@ -169,7 +161,7 @@ constants = k.Null ∷ k.True ∷ k.False ∷ k.Sqlcode ∷ k.Inserting ∷ k.Up
 -- a name with what stands behind it
 unfoldable pub reference : P Expr
 reference = tested (λ found. found) (both (λ first f. f first) (token (k.Trunc ∷ []) named_by) trunc_tail)
-    ∣ both (λ first f. f first) (token plain_names named_by) name_tail
+    ∣ both (λ first f. f first) (token (names_but (k.Trunc ∷ [])) named_by) name_tail
 
 unfoldable pub primary : P Expr
 primary = made e.Number (token (k.NumberLiteral ∷ []) number_of)
@@ -304,10 +296,6 @@ hints = record { begins = begins; goes_on = goes_on }
 -- what reading by a production gives, with expressions nested to a depth
 abbrev pub reads_at : ℕ → {C : Type 0} → P C → Reader C
 reads_at n g = reads hints (reads_within hints grammar n) g
-
--- what was found, behind its first operand or name
-abbrev pub with_first : {A B : Type 0} → A → Found (A → B) → Found B
-with_first a found = and_then found (λ f end. Some (f a, end))
 
 -- what was found behind the name TRUNC, where it gives a tree
 abbrev pub kept : List ℕ → Found (List ℕ → Option Expr) → Found Expr

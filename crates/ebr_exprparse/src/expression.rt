@@ -1,11 +1,12 @@
 //! Expressions, a method for each production.
 
 ghost use Rattle.std.specs.Prelude.{◌≡◌};
+ghost use Rattle.ebr_grammar.specs.Reading.{with_first};
 ghost use Rattle.ebr_grammar.specs.Outcome.{Reads};
 ghost use Rattle.ebr_exprparse.specs.Expressions as spec;
 ghost use Rattle.ebr_exprparse.specs.Nests.{Nests};
 
-use crate::level::{Level, PLAIN_NAMES};
+use crate::level::Level;
 use crate::trees::{
     Read, Tree, between, compared, conjoined, disjoined, like, name_or_call, negated, path,
     product, quotient, summed,
@@ -55,7 +56,7 @@ impl<F: Fn(Global, &mut Tokens<'_>, usize, Level) -> Result<Read, ReadStop>> Gra
     /// The items behind the first, and with it.
     fn more_items(&self, tokens: &mut Tokens<'_>, first: Tree) -> Result<List<Tree>, ReadStop>
         requires { Nests self.now.depth (F.pre self.now.expr) (F.post self.now.expr) }
-        ensures { Reads (spec.with_first first (spec.reads_at self.now.depth spec.more_items tokens.old)) result tokens.new }
+        ensures { Reads (with_first first (spec.reads_at self.now.depth spec.more_items tokens.old)) result tokens.new }
     {
         let mut found = List::new(self.alloc);
         found.push(first)?;
@@ -103,7 +104,7 @@ impl<F: Fn(Global, &mut Tokens<'_>, usize, Level) -> Result<Read, ReadStop>> Gra
     /// What stands behind the dot.
     fn member(&self, tokens: &mut Tokens<'_>, first: Name) -> Result<Tree, ReadStop>
         requires { Nests self.now.depth (F.pre self.now.expr) (F.post self.now.expr) }
-        ensures { Reads (spec.with_first first (spec.reads_at self.now.depth spec.member tokens.old)) result tokens.new }
+        ensures { Reads (with_first first (spec.reads_at self.now.depth spec.member tokens.old)) result tokens.new }
     {
         let second = tokens.name(self.alloc)?;
         let given = self.given(tokens)?;
@@ -164,7 +165,7 @@ impl<F: Fn(Global, &mut Tokens<'_>, usize, Level) -> Result<Read, ReadStop>> Gra
     /// What stands behind the first argument of TRUNC, where no `/` follows it.
     fn trunc_call(&self, tokens: &mut Tokens<'_>, name: Name, first: Read) -> Result<Tree, ReadStop>
         requires { Nests self.now.depth (F.pre self.now.expr) (F.post self.now.expr) }
-        ensures { Reads (spec.kept name (spec.with_first first (spec.reads_at self.now.depth spec.trunc_call tokens.old))) result tokens.new }
+        ensures { Reads (spec.kept name (with_first first (spec.reads_at self.now.depth spec.trunc_call tokens.old))) result tokens.new }
     {
         let (tree, _) = first;
         let arguments = self.more_items(tokens, tree)?;
@@ -175,7 +176,7 @@ impl<F: Fn(Global, &mut Tokens<'_>, usize, Level) -> Result<Read, ReadStop>> Gra
     /// What stands behind the first argument of TRUNC.
     fn trunc_end(&self, tokens: &mut Tokens<'_>, name: Name, first: Read) -> Result<Tree, ReadStop>
         requires { Nests self.now.depth (F.pre self.now.expr) (F.post self.now.expr) }
-        ensures { Reads (spec.kept name (spec.with_first first (spec.reads_at self.now.depth spec.trunc_end tokens.old))) result tokens.new }
+        ensures { Reads (spec.kept name (with_first first (spec.reads_at self.now.depth spec.trunc_end tokens.old))) result tokens.new }
     {
         if tokens.eat(Kind::Slash) {
             let divisor = self.divisor(tokens)?;
@@ -220,7 +221,7 @@ impl<F: Fn(Global, &mut Tokens<'_>, usize, Level) -> Result<Read, ReadStop>> Gra
     /// What stands behind another name.
     fn name_tail(&self, tokens: &mut Tokens<'_>, name: Name) -> Result<Tree, ReadStop>
         requires { Nests self.now.depth (F.pre self.now.expr) (F.post self.now.expr) }
-        ensures { Reads (spec.with_first name (spec.reads_at self.now.depth spec.name_tail tokens.old)) result tokens.new }
+        ensures { Reads (with_first name (spec.reads_at self.now.depth spec.name_tail tokens.old)) result tokens.new }
     {
         if tokens.eat(Kind::Dot) {
             self.member(tokens, name)
@@ -300,7 +301,7 @@ impl<F: Fn(Global, &mut Tokens<'_>, usize, Level) -> Result<Read, ReadStop>> Gra
             let name = tokens.name_among(self.alloc, &[Kind::Trunc])?;
             self.trunc_tail(tokens, name)
         } else {
-            let name = tokens.name_among(self.alloc, &PLAIN_NAMES)?;
+            let name = tokens.name_but(self.alloc, &[Kind::Trunc])?;
             self.name_tail(tokens, name)
         }
     }
@@ -434,7 +435,7 @@ impl<F: Fn(Global, &mut Tokens<'_>, usize, Level) -> Result<Read, ReadStop>> Gra
     /// What stands behind IN.
     fn in_list(&self, tokens: &mut Tokens<'_>, left: Tree, negated: bool) -> Result<Tree, ReadStop>
         requires { Nests self.now.depth (F.pre self.now.expr) (F.post self.now.expr) }
-        ensures { Reads (spec.with_first left (spec.reads_at self.now.depth (spec.in_list negated) tokens.old)) result tokens.new }
+        ensures { Reads (with_first left (spec.reads_at self.now.depth (spec.in_list negated) tokens.old)) result tokens.new }
     {
         let items = self.closed_list(tokens)?;
         shared(self.alloc, Expr::In(left, items, negated))
@@ -451,7 +452,7 @@ impl<F: Fn(Global, &mut Tokens<'_>, usize, Level) -> Result<Read, ReadStop>> Gra
     /// What stands behind BETWEEN.
     fn range(&self, tokens: &mut Tokens<'_>, left: Tree, negated: bool) -> Result<Tree, ReadStop>
         requires { Nests self.now.depth (F.pre self.now.expr) (F.post self.now.expr) }
-        ensures { Reads (spec.with_first left (spec.reads_at self.now.depth (spec.range negated) tokens.old)) result tokens.new }
+        ensures { Reads (with_first left (spec.reads_at self.now.depth (spec.range negated) tokens.old)) result tokens.new }
     {
         let low = self.sum(tokens)?;
         let high = self.range_end(tokens)?;
@@ -461,7 +462,7 @@ impl<F: Fn(Global, &mut Tokens<'_>, usize, Level) -> Result<Read, ReadStop>> Gra
     /// What stands behind LIKE.
     fn pattern(&self, tokens: &mut Tokens<'_>, left: Tree, negated: bool) -> Result<Tree, ReadStop>
         requires { Nests self.now.depth (F.pre self.now.expr) (F.post self.now.expr) }
-        ensures { Reads (spec.with_first left (spec.reads_at self.now.depth (spec.pattern negated) tokens.old)) result tokens.new }
+        ensures { Reads (with_first left (spec.reads_at self.now.depth (spec.pattern negated) tokens.old)) result tokens.new }
     {
         let right = self.sum(tokens)?;
         like(self.alloc, left, right, negated)
@@ -470,7 +471,7 @@ impl<F: Fn(Global, &mut Tokens<'_>, usize, Level) -> Result<Read, ReadStop>> Gra
     /// What stands behind IS.
     fn null_test(&self, tokens: &mut Tokens<'_>, left: Tree) -> Result<Tree, ReadStop>
         requires { Nests self.now.depth (F.pre self.now.expr) (F.post self.now.expr) }
-        ensures { Reads (spec.with_first left (spec.reads_at self.now.depth spec.null_test tokens.old)) result tokens.new }
+        ensures { Reads (with_first left (spec.reads_at self.now.depth spec.null_test tokens.old)) result tokens.new }
     {
         let negated = tokens.eat(Kind::Not);
         tokens.expect(Kind::Null)?;
@@ -485,7 +486,7 @@ impl<F: Fn(Global, &mut Tokens<'_>, usize, Level) -> Result<Read, ReadStop>> Gra
         negated: bool,
     ) -> Result<Tree, ReadStop>
         requires { Nests self.now.depth (F.pre self.now.expr) (F.post self.now.expr) }
-        ensures { Reads (spec.with_first left (spec.reads_at self.now.depth (spec.membership negated) tokens.old)) result tokens.new }
+        ensures { Reads (with_first left (spec.reads_at self.now.depth (spec.membership negated) tokens.old)) result tokens.new }
     {
         if tokens.eat(Kind::In) {
             self.in_list(tokens, left, negated)
@@ -500,7 +501,7 @@ impl<F: Fn(Global, &mut Tokens<'_>, usize, Level) -> Result<Read, ReadStop>> Gra
     /// A test of the operand that stands before it.
     fn test(&self, tokens: &mut Tokens<'_>, left: Tree) -> Result<Tree, ReadStop>
         requires { Nests self.now.depth (F.pre self.now.expr) (F.post self.now.expr) }
-        ensures { Reads (spec.with_first left (spec.reads_at self.now.depth spec.test tokens.old)) result tokens.new }
+        ensures { Reads (with_first left (spec.reads_at self.now.depth spec.test tokens.old)) result tokens.new }
     {
         if tokens.eat(Kind::Is) {
             self.null_test(tokens, left)
@@ -537,7 +538,7 @@ impl<F: Fn(Global, &mut Tokens<'_>, usize, Level) -> Result<Read, ReadStop>> Gra
     /// A sign of comparison with its right operand.
     fn signed(&self, tokens: &mut Tokens<'_>, left: Tree) -> Result<Tree, ReadStop>
         requires { Nests self.now.depth (F.pre self.now.expr) (F.post self.now.expr) }
-        ensures { Reads (spec.with_first left (spec.reads_at self.now.depth spec.signed tokens.old)) result tokens.new }
+        ensures { Reads (with_first left (spec.reads_at self.now.depth spec.signed tokens.old)) result tokens.new }
     {
         let by = self.sign(tokens)?;
         let right = self.sum(tokens)?;
@@ -547,7 +548,7 @@ impl<F: Fn(Global, &mut Tokens<'_>, usize, Level) -> Result<Read, ReadStop>> Gra
     /// What stands behind the first sum of a comparison.
     fn comparison_tail(&self, tokens: &mut Tokens<'_>, left: Tree) -> Result<Read, ReadStop>
         requires { Nests self.now.depth (F.pre self.now.expr) (F.post self.now.expr) }
-        ensures { Reads (spec.with_first left (spec.reads_at self.now.depth spec.comparison_tail tokens.old)) result tokens.new }
+        ensures { Reads (with_first left (spec.reads_at self.now.depth spec.comparison_tail tokens.old)) result tokens.new }
     {
         if tokens.sees_any(&[
             Kind::Equal,

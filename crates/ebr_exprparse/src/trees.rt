@@ -1,7 +1,7 @@
 //! Makes the trees of expressions.
 
 ghost use Rattle.std.specs.Prelude.{◌≡◌, IfOk, Some, false, List as Sequence};
-ghost use Rattle.ebr_lexer.specs.declared.token.Token.{Token as Piece};
+ghost use Rattle.ebr_lexer.specs.declared.token.Token.{Token};
 ghost use Rattle.ebr_grammar.specs.Outcome.{Reads};
 ghost use Rattle.ebr_exprparse.specs.Expressions as spec;
 
@@ -44,7 +44,7 @@ pub fn quotient(alloc: Global, dividend: Read, divisor: Tree) -> Result<Tree, Re
 }
 
 pub fn compared(alloc: Global, by: Comparison, left: Tree, right: Tree) -> Result<Tree, ReadStop>
-    ensures { (ts : Sequence Piece) → Reads (Some (Expr.Compare by left right, ts)) result ts }
+    ensures { (ts : Sequence Token) → Reads (Some (Expr.Compare by left right, ts)) result ts }
 {
     shared(alloc, Expr::Compare(by, left, right))
 }
@@ -56,19 +56,19 @@ pub fn between(
     high: Tree,
     negated: bool,
 ) -> Result<Tree, ReadStop>
-    ensures { (ts : Sequence Piece) → Reads (Some (Expr.Between value low high negated, ts)) result ts }
+    ensures { (ts : Sequence Token) → Reads (Some (Expr.Between value low high negated, ts)) result ts }
 {
     shared(alloc, Expr::Between(value, low, high, negated))
 }
 
 pub fn like(alloc: Global, value: Tree, pattern: Tree, negated: bool) -> Result<Tree, ReadStop>
-    ensures { (ts : Sequence Piece) → Reads (Some (Expr.Like value pattern negated, ts)) result ts }
+    ensures { (ts : Sequence Token) → Reads (Some (Expr.Like value pattern negated, ts)) result ts }
 {
     shared(alloc, Expr::Like(value, pattern, negated))
 }
 
 pub fn product(alloc: Global, first: Tree, more: List<Tree>) -> Result<Tree, ReadStop>
-    ensures { (ts : Sequence Piece) → Reads (Some (spec.joined Expr.Product first more, ts)) result ts }
+    ensures { (ts : Sequence Token) → Reads (Some (spec.joined Expr.Product first more, ts)) result ts }
 {
     if more.is_empty() {
         return Ok(first);
@@ -77,7 +77,7 @@ pub fn product(alloc: Global, first: Tree, more: List<Tree>) -> Result<Tree, Rea
 }
 
 pub fn summed(alloc: Global, first: Tree, more: List<Addend>) -> Result<Tree, ReadStop>
-    ensures { (ts : Sequence Piece) → Reads (Some (spec.summed first more, ts)) result ts }
+    ensures { (ts : Sequence Token) → Reads (Some (spec.summed first more, ts)) result ts }
 {
     if more.is_empty() {
         return Ok(first);

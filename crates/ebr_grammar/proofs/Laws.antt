@@ -9,6 +9,7 @@ use Rattle.ebr_grammar.specs.Forms.{Form, Found, Reader, sees}
 use Rattle.ebr_grammar.specs.Grammar.{Production, token, word, nothing, both, or, many, made, tested, led, named, outer, SpellsEach, Spells}
 use Rattle.ebr_grammar.specs.Reading.{and_then, before, next, read_token, read_word, Hints, nullable, first, repeat, reads}
 use Rattle.ebr_grammar.specs.Choice.{apart, among, after, is_clear}
+use Rattle.ebr_grammar.proofs.Right.{foreign, AreRight, halves}
 use Rattle.ebr_grammar.proofs.Next.{and_true, not_true, not_both, sees-append, sees_left, sees_right, sees_neither, sees-apart, sees-among}
 
 -- ---- steps
@@ -70,37 +71,40 @@ begun_each F kinds b h (a ∷ all) ts s =
     ]
 
 module _ {K : Type 0} {V : K → Type 0} (hints : Hints K) (given : (k : K) → Form (V k)) (starts : (k : K) (ts : List Token) (a : V k) → given k ts a → sees (hints.begins k) ts ≡ true) where
-  pub begun : {C : Type 0} (g : Production K V C) → is_clear hints g ≡ true → (ts : List Token) (c : C) → Spells given g ts c → (sees (first hints g) ts ≡ true) ⊎ ((nullable hints g ≡ true) × (ts ≡ []))
-  begun (token kinds f) clear ts c s = inl (begun_token kinds ts s.0 s.1 s.2)
-  begun (word kind c') clear ts c s = inl (begun_token (kind ∷ []) ts s.0 s.1 s.2)
-  begun (nothing x) clear ts c s = inr (refl, s.0)
-  begun (both f g h) clear ts c s =
+  pub begun : {C : Type 0} (g : Production K V C) → is_clear hints g ≡ true → AreRight (foreign g) → (ts : List Token) (c : C) → Spells given g ts c → (sees (first hints g) ts ≡ true) ⊎ ((nullable hints g ≡ true) × (ts ≡ []))
+  begun (token kinds f) clear right ts c s = inl (begun_token kinds ts s.0 s.1 s.2)
+  begun (word kind c') clear right ts c s = inl (begun_token (kind ∷ []) ts s.0 s.1 s.2)
+  begun (nothing x) clear right ts c s = inr (refl, s.0)
+  begun (both f g h) clear right ts c s =
+      let rights = halves (foreign g) (foreign h) right in
       let p = and_true (is_clear hints g) (is_clear hints h && apart (after hints g) (first hints h)) clear in
       let q = and_true (is_clear hints h) (apart (after hints g) (first hints h)) p.1 in
-      begun_both (nullable hints g) (nullable hints h) (first hints g) (first hints h) ts s.0 s.1 s.4 (begun g p.0 s.0 s.2 s.5) (begun h q.0 s.1 s.3 s.6)
+      begun_both (nullable hints g) (nullable hints h) (first hints g) (first hints h) ts s.0 s.1 s.4 (begun g p.0 rights.0 s.0 s.2 s.5) (begun h q.0 rights.1 s.1 s.3 s.6)
     where
       begun_both : (m n : Bool) (xs ys : List Kind) (ts x y : List Token) → ts ≡ x ++ y → Begun xs m x → Begun ys n y → Begun (if m then xs ++ ys else xs) (if m then n else false) ts
       begun_both m n xs ys ts x y e (inl p) q = inl (first_then m xs ys ts (subst (λ (z : List Token). sees xs z ≡ true) (sym e) (sees-append xs x y p)))
       begun_both m n xs ys ts x y e (inr p) (inl q) = inl (then_first m xs ys ts p.0 (subst (λ (z : List Token). sees ys z ≡ true) (sym (e ∙ ap (λ (z : List Token). z ++ y) p.1)) q))
       begun_both m n xs ys ts x y e (inr p) (inr q) = inr (if_both m n p.0 q.0, e ∙ ap (λ (z : List Token). z ++ y) p.1 ∙ q.1)
-  begun (or g h) clear ts c (inl s) =
+  begun (or g h) clear right ts c (inl s) =
+      let rights = halves (foreign g) (foreign h) right in
       let p = and_true (is_clear hints g) (is_clear hints h && (not (nullable hints g) && apart (first hints g) (first hints h))) clear in
-      elim (begun g p.0 ts c s) [ inl seen ↦ inl (sees_left _ _ ts seen) | inr none ↦ inr (if_left _ _ none.0, none.1) ]
-  begun (or g h) clear ts c (inr s) =
+      elim (begun g p.0 rights.0 ts c s) [ inl seen ↦ inl (sees_left _ _ ts seen) | inr none ↦ inr (if_left _ _ none.0, none.1) ]
+  begun (or g h) clear right ts c (inr s) =
+      let rights = halves (foreign g) (foreign h) right in
       let p = and_true (is_clear hints g) (is_clear hints h && (not (nullable hints g) && apart (first hints g) (first hints h))) clear in
       let q = and_true (is_clear hints h) (not (nullable hints g) && apart (first hints g) (first hints h)) p.1 in
-      elim (begun h q.0 ts c s) [ inl seen ↦ inl (sees_right _ _ ts seen) | inr none ↦ inr (if_right _ _ none.0, none.1) ]
-  begun (many f g) clear ts c s =
+      elim (begun h q.0 rights.1 ts c s) [ inl seen ↦ inl (sees_right _ _ ts seen) | inr none ↦ inr (if_right _ _ none.0, none.1) ]
+  begun (many f g) clear right ts c s =
       let p = and_true (is_clear hints g) (not (nullable hints g) && apart (after hints g) (first hints g)) clear in
-      begun_each (Spells given g) (first hints g) (nullable hints g) (begun g p.0) s.0 ts s.1
-  begun (made f g) clear ts c s = begun g clear ts s.0 s.1
-  begun (tested f g) clear ts c s = begun g clear ts s.0 s.1
-  begun (led kinds g) clear ts c s =
+      begun_each (Spells given g) (first hints g) (nullable hints g) (begun g p.0 right) s.0 ts s.1
+  begun (made f g) clear right ts c s = begun g clear right ts s.0 s.1
+  begun (tested f g) clear right ts c s = begun g clear right ts s.0 s.1
+  begun (led kinds g) clear right ts c s =
       let p = and_true (is_clear hints g) (not (nullable hints g) && among (first hints g) kinds) clear in
       let q = and_true (not (nullable hints g)) (among (first hints g) kinds) p.1 in
-      elim (begun g p.0 ts c s) [ inl seen ↦ inl (sees-among (first hints g) kinds ts q.1 seen) | inr none ↦ absurd (not_both (nullable hints g) none.0 (not_true _ q.0)) ]
-  begun (named k f) clear ts c s = inl (starts k ts s.0 s.1)
-  begun (outer o f) clear ts c s = inl (o.law.begun ts s.0 s.1)
+      elim (begun g p.0 right ts c s) [ inl seen ↦ inl (sees-among (first hints g) kinds ts q.1 seen) | inr none ↦ absurd (not_both (nullable hints g) none.0 (not_true _ q.0)) ]
+  begun (named k f) clear right ts c s = inl (starts k ts s.0 s.1)
+  begun (outer o f) clear right ts c s = inl (right.0.begun ts s.0 s.1)
 
 -- ---- what is read is spelled so
 
@@ -158,52 +162,54 @@ sound_each F kinds r h (suc n) found ts x e =
 
 module _ {K : Type 0} {V : K → Type 0} (hints : Hints K) (given : (k : K) → Form (V k)) (at : (k : K) → Reader (V k))
     (sounds : (k : K) (ts : List Token) (x : V k × List Token) → at k ts ≡ Some x → (front : List Token) × (ts ≡ front ++ x.1) × given k front x.0) where
-  pub sound : {C : Type 0} (g : Production K V C) (ts : List Token) (x : C × List Token) → reads hints at g ts ≡ Some x → (front : List Token) × (ts ≡ front ++ x.1) × Spells given g front x.0
+  pub sound : {C : Type 0} (g : Production K V C) → AreRight (foreign g) → (ts : List Token) (x : C × List Token) → reads hints at g ts ≡ Some x → (front : List Token) × (ts ≡ front ++ x.1) × Spells given g front x.0
   unfolding reads
-  sound (token kinds f) ts x e = sound_token kinds f ts x e
-  sound (word kind c) ts x e = sound_word kind c ts x e
-  sound (nothing c) ts x e =
+  sound (token kinds f) right ts x e = sound_token kinds f ts x e
+  sound (word kind c) right ts x e = sound_word kind c ts x e
+  sound (nothing c) right ts x e =
       let p = some_is (c, ts) x e in
       ([], ap (λ (z : _ × List Token). z.1) p, (refl, ap (λ (z : _ × List Token). z.0) p))
-  sound (both f g h) ts x e =
+  sound (both f g h) right ts x e =
+      let rights = halves (foreign g) (foreign h) right in
       let p = bind_some (reads hints at g ts) (λ a rest. and_then (reads hints at h rest) (λ b end. Some (f a b, end))) x e in
       let q = bind_some (reads hints at h p.0.1) (λ b end. Some (f p.0.0 b, end)) x p.2 in
-      let one = sound g ts p.0 p.1 in
-      let two = sound h p.0.1 q.0 q.1 in
+      let one = sound g rights.0 ts p.0 p.1 in
+      let two = sound h rights.1 p.0.1 q.0 q.1 in
       let is = some_is (f p.0.0 q.0.0, q.0.1) x q.2 in (
         one.0 ++ two.0,
         one.1 ∙ ap (λ (z : List Token). one.0 ++ z) two.1 ∙ sym (append_assoc one.0 two.0 q.0.1) ∙ ap (λ (z : _ × List Token). (one.0 ++ two.0) ++ z.1) is,
         (one.0, two.0, p.0.0, q.0.0, refl, one.2, two.2, ap (λ (z : _ × List Token). z.0) is),
       )
-  sound (or g h) ts x e =
+  sound (or g h) right ts x e =
+      let rights = halves (foreign g) (foreign h) right in
       elim (which (sees (first hints g) ts) (reads hints at g ts) (reads hints at h ts) (Some x) e) [
-        | inl p ↦ let one = sound g ts x p.1 in (one.0, one.1, inl one.2)
-        | inr p ↦ let one = sound h ts x p.1 in (one.0, one.1, inr one.2)
+        | inl p ↦ let one = sound g rights.0 ts x p.1 in (one.0, one.1, inl one.2)
+        | inr p ↦ let one = sound h rights.1 ts x p.1 in (one.0, one.1, inr one.2)
       ]
-  sound (many f g) ts x e =
+  sound (many f g) right ts x e =
       let p = bind_some (repeat (first hints g) (reads hints at g) (length ts) [] ts) (λ found end. Some (f found, end)) x e in
-      let all = sound_each (Spells given g) (first hints g) (reads hints at g) (sound g) (length ts) [] ts p.0 p.1 in
+      let all = sound_each (Spells given g) (first hints g) (reads hints at g) (sound g right) (length ts) [] ts p.0 p.1 in
       let is = some_is (f p.0.0, p.0.1) x p.2 in
       (all.2.0, all.2.1 ∙ ap (λ (z : _ × List Token). all.2.0 ++ z.1) is, (all.0, all.2.2, ap f (sym all.1) ∙ ap (λ (z : _ × List Token). z.0) is))
-  sound (made f g) ts x e =
+  sound (made f g) right ts x e =
       let p = bind_some (reads hints at g ts) (λ a end. Some (f a, end)) x e in
-      let one = sound g ts p.0 p.1 in
+      let one = sound g right ts p.0 p.1 in
       let is = some_is (f p.0.0, p.0.1) x p.2 in
       (one.0, one.1 ∙ ap (λ (z : _ × List Token). one.0 ++ z.1) is, (p.0.0, one.2, ap (λ (z : _ × List Token). z.0) is))
-  sound (tested f g) ts x e =
+  sound (tested f g) right ts x e =
       let p = bind_some (reads hints at g ts) (λ a end. before end (f a)) x e in
-      let one = sound g ts p.0 p.1 in
+      let one = sound g right ts p.0 p.1 in
       let is = before_some p.0.1 (f p.0.0) x p.2 in
       (one.0, one.1 ∙ ap (λ (z : List Token). one.0 ++ z) is.1, (p.0.0, one.2, is.0))
-  sound (led kinds g) ts x e = sound g ts x e
-  sound (named k f) ts x e =
+  sound (led kinds g) right ts x e = sound g right ts x e
+  sound (named k f) right ts x e =
       let p = bind_some (at k ts) (λ a end. Some (f a, end)) x e in
       let one = sounds k ts p.0 p.1 in
       let is = some_is (f p.0.0, p.0.1) x p.2 in
       (one.0, one.1 ∙ ap (λ (z : _ × List Token). one.0 ++ z.1) is, (p.0.0, one.2, ap (λ (z : _ × List Token). z.0) is))
-  sound (outer o f) ts x e =
+  sound (outer o f) right ts x e =
       let p = bind_some (o.reader ts) (λ a end. Some (f a, end)) x e in
-      let one = o.law.sound ts p.0 p.1 in
+      let one = right.0.sound ts p.0 p.1 in
       let is = some_is (f p.0.0, p.0.1) x p.2 in
       (one.0, one.1 ∙ ap (λ (z : _ × List Token). one.0 ++ z.1) is, (p.0.0, one.2, ap (λ (z : _ × List Token). z.0) is))
 
@@ -294,44 +300,47 @@ module _ {A : Type 0} (F : Form A) (kinds goes : List Kind) (r : Reader A) (begi
 module _ {K : Type 0} {V : K → Type 0} (hints : Hints K) (given : (k : K) → Form (V k)) (at : (k : K) → Reader (V k))
     (starts : (k : K) (ts : List Token) (a : V k) → given k ts a → sees (hints.begins k) ts ≡ true)
     (completes : (k : K) (front rest : List Token) (a : V k) → given k front a → sees (hints.goes_on k) rest ≡ false → at k (front ++ rest) ≡ Some (a, rest)) where
-  pub complete : {C : Type 0} (g : Production K V C) → is_clear hints g ≡ true → (front rest : List Token) (c : C) → Spells given g front c → sees (after hints g) rest ≡ false
+  pub complete : {C : Type 0} (g : Production K V C) → is_clear hints g ≡ true → AreRight (foreign g) → (front rest : List Token) (c : C) → Spells given g front c → sees (after hints g) rest ≡ false
       → reads hints at g (front ++ rest) ≡ Some (c, rest)
   unfolding reads
-  complete (token kinds f) clear front rest c s stop = complete_token kinds f front rest c s.0 s.1 s.2 s.3
-  complete (word kind d) clear front rest c s stop = complete_word kind d front rest c s.0 s.1 s.2 s.3
-  complete (nothing x) clear front rest c s stop = ap (λ (z : List Token). Some (x, z ++ rest)) s.0 ∙ ap (λ z. Some (z, rest)) s.1
-  complete (both f g h) clear front rest c s stop =
+  complete (token kinds f) clear right front rest c s stop = complete_token kinds f front rest c s.0 s.1 s.2 s.3
+  complete (word kind d) clear right front rest c s stop = complete_word kind d front rest c s.0 s.1 s.2 s.3
+  complete (nothing x) clear right front rest c s stop = ap (λ (z : List Token). Some (x, z ++ rest)) s.0 ∙ ap (λ z. Some (z, rest)) s.1
+  complete (both f g h) clear right front rest c s stop =
+      let rights = halves (foreign g) (foreign h) right in
       let p = and_true _ _ clear in
       let q = and_true _ _ p.1 in
       let follow = follow_both (nullable hints h) (after hints h) (after hints g) rest stop in
-      let unseen = unseen_after (nullable hints h) (after hints g) (first hints h) s.1 rest q.1 (begun hints given starts h q.0 s.1 s.3 s.6) follow.1 in
-      let one = complete g p.0 s.0 (s.1 ++ rest) s.2 s.5 unseen in
-      let two = complete h q.0 s.1 rest s.3 s.6 follow.0 in
+      let unseen = unseen_after (nullable hints h) (after hints g) (first hints h) s.1 rest q.1 (begun hints given starts h q.0 rights.1 s.1 s.3 s.6) follow.1 in
+      let one = complete g p.0 rights.0 s.0 (s.1 ++ rest) s.2 s.5 unseen in
+      let two = complete h q.0 rights.1 s.1 rest s.3 s.6 follow.0 in
       ap (λ (z : List Token). reads hints at (both f g h) z) (ap (λ (z : List Token). z ++ rest) s.4 ∙ append_assoc s.0 s.1 rest)
       ∙ then_both (reads hints at g (s.0 ++ (s.1 ++ rest))) (reads hints at h) f s.2 (s.1 ++ rest) s.3 rest c one two s.7
-  complete (or g h) clear front rest c (inl s) stop =
+  complete (or g h) clear right front rest c (inl s) stop =
+      let rights = halves (foreign g) (foreign h) right in
       let p = and_true _ _ clear in
       let q = and_true _ _ p.1 in
       let r = and_true _ _ q.1 in
       let follow = follow_or (nullable hints h) (after hints g) (after hints h) (first hints g) rest stop in
-      let seen = sees-append (first hints g) front rest (begun_first (first hints g) (nullable hints g) front (not_true _ r.0) (begun hints given starts g p.0 front c s)) in
-      take_first (sees (first hints g) (front ++ rest)) (reads hints at g (front ++ rest)) (reads hints at h (front ++ rest)) (Some (c, rest)) seen (complete g p.0 front rest c s follow.0)
-  complete (or g h) clear front rest c (inr s) stop =
+      let seen = sees-append (first hints g) front rest (begun_first (first hints g) (nullable hints g) front (not_true _ r.0) (begun hints given starts g p.0 rights.0 front c s)) in
+      take_first (sees (first hints g) (front ++ rest)) (reads hints at g (front ++ rest)) (reads hints at h (front ++ rest)) (Some (c, rest)) seen (complete g p.0 rights.0 front rest c s follow.0)
+  complete (or g h) clear right front rest c (inr s) stop =
+      let rights = halves (foreign g) (foreign h) right in
       let p = and_true _ _ clear in
       let q = and_true _ _ p.1 in
       let r = and_true _ _ q.1 in
       let follow = follow_or (nullable hints h) (after hints g) (after hints h) (first hints g) rest stop in
-      let unseen = unseen_after (nullable hints h) (first hints g) (first hints h) front rest r.1 (begun hints given starts h q.0 front c s) follow.2 in
-      take_second (sees (first hints g) (front ++ rest)) (reads hints at g (front ++ rest)) (reads hints at h (front ++ rest)) (Some (c, rest)) unseen (complete h q.0 front rest c s follow.1)
-  complete (many f g) clear front rest c s stop =
+      let unseen = unseen_after (nullable hints h) (first hints g) (first hints h) front rest r.1 (begun hints given starts h q.0 rights.1 front c s) follow.2 in
+      take_second (sees (first hints g) (front ++ rest)) (reads hints at g (front ++ rest)) (reads hints at h (front ++ rest)) (Some (c, rest)) unseen (complete h q.0 rights.1 front rest c s follow.1)
+  complete (many f g) clear right front rest c s stop =
       let p = and_true _ _ clear in
       let q = and_true _ _ p.1 in
       let follow = sees_neither (after hints g) (first hints g) rest stop in
-      let begins = λ (ts : List Token) (a : _) (s : Spells given g ts a). begun_first (first hints g) (nullable hints g) ts (not_true _ q.0) (begun hints given starts g p.0 ts a s) in
-      let all = complete_each (Spells given g) (first hints g) (after hints g) (reads hints at g) begins (complete g p.0) q.1 (length (front ++ rest)) [] s.0 front rest (omega (arith, length-append front rest)) s.1 follow.0 follow.1 in
+      let begins = λ (ts : List Token) (a : _) (s : Spells given g ts a). begun_first (first hints g) (nullable hints g) ts (not_true _ q.0) (begun hints given starts g p.0 right ts a s) in
+      let all = complete_each (Spells given g) (first hints g) (after hints g) (reads hints at g) begins (complete g p.0 right) q.1 (length (front ++ rest)) [] s.0 front rest (omega (arith, length-append front rest)) s.1 follow.0 follow.1 in
       then_made (repeat (first hints g) (reads hints at g) (length (front ++ rest)) [] (front ++ rest)) f s.0 rest c all s.2
-  complete (made f g) clear front rest c s stop = then_made (reads hints at g (front ++ rest)) f s.0 rest c (complete g clear front rest s.0 s.1 stop) s.2
-  complete (tested f g) clear front rest c s stop = then_tested (reads hints at g (front ++ rest)) f s.0 rest c (complete g clear front rest s.0 s.1 stop) s.2
-  complete (led kinds g) clear front rest c s stop = complete g (and_true _ _ clear).0 front rest c s stop
-  complete (named k f) clear front rest c s stop = then_made (at k (front ++ rest)) f s.0 rest c (completes k front rest s.0 s.1 stop) s.2
-  complete (outer o f) clear front rest c s stop = then_made (o.reader (front ++ rest)) f s.0 rest c (o.law.complete front rest s.0 s.1 stop) s.2
+  complete (made f g) clear right front rest c s stop = then_made (reads hints at g (front ++ rest)) f s.0 rest c (complete g clear right front rest s.0 s.1 stop) s.2
+  complete (tested f g) clear right front rest c s stop = then_tested (reads hints at g (front ++ rest)) f s.0 rest c (complete g clear right front rest s.0 s.1 stop) s.2
+  complete (led kinds g) clear right front rest c s stop = complete g (and_true _ _ clear).0 right front rest c s stop
+  complete (named k f) clear right front rest c s stop = then_made (at k (front ++ rest)) f s.0 rest c (completes k front rest s.0 s.1 stop) s.2
+  complete (outer o f) clear right front rest c s stop = then_made (o.reader (front ++ rest)) f s.0 rest c (right.0.complete front rest s.0 s.1 stop) s.2

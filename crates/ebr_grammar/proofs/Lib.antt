@@ -1,8 +1,12 @@
 pub mod Next
+pub mod Right
 pub mod Laws
 pub mod Depth
 pub mod Steps
 pub mod Loops
 pub mod Places
 pub mod Outside
+pub mod Texts
+pub mod Absent
+pub mod NamesBut
 pub mod Unreserved

@@ -4,7 +4,8 @@ use Rattle.std.specs.Prelude.{slice_range}
 use Rattle.std.proofs.lemmas.List.{take_at, take-append-drop, length-append, length-drop, drop-drop}
 use Rattle.ebr_grammar.specs.declared.kind.Kind.{Kind}
 use Rattle.ebr_lexer.specs.declared.token.Token.{Token}
-use Rattle.ebr_grammar.specs.Forms.{Form, Reader, IsReader, sees}
+use Rattle.ebr_grammar.specs.Forms.{Form, Reader, sees}
+use Rattle.ebr_grammar.proofs.Right.{IsReader}
 use Rattle.ebr_grammar.proofs.Laws.{some_is}
 
 module _ {A : Type 0} (begins goes_on : List Kind) (F : Form A) (r : Reader A) (is : IsReader begins goes_on F r) where

@@ -81,6 +81,15 @@ kind_of t = what_kind t.what
 unfoldable pub name_kinds : List Kind
 name_kinds = NAME_KINDS
 
+-- these kinds but those
+abbrev pub without : List Kind → List Kind → List Kind
+without left_out [] = []
+without left_out (k ∷ kinds) = if member k left_out then without left_out kinds else k ∷ without left_out kinds
+
+-- The kinds of names but these.
+unfoldable pub names_but : List Kind → List Kind
+names_but left_out = without left_out name_kinds
+
 -- A word that is not reserved is of the kind of a name, so that no name is missed.
 abbrev pub UnreservedIsName : Type 0
 UnreservedIsName = (word : List ℕ) → is_reserved word ≡ false → member (word_kind word) name_kinds ≡ true

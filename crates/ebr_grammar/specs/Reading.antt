@@ -11,6 +11,10 @@ abbrev pub and_then : {A B : Type 0} → Found A → (A → Reader B) → Found 
 and_then None f = None
 and_then (Some x) f = f x.0 x.1
 
+-- what was found, behind what stood before it
+abbrev pub with_first : {A B : Type 0} → A → Found (A → B) → Found B
+with_first a found = and_then found (λ f end. Some (f a, end))
+
 unfoldable pub next : List Token → List Token
 next [] = []
 next (t ∷ ts) = ts

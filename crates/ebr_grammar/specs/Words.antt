@@ -1,7 +1,9 @@
 -- Words in which grammars are written.
-use Rattle.std.specs.Prelude.{Bool, true, false, List, Option, Some, None}
+use Rattle.std.specs.Prelude.{ℕ, Bool, true, false, List, Option, Some, None}
 use Rattle.ebr_grammar.specs.declared.kind.Kind.{Kind}
-use Rattle.ebr_grammar.specs.Grammar.{Production, word, nothing, both, or, many, made}
+use Rattle.ebr_grammar.specs.Kinds.{name_kinds}
+use Rattle.ebr_grammar.specs.Grammar.{Production, token, word, nothing, both, or, many, made}
+use Rattle.ebr_grammar.specs.Outcome.{named_by}
 
 -- the one token of a kind, for no tree
 abbrev pub mark : {K : Type 0} {V : K → Type 0} → Kind → Production K V (Unit {0})
@@ -29,6 +31,14 @@ maybe g = or (made Some g) (nothing None)
 -- whether a word stands there
 abbrev pub is_there : {K : Type 0} {V : K → Type 0} → Kind → Production K V Bool
 is_there kind = or (word kind true) (nothing false)
+
+-- what stands behind a word, or without it
+abbrev pub past : {K : Type 0} {V : K → Type 0} {C : Type 0} → Kind → Production K V C → Production K V C
+past kind g = both (λ _ c. c) (is_there kind) g
+
+-- a name
+abbrev pub name : {K : Type 0} {V : K → Type 0} → Production K V (List ℕ)
+name = token name_kinds named_by
 
 -- any number of them
 abbrev pub all : {K : Type 0} {V : K → Type 0} {C : Type 0} → Production K V C → Production K V (List C)

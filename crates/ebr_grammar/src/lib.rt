@@ -12,4 +12,4 @@ mod trees;
 pub use kind::{Kind, NAME_KINDS, is_same, kind_of};
 pub use names::unreserved_words_are_names;
 pub use tokens::{ReadStop, Tokens};
-pub use trees::{ended, shared};
+pub use trees::{ended, shared, whole};

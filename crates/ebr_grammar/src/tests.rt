@@ -19,36 +19,37 @@ fn tokens_of(rt: &impl Abort, alloc: Global, text: &[u8]) -> Result<List<Token>,
     }
 }
 
+static KINDS: [(&[u8], Kind); 24] = [
+    (b"as", Kind::As),
+    (b"and", Kind::And),
+    (b"andy", Kind::Name),
+    (b"a", Kind::Name),
+    (b"trunc", Kind::Trunc),
+    (b"type", Kind::TypeWord),
+    (b"number", Kind::Number),
+    (b"select", Kind::Select),
+    (b"sqlcode", Kind::Sqlcode),
+    (b"varchar2", Kind::Varchar2),
+    (b"procedure", Kind::Procedure),
+    (b"editioning", Kind::Editioning),
+    (b"dbms_output", Kind::DbmsOutput),
+    (b"crossedition", Kind::Crossedition),
+    (b"exception_init", Kind::ExceptionInit),
+    (b"autonomous_transaction", Kind::AutonomousTransaction),
+    (b"raise_application_error", Kind::RaiseApplicationError),
+    (b"raise_application_errors", Kind::Name),
+    (b"7", Kind::NumberLiteral),
+    (b"'and'", Kind::TextLiteral),
+    (b":=", Kind::Assign),
+    (b"..", Kind::Range),
+    (b"!=", Kind::NotEqual),
+    (b"%", Kind::Percent),
+];
+
 #[test]
 fn each_token_has_its_kind(rt: HostRuntime) -> Result<(), Fail> {
     let alloc = rt.alloc();
-    let rows: &[(&[u8], Kind)] = &[
-        (b"as", Kind::As),
-        (b"and", Kind::And),
-        (b"andy", Kind::Name),
-        (b"a", Kind::Name),
-        (b"trunc", Kind::Trunc),
-        (b"type", Kind::TypeWord),
-        (b"number", Kind::Number),
-        (b"select", Kind::Select),
-        (b"sqlcode", Kind::Sqlcode),
-        (b"varchar2", Kind::Varchar2),
-        (b"procedure", Kind::Procedure),
-        (b"editioning", Kind::Editioning),
-        (b"dbms_output", Kind::DbmsOutput),
-        (b"crossedition", Kind::Crossedition),
-        (b"exception_init", Kind::ExceptionInit),
-        (b"autonomous_transaction", Kind::AutonomousTransaction),
-        (b"raise_application_error", Kind::RaiseApplicationError),
-        (b"raise_application_errors", Kind::Name),
-        (b"7", Kind::NumberLiteral),
-        (b"'and'", Kind::TextLiteral),
-        (b":=", Kind::Assign),
-        (b"..", Kind::Range),
-        (b"!=", Kind::NotEqual),
-        (b"%", Kind::Percent),
-    ];
-    for (text, kind) in rows {
+    for (text, kind) in &KINDS {
         let text: &[u8] = text;
         assert!(rt; text.len() < 100, "a short text");
         let tokens = tokens_of(&rt, alloc, text)?;
@@ -84,14 +85,13 @@ fn a_cursor_reads_one_token_after_the_other(rt: HostRuntime) -> Result<(), Fail>
         Ok(content) => assert!(rt; content.as_slice() == b"it's".as_slice()),
         Err(stop) => assert!(rt; false, "{stop:?}"),
     }
+    assert!(rt; tokens.sees_name());
+    assert!(rt; tokens.name_but(alloc, &[Kind::Trunc]).is_err());
     match tokens.name_among(alloc, &[Kind::Trunc]) {
         Ok(name) => assert!(rt; name.as_slice() == b"TRUNC".as_slice()),
         Err(stop) => assert!(rt; false, "{stop:?}"),
     }
-    match tokens.name(alloc) {
-        Ok(name) => assert!(rt; false, "{name:?}"),
-        Err(stop) => assert_eq!(rt; stop, ReadStop::NoTree),
-    }
+    assert!(rt; tokens.maybe_name(alloc).is_ok_and(|name| name.is_none()));
     assert_eq!(rt; tokens.number(), Err(ReadStop::NoTree));
     assert!(rt; tokens.eat(Kind::Select));
     assert!(rt; !tokens.sees(Kind::Select));

@@ -1,7 +1,7 @@
 //! A cursor over tokens.
 
 ghost use Rattle.std.specs.Prelude.{◌≡◌, [], ◌∷◌, length, drop, IfOk, if◌then◌else◌};
-ghost use Rattle.ebr_grammar.specs.Kinds.{member, name_kinds};
+ghost use Rattle.ebr_grammar.specs.Kinds.{member, name_kinds, names_but};
 ghost use Rattle.ebr_grammar.specs.Forms as spec;
 ghost use Rattle.ebr_grammar.specs.Reading as reading;
 ghost use Rattle.ebr_grammar.specs.Outcome as outcome;
@@ -93,6 +93,14 @@ impl<'a> Tokens<'a> {
         }
     }
 
+    /// Whether the next token is a name.
+    #[tactic(auto, unfolding(crate::specs::Kinds::name_kinds))]
+    pub fn sees_name(&self) -> bool
+        ensures { result ≡ spec.sees name_kinds self.now }
+    {
+        self.sees_any(&NAME_KINDS)
+    }
+
     #[tactic(auto, unfolding(crate::specs::Reading::next))]
     fn skip(&mut self)
         ensures { self.new ≡ reading.next self.old }
@@ -176,6 +184,28 @@ impl<'a> Tokens<'a> {
         ensures { Reads (reading.read_token name_kinds outcome.named_by self.old) result self.new }
     {
         self.name_among(alloc, &NAME_KINDS)
+    }
+
+    /// Reads a name, or nothing where none stands there.
+    pub fn maybe_name(&mut self, alloc: Global) -> Result<Option<Name>, ReadStop>
+        ensures { Reads (outcome.maybe_named self.old) result self.new }
+    {
+        if self.sees_name() {
+            Ok(Some(self.name(alloc)?))
+        } else {
+            Ok(None)
+        }
+    }
+
+    /// Reads a name that is a word of none of the kinds.
+    pub fn name_but(&mut self, alloc: Global, left_out: &[Kind]) -> Result<Name, ReadStop>
+        ensures { Reads (reading.read_token (names_but left_out.now) outcome.named_by self.old) result self.new }
+    {
+        if self.sees_any(left_out) {
+            Err(ReadStop::NoTree)
+        } else {
+            self.name(alloc)
+        }
     }
 
     /// Reads a name that is a word of one of the kinds.

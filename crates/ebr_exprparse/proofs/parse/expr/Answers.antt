@@ -1,4 +1,4 @@
-use Rattle.std.proofs.Common.{◌≡◌, ◌-◌, Some, None, drop, arith, rules}
+use Rattle.std.proofs.Common.{◌≡◌, Some, None, drop, arith, rules}
 use Rattle.std.proofs.lemmas.Grind.{common_steps}
 use Rattle.ebr_exprparse.specs.Expressions.{read_expression}
 use Rattle.ebr_exprparse.proofs.Whole.{expr_found, expr_only, expr_none}
