@@ -4,7 +4,7 @@ use Rattle.std.specs.Prelude.{◌&&◌, ◌⊎◌, if◌then◌else◌}
 use Rattle.std.proofs.lemmas.List.{append-nil}
 use Rattle.ebr_lexer.specs.declared.token.Token.{Token}
 use Rattle.ebr_grammar.specs.declared.kind.Kind.TheVariants as k
-use Rattle.ebr_grammar.specs.Kinds.{same, kind_of, member, name_kinds}
+use Rattle.ebr_grammar.specs.Kinds.{same, kind_of, member, name_kinds, names_but}
 use Rattle.ebr_grammar.specs.Forms.{Form, sees}
 use Rattle.ebr_grammar.specs.Grammar.{both, led, Spells, SpellsWithin}
 use Rattle.ebr_grammar.specs.Choice.{apart, among}
@@ -30,7 +30,7 @@ use Rattle.ebr_sqlparse.specs.Items.{aggregate_of, counts_rows, function_ahead, 
 -- ---- the call, from the innermost production outwards; `given` is what the levels spell
 
 module _ (given : Level → Form Read) (t p q : Token) (n : List ℕ) (es : List Token) (x : Expr) (is_sum : Bool)
-    (plain : member (kind_of t) expressions.plain_names ≡ true) (named : named_by t ≡ Some n) (opens : member (kind_of p) (k.LeftParen ∷ []) ≡ true) (closes : member (kind_of q) (k.RightParen ∷ []) ≡ true)
+    (plain : member (kind_of t) (names_but (k.Trunc ∷ [])) ≡ true) (named : named_by t ≡ Some n) (opens : member (kind_of p) (k.LeftParen ∷ []) ≡ true) (closes : member (kind_of q) (k.RightParen ∷ []) ≡ true)
     (inside : given Whole es (x, is_sum)) where
   abbrev By : {C : Type 0} → P C → Form C
   By g = Spells given g
@@ -104,32 +104,32 @@ one_holds false false true d f is = inr (inr (inl refl))
 one_holds false false false true f is = inr (inr (inr refl))
 one_holds false false false false f is = absurd cc
 
-count_is_plain : among (k.Count ∷ []) expressions.plain_names ≡ true
-unfolding same expressions.plain_names
+count_is_plain : among (k.Count ∷ []) (names_but (k.Trunc ∷ [])) ≡ true
+unfolding same name_kinds names_but
 count_is_plain = refl
 
-sum_is_plain : among (k.Sum ∷ []) expressions.plain_names ≡ true
-unfolding same expressions.plain_names
+sum_is_plain : among (k.Sum ∷ []) (names_but (k.Trunc ∷ [])) ≡ true
+unfolding same name_kinds names_but
 sum_is_plain = refl
 
-min_is_plain : among (k.Min ∷ []) expressions.plain_names ≡ true
-unfolding same expressions.plain_names
+min_is_plain : among (k.Min ∷ []) (names_but (k.Trunc ∷ [])) ≡ true
+unfolding same name_kinds names_but
 min_is_plain = refl
 
-max_is_plain : among (k.Max ∷ []) expressions.plain_names ≡ true
-unfolding same expressions.plain_names
+max_is_plain : among (k.Max ∷ []) (names_but (k.Trunc ∷ [])) ≡ true
+unfolding same name_kinds names_but
 max_is_plain = refl
 
-plain_ahead : (t : Token) (f : Function) → function_ahead (t ∷ []) ≡ Some f → member (kind_of t) expressions.plain_names ≡ true
+plain_ahead : (t : Token) (f : Function) → function_ahead (t ∷ []) ≡ Some f → member (kind_of t) (names_but (k.Trunc ∷ [])) ≡ true
 unfolding function_ahead sees
 plain_ahead t f is =
     elim (one_holds (member (kind_of t) (k.Count ∷ [])) (member (kind_of t) (k.Sum ∷ [])) (member (kind_of t) (k.Min ∷ [])) (member (kind_of t) (k.Max ∷ [])) f is) [
-      | inl it ↦ member-among (kind_of t) (k.Count ∷ []) expressions.plain_names count_is_plain it
+      | inl it ↦ member-among (kind_of t) (k.Count ∷ []) (names_but (k.Trunc ∷ [])) count_is_plain it
       | inr more ↦ elim more [
-        | inl it ↦ member-among (kind_of t) (k.Sum ∷ []) expressions.plain_names sum_is_plain it
+        | inl it ↦ member-among (kind_of t) (k.Sum ∷ []) (names_but (k.Trunc ∷ [])) sum_is_plain it
         | inr more ↦ elim more [
-          | inl it ↦ member-among (kind_of t) (k.Min ∷ []) expressions.plain_names min_is_plain it
-          | inr it ↦ member-among (kind_of t) (k.Max ∷ []) expressions.plain_names max_is_plain it
+          | inl it ↦ member-among (kind_of t) (k.Min ∷ []) (names_but (k.Trunc ∷ [])) min_is_plain it
+          | inr it ↦ member-among (kind_of t) (k.Max ∷ []) (names_but (k.Trunc ∷ [])) max_is_plain it
         ]
       ]
     ]
@@ -154,7 +154,7 @@ counts_no_rows t p q es x s =
     third_false (sees (k.Count ∷ []) (t ∷ p ∷ es ++ q ∷ [])) (sees (k.LeftParen ∷ []) (p ∷ es ++ q ∷ [])) (sees (k.Star ∷ []) (es ++ q ∷ []))
     (sees-apart (k.Star ∷ []) (begins Whole) (es ++ q ∷ []) no_star begun)
 
-call_is : (t p q : Token) (n : List ℕ) (es : List Token) (x : Expr) → member (kind_of t) expressions.plain_names ≡ true → named_by t ≡ Some n → member (kind_of p) (k.LeftParen ∷ []) ≡ true
+call_is : (t p q : Token) (n : List ℕ) (es : List Token) (x : Expr) → member (kind_of t) (names_but (k.Trunc ∷ [])) ≡ true → named_by t ≡ Some n → member (kind_of p) (k.LeftParen ∷ []) ≡ true
     → member (kind_of q) (k.RightParen ∷ []) ≡ true → SpellsExpr es x → SpellsExpr (t ∷ p ∷ es ++ q ∷ []) (e.Call (path n None) (x ∷ []))
 unfolding grammar
 call_is t p q n es x plain named opens closes s = (true, (suc s.1.0, disjunction_is (SpellsWithin grammar s.1.0) t p q n es x s.0 plain named opens closes s.1.1))

@@ -3,5 +3,4 @@ pub mod Aliased
 pub mod Aggregates
 pub mod Reader
 pub mod Clear
-pub mod WholeTexts
 pub mod Parts

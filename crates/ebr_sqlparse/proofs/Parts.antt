@@ -1,89 +1,27 @@
--- The statements as forms that another grammar can use. They stand here since a form holds its law.
-use Rattle.std.proofs.Common.{◌≡◌, true, false, refl}
-use Rattle.ebr_grammar.specs.Kinds.{same, name_kinds}
-use Rattle.ebr_grammar.specs.Forms.{Outer}
-use Rattle.ebr_grammar.specs.Reading.{nullable, first}
-use Rattle.ebr_grammar.specs.Choice.{after, is_clear}
-use Rattle.ebr_ast.specs.declared.query.Query.{Query}
-use Rattle.ebr_ast.specs.declared.query.SelectList.{SelectList}
-use Rattle.ebr_ast.specs.declared.sql.Insert.{Insert}
-use Rattle.ebr_ast.specs.declared.sql.Update.{Update}
-use Rattle.ebr_ast.specs.declared.sql.Delete.{Delete}
-use Rattle.ebr_ast.specs.declared.sql.Transaction.{Transaction}
-use Rattle.ebr_exprparse.specs.Expressions.{begins, goes_on}
-use Rattle.ebr_sqlparse.specs.Productions.{P, hints, SpelledBy, reads_by}
-use Rattle.ebr_sqlparse.specs.Statements.{alias, item_alias, item, more_items, items, select_list, source, more_sources, sources, filter, direction, key, more_keys, keys, order, for_update, query_tail, query_rest, query, more_names, names, columns, more_exprs, exprs, values, insert, target, assignment, more_assignments, assignments, update_rest, update, delete, transaction}
+-- Reading the parts that other grammars use is right.
+use Rattle.ebr_grammar.proofs.Right.{IsRight}
+use Rattle.ebr_sqlparse.specs.Statements.{select_list, query_rest, query, insert, update, delete, transaction}
+use Rattle.ebr_sqlparse.specs.Parts.{select_list_part, query_rest_part, query_part, insert_part, update_part, delete_part, transaction_part}
 use Rattle.ebr_sqlparse.proofs.Reader.{reader}
-use Rattle.ebr_sqlparse.proofs.Clear.{transaction_clear, transaction_full}
+use Rattle.ebr_sqlparse.proofs.Clear.{select_list_is, query_rest_is, query_is, insert_is, update_is, delete_is, transaction_is}
 
-abbrev pub part : {C : Type 0} (g : P C) → is_clear hints g ≡ true → nullable hints g ≡ false → Outer C
-part g clear full = record { begins = first hints g; goes_on = after hints g; form = SpelledBy g; reader = reads_by g; law = reader g clear full }
+pub reads_lists : IsRight select_list_part
+reads_lists = reader select_list select_list_is
 
-pub select_list_clear : is_clear hints select_list ≡ true
-unfolding same name_kinds begins goes_on alias item_alias item more_items items select_list
-select_list_clear = refl
+pub reads_rests : IsRight query_rest_part
+reads_rests = reader query_rest query_rest_is
 
-pub select_list_full : nullable hints select_list ≡ false
-unfolding item more_items items select_list
-select_list_full = refl
+pub reads_queries : IsRight query_part
+reads_queries = reader query query_is
 
-pub query_rest_clear : is_clear hints query_rest ≡ true
-unfolding same name_kinds begins goes_on alias source more_sources sources filter direction key more_keys keys order for_update query_tail query_rest
-query_rest_clear = refl
+pub reads_inserts : IsRight insert_part
+reads_inserts = reader insert insert_is
 
-pub query_rest_full : nullable hints query_rest ≡ false
-unfolding alias source more_sources sources query_rest
-query_rest_full = refl
+pub reads_updates : IsRight update_part
+reads_updates = reader update update_is
 
-pub query_clear : is_clear hints query ≡ true
-unfolding same name_kinds begins goes_on alias item_alias item more_items items select_list source more_sources sources filter direction key more_keys keys order for_update query_tail query_rest query
-query_clear = refl
+pub reads_deletes : IsRight delete_part
+reads_deletes = reader delete delete_is
 
-pub query_full : nullable hints query ≡ false
-unfolding query
-query_full = refl
-
-pub insert_clear : is_clear hints insert ≡ true
-unfolding same name_kinds begins goes_on more_names names columns more_exprs exprs values insert
-insert_clear = refl
-
-pub insert_full : nullable hints insert ≡ false
-unfolding insert
-insert_full = refl
-
-pub update_clear : is_clear hints update ≡ true
-unfolding same name_kinds begins goes_on alias target assignment more_assignments assignments filter update_rest update
-update_clear = refl
-
-pub update_full : nullable hints update ≡ false
-unfolding update
-update_full = refl
-
-pub delete_clear : is_clear hints delete ≡ true
-unfolding same name_kinds begins goes_on alias target filter delete
-delete_clear = refl
-
-pub delete_full : nullable hints delete ≡ false
-unfolding delete
-delete_full = refl
-
-abbrev pub select_list_part : Outer SelectList
-select_list_part = part select_list select_list_clear select_list_full
-
-abbrev pub query_rest_part : Outer (SelectList → Query)
-query_rest_part = part query_rest query_rest_clear query_rest_full
-
-abbrev pub query_part : Outer Query
-query_part = part query query_clear query_full
-
-abbrev pub insert_part : Outer Insert
-insert_part = part insert insert_clear insert_full
-
-abbrev pub update_part : Outer Update
-update_part = part update update_clear update_full
-
-abbrev pub delete_part : Outer Delete
-delete_part = part delete delete_clear delete_full
-
-abbrev pub transaction_part : Outer Transaction
-transaction_part = part transaction transaction_clear transaction_full
+pub reads_transactions : IsRight transaction_part
+reads_transactions = reader transaction transaction_is

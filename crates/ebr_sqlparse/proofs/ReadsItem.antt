@@ -4,11 +4,13 @@ use Rattle.std.specs.Prelude.{◌&&◌}
 use Rattle.ebr_lexer.specs.declared.token.Token.{Token}
 use Rattle.ebr_grammar.specs.declared.kind.Kind.TheVariants as k
 use Rattle.ebr_grammar.specs.Kinds.{same, kind_of, member}
-use Rattle.ebr_grammar.specs.Forms.{Found, IsReader, sees}
-use Rattle.ebr_grammar.specs.Reading.{and_then, nullable}
-use Rattle.ebr_grammar.specs.Choice.{among, is_clear}
+use Rattle.ebr_grammar.specs.Forms.{Found, sees}
+use Rattle.ebr_grammar.specs.Reading.{and_then}
+use Rattle.ebr_grammar.specs.Choice.{among}
 use Rattle.ebr_grammar.proofs.Next.{sees_left, sees_right, unseen-among}
-use Rattle.ebr_grammar.proofs.Laws.{begun, begun_first, sound, complete, bind_some, some_is, which, take_first, take_second}
+use Rattle.ebr_grammar.proofs.Right.{IsReader}
+use Rattle.ebr_grammar.proofs.Outside.{IsReadable, reader_over}
+use Rattle.ebr_grammar.proofs.Laws.{bind_some, some_is, which, take_first, take_second}
 use Rattle.ebr_ast.specs.declared.expression.Expr.{Expr}
 use Rattle.ebr_ast.specs.declared.query.ItemKind.{ItemKind}
 use Rattle.ebr_exprparse.specs.declared.level.Level.TheVariants.{Whole}
@@ -16,13 +18,9 @@ use Rattle.ebr_exprparse.specs.Expressions.{begins, goes_on, read_expression}
 use Rattle.ebr_exprparse.proofs.Whole.{reads_expressions}
 use Rattle.ebr_sqlparse.specs.Items.{no_form, no_reader, no_hints, rows, SpellsRows, read_rows, counts_rows, function_ahead, item_of, SpellsWhat, read_plain, read_what}
 
-rows_clear : is_clear no_hints rows ≡ true
+rows_are : IsReadable no_hints rows
 unfolding rows same
-rows_clear = refl
-
-rows_full : nullable no_hints rows ≡ false
-unfolding rows
-rows_full = refl
+rows_are = record { clear = refl; full = refl; right = tt }
 
 -- ---- the test on three tokens
 
@@ -94,11 +92,7 @@ none_stops (t ∷ ts) = refl
 
 reads_rows : IsReader (k.Count ∷ []) [] SpellsRows read_rows
 unfolding rows
-reads_rows = record {
-  begun = λ front c s. begun_first (k.Count ∷ []) (nullable no_hints rows) front rows_full (begun no_hints no_form (λ j ts a x. absurd x) rows rows_clear front c s);
-  sound = λ ts x e. sound no_hints no_form no_reader (λ j ts x e. absurd j) rows ts x e;
-  complete = λ front rest c s stop. complete no_hints no_form no_reader (λ j ts a x. absurd x) (λ j front rest a x stop. absurd x) rows rows_clear front rest c s stop;
-}
+reads_rows = reader_over no_hints no_form no_reader (λ part. absurd part) rows rows_are
 
 what_begun : (front : List Token) (w : ItemKind) → SpellsWhat front w → sees (k.Count ∷ begins Whole) front ≡ true
 what_begun front w (inl s) = sees_left (k.Count ∷ []) (begins Whole) front (reads_rows.begun front w s)

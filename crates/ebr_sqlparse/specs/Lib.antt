@@ -1,3 +1,4 @@
 pub mod Items
 pub mod Productions
 pub mod Statements
+pub mod Parts

@@ -1,17 +1,16 @@
 -- Productions of statements, and what reading by them gives. Two forms stand in them: expressions, as a form of another
 -- grammar, and what an item of a list is, as the one name, since it is told by three tokens. No statement stands in another.
-use Rattle.std.specs.Prelude.{ℕ, List, ◌∷◌, Some}
+use Rattle.std.specs.Prelude.{ℕ, List, ◌∷◌}
 use Rattle.ebr_grammar.specs.declared.kind.Kind.TheVariants as k
-use Rattle.ebr_grammar.specs.Kinds.{name_kinds}
-use Rattle.ebr_grammar.specs.Forms.{Form, Found, Reader, Outer}
-use Rattle.ebr_grammar.specs.Grammar.{Production, token, named, outer, Spells}
-use Rattle.ebr_grammar.specs.Reading.{and_then, Hints, reads}
-use Rattle.ebr_grammar.specs.Outcome.{named_by}
+use Rattle.ebr_grammar.specs.Forms.{Form, Reader}
+use Rattle.ebr_grammar.specs.Grammar.{Production, named, Spells}
+use Rattle.ebr_grammar.specs.Reading.{Hints, reads}
+use Rattle.ebr_grammar.specs.Words as words
 use Rattle.ebr_ast.specs.declared.expression.Expr.{Expr}
 use Rattle.ebr_ast.specs.declared.query.ItemKind.{ItemKind}
 use Rattle.ebr_exprparse.specs.declared.level.Level.TheVariants.{Whole}
 use Rattle.ebr_exprparse.specs.Expressions as expressions
-use Rattle.ebr_exprparse.proofs.Whole.{reads_expressions}
+use Rattle.ebr_exprparse.specs.Parts as parts
 use Rattle.ebr_sqlparse.specs.declared.items.Part.{Part}
 use Rattle.ebr_sqlparse.specs.declared.items.Part.TheVariants.{What}
 use Rattle.ebr_sqlparse.specs.Items.{SpellsWhat, read_what}
@@ -36,21 +35,13 @@ SpelledBy g ts c = Spells given g ts c
 abbrev pub reads_by : {C : Type 0} → P C → Reader C
 reads_by g ts = reads hints given_reader g ts
 
--- what was found, behind what stood before it
-abbrev pub with_first : {A B : Type 0} → A → Found (A → B) → Found B
-with_first a found = and_then found (λ f end. Some (f a, end))
-
--- Expressions, as a form of another grammar.
-abbrev pub expression : Outer Expr
-expression = record { begins = expressions.begins Whole; goes_on = expressions.goes_on Whole; form = expressions.SpellsExpr; reader = expressions.read_expression; law = reads_expressions }
-
 -- e
 abbrev pub expr : P Expr
-expr = outer expression (λ x. x)
+expr = parts.expr
 
 -- n
 abbrev pub name : P (List ℕ)
-name = token name_kinds named_by
+name = words.name
 
 -- What an item is, without its alias.
 abbrev pub what : P ItemKind

@@ -5,7 +5,7 @@ use Rattle.ebr_grammar.specs.declared.kind.Kind.TheVariants as k
 use Rattle.ebr_grammar.specs.Forms.{Form, Found}
 use Rattle.ebr_grammar.specs.Grammar.{word, nothing, both, many, made, led}
 use Rattle.ebr_grammar.specs.Reading.{and_then}
-use Rattle.ebr_grammar.specs.Words.{◌▸◌, ◌◂◌, ◌∣◌, maybe, is_there}
+use Rattle.ebr_grammar.specs.Words.{◌▸◌, ◌◂◌, ◌∣◌, maybe, is_there, past}
 use Rattle.ebr_ast.specs.declared.expression.Expr.{Expr}
 use Rattle.ebr_ast.specs.declared.query.Query.{Query}
 use Rattle.ebr_ast.specs.declared.query.SelectList.{SelectList}
@@ -188,7 +188,7 @@ update = k.Update ▸ both (λ target f. f target) target update_rest
 
 -- DELETE [FROM] n [n] [WHERE e]
 unfoldable pub delete : P Delete
-delete = k.Delete ▸ both (λ _ d. d) (is_there k.From) (both delete_of target filter)
+delete = k.Delete ▸ past k.From (both delete_of target filter)
 
 -- APPLY TRIGGER n
 unfoldable pub apply : P (List ℕ)

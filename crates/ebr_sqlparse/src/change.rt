@@ -2,10 +2,11 @@
 
 ghost use Rattle.std.specs.Prelude.{◌≡◌};
 ghost use Rattle.ebr_grammar.specs.Outcome.{Reads};
+ghost use Rattle.ebr_grammar.specs.Reading.{with_first};
 ghost use Rattle.ebr_sqlparse.specs.Productions as productions;
 ghost use Rattle.ebr_sqlparse.specs.Statements as grammar;
 
-use crate::queries::{alias, filter};
+use crate::queries::filter;
 use ebr_ast::{Assignment, Delete, Expr, Insert, Update};
 use ebr_base::{List, Name, Shared};
 use ebr_exprparse::read_expression;
@@ -21,7 +22,7 @@ pub struct Changed {
 
 /// The names behind the first, and with it.
 fn more_names(alloc: Global, tokens: &mut Tokens<'_>, first: Name) -> Result<List<Name>, ReadStop>
-    ensures { Reads (productions.with_first first (productions.reads_by grammar.more_names tokens.old)) result tokens.new }
+    ensures { Reads (with_first first (productions.reads_by grammar.more_names tokens.old)) result tokens.new }
 {
     let mut found = List::new(alloc);
     found.push(first)?;
@@ -62,7 +63,7 @@ fn more_exprs(
     tokens: &mut Tokens<'_>,
     first: Shared<Expr>,
 ) -> Result<List<Shared<Expr>>, ReadStop>
-    ensures { Reads (productions.with_first first (productions.reads_by grammar.more_exprs tokens.old)) result tokens.new }
+    ensures { Reads (with_first first (productions.reads_by grammar.more_exprs tokens.old)) result tokens.new }
 {
     let mut found = List::new(alloc);
     found.push(first)?;
@@ -95,7 +96,7 @@ fn values(alloc: Global, tokens: &mut Tokens<'_>) -> Result<List<Shared<Expr>>, 
 }
 
 /// Reads INSERT.
-pub fn insert(alloc: Global, tokens: &mut Tokens<'_>) -> Result<Shared<Insert>, ReadStop>
+pub fn read_insert(alloc: Global, tokens: &mut Tokens<'_>) -> Result<Shared<Insert>, ReadStop>
     ensures { Reads (productions.reads_by grammar.insert tokens.old) result tokens.new }
 {
     tokens.expect(Kind::Insert)?;
@@ -115,7 +116,7 @@ fn target(alloc: Global, tokens: &mut Tokens<'_>) -> Result<Changed, ReadStop>
     ensures { Reads (productions.reads_by grammar.target tokens.old) result tokens.new }
 {
     let table = tokens.name(alloc)?;
-    let alias = alias(alloc, tokens)?;
+    let alias = tokens.maybe_name(alloc)?;
     Ok(Changed { table, alias })
 }
 
@@ -135,7 +136,7 @@ fn more_assignments(
     tokens: &mut Tokens<'_>,
     first: Assignment,
 ) -> Result<List<Assignment>, ReadStop>
-    ensures { Reads (productions.with_first first (productions.reads_by grammar.more_assignments tokens.old)) result tokens.new }
+    ensures { Reads (with_first first (productions.reads_by grammar.more_assignments tokens.old)) result tokens.new }
 {
     let mut found = List::new(alloc);
     found.push(first)?;
@@ -163,7 +164,7 @@ fn update_rest(
     tokens: &mut Tokens<'_>,
     target: Changed,
 ) -> Result<Shared<Update>, ReadStop>
-    ensures { Reads (productions.with_first target (productions.reads_by grammar.update_rest tokens.old)) result tokens.new }
+    ensures { Reads (with_first target (productions.reads_by grammar.update_rest tokens.old)) result tokens.new }
 {
     tokens.expect(Kind::Set)?;
     let sets = assignments(alloc, tokens)?;
@@ -178,7 +179,7 @@ fn update_rest(
 }
 
 /// Reads UPDATE.
-pub fn update(alloc: Global, tokens: &mut Tokens<'_>) -> Result<Shared<Update>, ReadStop>
+pub fn read_update(alloc: Global, tokens: &mut Tokens<'_>) -> Result<Shared<Update>, ReadStop>
     ensures { Reads (productions.reads_by grammar.update tokens.old) result tokens.new }
 {
     tokens.expect(Kind::Update)?;
@@ -187,7 +188,7 @@ pub fn update(alloc: Global, tokens: &mut Tokens<'_>) -> Result<Shared<Update>, 
 }
 
 /// Reads DELETE.
-pub fn delete(alloc: Global, tokens: &mut Tokens<'_>) -> Result<Shared<Delete>, ReadStop>
+pub fn read_delete(alloc: Global, tokens: &mut Tokens<'_>) -> Result<Shared<Delete>, ReadStop>
     ensures { Reads (productions.reads_by grammar.delete tokens.old) result tokens.new }
 {
     tokens.expect(Kind::Delete)?;

@@ -2,13 +2,12 @@
 
 ghost use Rattle.std.specs.Prelude.{Some, ◌≡◌, IfOk};
 ghost use Rattle.ebr_grammar.specs.Outcome.{Reads};
-ghost use Rattle.ebr_grammar.specs.Reading.{and_then};
+ghost use Rattle.ebr_grammar.specs.Reading.{and_then, with_first};
 ghost use Rattle.ebr_ast.specs.declared.expression.Expr.{out-Expr};
 ghost use Rattle.ebr_sqlparse.specs.Productions as productions;
 ghost use Rattle.ebr_sqlparse.specs.Items as spec;
 ghost use Rattle.ebr_sqlparse.specs.Statements as grammar;
 
-use crate::queries::alias;
 use ebr_ast::{Aggregate, Expr, Item, ItemKind, Path, SelectList};
 use ebr_base::{CloneIn, List, Name, NoMemory, Shared};
 use ebr_exprparse::read_expression;
@@ -113,7 +112,7 @@ fn item_alias(alloc: Global, tokens: &mut Tokens<'_>) -> Result<Option<Name>, Re
     if tokens.eat(Kind::As) {
         Ok(Some(tokens.name(alloc)?))
     } else {
-        alias(alloc, tokens)
+        tokens.maybe_name(alloc)
     }
 }
 
@@ -181,7 +180,7 @@ fn item(alloc: Global, tokens: &mut Tokens<'_>) -> Result<Item, ReadStop>
 
 /// The items behind the first, and with it.
 fn more_items(alloc: Global, tokens: &mut Tokens<'_>, first: Item) -> Result<List<Item>, ReadStop>
-    ensures { Reads (productions.with_first first (productions.reads_by grammar.more_items tokens.old)) result tokens.new }
+    ensures { Reads (with_first first (productions.reads_by grammar.more_items tokens.old)) result tokens.new }
 {
     let mut found = List::new(alloc);
     found.push(first)?;
@@ -207,7 +206,7 @@ fn items(alloc: Global, tokens: &mut Tokens<'_>) -> Result<List<Item>, ReadStop>
 ///
 /// Oracle Database SQL Language Reference 19c, SELECT: `*`, or items with commas between them, each
 /// with its alias, before which AS may stand.
-pub fn select_list(alloc: Global, tokens: &mut Tokens<'_>) -> Result<SelectList, ReadStop>
+pub fn read_select_list(alloc: Global, tokens: &mut Tokens<'_>) -> Result<SelectList, ReadStop>
     ensures { Reads (productions.reads_by grammar.select_list tokens.old) result tokens.new }
 {
     if tokens.eat(Kind::Star) {

@@ -7,9 +7,9 @@ mod queries;
 mod statements;
 mod whole;
 
-pub use change::{delete, insert, update};
+pub use change::{read_delete, read_insert, read_update};
 pub use ebr_exprparse::expr;
-pub use items::select_list;
-pub use queries::{query, query_rest};
-pub use statements::{session_statement, statement, transaction_statement};
+pub use items::read_select_list;
+pub use queries::{read_query, read_query_rest};
+pub use statements::read_transaction;
 pub use whole::{calls_of_aggregates, one_tree, session, sql, transaction};

@@ -1,17 +1,16 @@
 //! Queries.
 
 ghost use Rattle.std.specs.Prelude.{◌≡◌};
-ghost use Rattle.ebr_grammar.specs.Forms.{sees};
-ghost use Rattle.ebr_grammar.specs.Kinds.{name_kinds};
 ghost use Rattle.ebr_grammar.specs.Outcome.{Reads};
+ghost use Rattle.ebr_grammar.specs.Reading.{with_first};
 ghost use Rattle.ebr_sqlparse.specs.Productions as productions;
 ghost use Rattle.ebr_sqlparse.specs.Statements as grammar;
 
-use crate::items::select_list;
+use crate::items::read_select_list;
 use ebr_ast::{Expr, Query, SelectList, SortKey, Source};
 use ebr_base::{List, Name, Shared};
 use ebr_exprparse::read_expression;
-use ebr_grammar::{Kind, NAME_KINDS, ReadStop, Tokens, shared};
+use ebr_grammar::{Kind, ReadStop, Tokens, shared};
 use std::alloc::Global;
 
 /// What stands behind a query's sources.
@@ -22,24 +21,6 @@ pub struct Tail {
     pub for_update: bool,
 }
 
-/// Whether the next token may be a name.
-fn sees_name(tokens: &Tokens<'_>) -> bool
-    ensures { result ≡ sees name_kinds tokens.now }
-{
-    tokens.sees_any(&NAME_KINDS)
-}
-
-/// A name that may stand there as an alias.
-pub fn alias(alloc: Global, tokens: &mut Tokens<'_>) -> Result<Option<Name>, ReadStop>
-    ensures { Reads (productions.reads_by grammar.alias tokens.old) result tokens.new }
-{
-    if sees_name(tokens) {
-        Ok(Some(tokens.name(alloc)?))
-    } else {
-        Ok(None)
-    }
-}
-
 fn source(alloc: Global, tokens: &mut Tokens<'_>) -> Result<Source, ReadStop>
     ensures { Reads (productions.reads_by grammar.source tokens.old) result tokens.new }
 {
@@ -47,7 +28,7 @@ fn source(alloc: Global, tokens: &mut Tokens<'_>) -> Result<Source, ReadStop>
         return Ok(Source::Dual);
     }
     let name = tokens.name(alloc)?;
-    let alias = alias(alloc, tokens)?;
+    let alias = tokens.maybe_name(alloc)?;
     Ok(Source::Named { name, alias })
 }
 
@@ -57,7 +38,7 @@ fn more_sources(
     tokens: &mut Tokens<'_>,
     first: Source,
 ) -> Result<List<Source>, ReadStop>
-    ensures { Reads (productions.with_first first (productions.reads_by grammar.more_sources tokens.old)) result tokens.new }
+    ensures { Reads (with_first first (productions.reads_by grammar.more_sources tokens.old)) result tokens.new }
 {
     let mut found = List::new(alloc);
     found.push(first)?;
@@ -115,7 +96,7 @@ fn more_keys(
     tokens: &mut Tokens<'_>,
     first: SortKey,
 ) -> Result<List<SortKey>, ReadStop>
-    ensures { Reads (productions.with_first first (productions.reads_by grammar.more_keys tokens.old)) result tokens.new }
+    ensures { Reads (with_first first (productions.reads_by grammar.more_keys tokens.old)) result tokens.new }
 {
     let mut found = List::new(alloc);
     found.push(first)?;
@@ -188,12 +169,12 @@ fn query_of(list: SelectList, sources: List<Source>, tail: Tail) -> Query
 }
 
 /// Reads a query of this list from its first source on, which stands behind FROM.
-pub fn query_rest(
+pub fn read_query_rest(
     alloc: Global,
     tokens: &mut Tokens<'_>,
     list: SelectList,
 ) -> Result<Shared<Query>, ReadStop>
-    ensures { Reads (productions.with_first list (productions.reads_by grammar.query_rest tokens.old)) result tokens.new }
+    ensures { Reads (with_first list (productions.reads_by grammar.query_rest tokens.old)) result tokens.new }
 {
     let sources = sources(alloc, tokens)?;
     let tail = query_tail(alloc, tokens)?;
@@ -201,11 +182,11 @@ pub fn query_rest(
 }
 
 /// Reads a query, from SELECT on.
-pub fn query(alloc: Global, tokens: &mut Tokens<'_>) -> Result<Shared<Query>, ReadStop>
+pub fn read_query(alloc: Global, tokens: &mut Tokens<'_>) -> Result<Shared<Query>, ReadStop>
     ensures { Reads (productions.reads_by grammar.query tokens.old) result tokens.new }
 {
     tokens.expect(Kind::Select)?;
-    let list = select_list(alloc, tokens)?;
+    let list = read_select_list(alloc, tokens)?;
     tokens.expect(Kind::From)?;
-    query_rest(alloc, tokens, list)
+    read_query_rest(alloc, tokens, list)
 }

@@ -5,8 +5,8 @@ ghost use Rattle.ebr_grammar.specs.Outcome.{Reads};
 ghost use Rattle.ebr_sqlparse.specs.Productions as productions;
 ghost use Rattle.ebr_sqlparse.specs.Statements as grammar;
 
-use crate::change::{delete, insert, update};
-use crate::queries::query;
+use crate::change::{read_delete, read_insert, read_update};
+use crate::queries::read_query;
 use ebr_ast::{SqlTree, Transaction};
 use ebr_base::Name;
 use ebr_grammar::{Kind, ReadStop, Tokens};
@@ -22,17 +22,17 @@ fn apply(alloc: Global, tokens: &mut Tokens<'_>) -> Result<Name, ReadStop>
 }
 
 /// Reads a statement that reads or changes rows.
-pub fn statement(alloc: Global, tokens: &mut Tokens<'_>) -> Result<SqlTree, ReadStop>
+pub fn read_sql(alloc: Global, tokens: &mut Tokens<'_>) -> Result<SqlTree, ReadStop>
     ensures { Reads (productions.reads_by grammar.sql tokens.old) result tokens.new }
 {
     if tokens.sees(Kind::Select) {
-        Ok(SqlTree::Query(query(alloc, tokens)?))
+        Ok(SqlTree::Query(read_query(alloc, tokens)?))
     } else if tokens.sees(Kind::Insert) {
-        Ok(SqlTree::Insert(insert(alloc, tokens)?))
+        Ok(SqlTree::Insert(read_insert(alloc, tokens)?))
     } else if tokens.sees(Kind::Update) {
-        Ok(SqlTree::Update(update(alloc, tokens)?))
+        Ok(SqlTree::Update(read_update(alloc, tokens)?))
     } else if tokens.sees(Kind::Delete) {
-        Ok(SqlTree::Delete(delete(alloc, tokens)?))
+        Ok(SqlTree::Delete(read_delete(alloc, tokens)?))
     } else {
         Ok(SqlTree::Apply(apply(alloc, tokens)?))
     }
@@ -51,10 +51,7 @@ fn back(alloc: Global, tokens: &mut Tokens<'_>) -> Result<Transaction, ReadStop>
 }
 
 /// Reads COMMIT, ROLLBACK or SAVEPOINT.
-pub fn transaction_statement(
-    alloc: Global,
-    tokens: &mut Tokens<'_>,
-) -> Result<Transaction, ReadStop>
+pub fn read_transaction(alloc: Global, tokens: &mut Tokens<'_>) -> Result<Transaction, ReadStop>
     ensures { Reads (productions.reads_by grammar.transaction tokens.old) result tokens.new }
 {
     if tokens.eat(Kind::Commit) {
@@ -70,7 +67,7 @@ pub fn transaction_statement(
 }
 
 /// `ALTER SESSION SET EDITION = n`, of which it gives the name.
-pub fn session_statement(alloc: Global, tokens: &mut Tokens<'_>) -> Result<Name, ReadStop>
+pub fn read_session(alloc: Global, tokens: &mut Tokens<'_>) -> Result<Name, ReadStop>
     ensures { Reads (productions.reads_by grammar.session tokens.old) result tokens.new }
 {
     tokens.expect(Kind::Alter)?;

@@ -1,12 +1,9 @@
 //! Whole texts of statements.
 
 ghost use Rattle.std.specs.Prelude.{◌≡◌, ℕ, true, [], ◌∷◌, ◌++◌, IfOk, IfSome, Some, List as Sequence};
-ghost use Rattle.ebr_lexer.specs.declared.token.Token.{Token as Piece};
-ghost use Rattle.ebr_grammar.specs.Forms.{Found};
 ghost use Rattle.ebr_grammar.specs.declared.kind.Kind.TheVariants as kinds;
 ghost use Rattle.ebr_grammar.specs.Kinds.{kind_of, member};
-ghost use Rattle.ebr_grammar.specs.Outcome.{Reads, named_by};
-ghost use Rattle.ebr_grammar.specs.Reading as reading;
+ghost use Rattle.ebr_grammar.specs.Outcome.{named_by};
 ghost use Rattle.ebr_ast.specs.declared.expression.Expr.{Expr as Tree};
 ghost use Rattle.ebr_ast.specs.declared.query.ItemKind.TheVariants as item;
 ghost use Rattle.ebr_exprparse.specs.Expressions.{SpellsExpr};
@@ -14,29 +11,12 @@ ghost use Rattle.ebr_sqlparse.specs.declared.items.Function.{Function};
 ghost use Rattle.ebr_sqlparse.specs.Items.{function_ahead, aggregate_of, SpellsWhat};
 ghost use Rattle.ebr_sqlparse.specs.Statements as grammar;
 
-use crate::statements::{session_statement, statement, transaction_statement};
+use crate::statements::{read_session, read_sql, read_transaction};
 use ebr_ast::{SqlTree, Transaction};
 use ebr_base::{Name, NoMemory};
-use ebr_grammar::{ReadStop, Tokens};
+use ebr_grammar::{Tokens, whole};
 use ebr_lexer::Token;
 use std::alloc::Global;
-
-/// What was read, where no token is left.
-fn whole<T: Drop>(read: Result<T, ReadStop>, rest: &Tokens<'_>) -> Result<Option<T>, NoMemory>
-    ensures { (found : Found T) → Reads found read rest.now → IfOk result (λ r. r ≡ reading.whole found) }
-{
-    match read {
-        Ok(tree) => {
-            if rest.left() == 0 {
-                Ok(Some(tree))
-            } else {
-                Ok(None)
-            }
-        }
-        Err(ReadStop::NoTree) => Ok(None),
-        Err(ReadStop::NoMemory) => Err(NoMemory),
-    }
-}
 
 /// The statement that reads or changes rows which the tokens spell, all of them.
 ///
@@ -48,7 +28,7 @@ pub fn sql(alloc: Global, tokens: &[Token]) -> Result<Option<SqlTree>, NoMemory>
     ensures only { (x : SqlTree) → grammar.SpellsSql tokens.now x → IfOk result (λ r. r ≡ Some x) }
 {
     let mut rest = Tokens::new(tokens);
-    let read = statement(alloc, &mut rest);
+    let read = read_sql(alloc, &mut rest);
     whole(read, &rest)
 }
 
@@ -60,7 +40,7 @@ pub fn transaction(alloc: Global, tokens: &[Token]) -> Result<Option<Transaction
     ensures only { (x : Transaction) → grammar.SpellsTransaction tokens.now x → IfOk result (λ r. r ≡ Some x) }
 {
     let mut rest = Tokens::new(tokens);
-    let read = transaction_statement(alloc, &mut rest);
+    let read = read_transaction(alloc, &mut rest);
     whole(read, &rest)
 }
 
@@ -73,20 +53,20 @@ pub fn session(alloc: Global, tokens: &[Token]) -> Result<Option<Name>, NoMemory
     ensures only { (x : Name) → grammar.SpellsSession tokens.now x → IfOk result (λ r. r ≡ Some x) }
 {
     let mut rest = Tokens::new(tokens);
-    let read = session_statement(alloc, &mut rest);
+    let read = read_session(alloc, &mut rest);
     whole(read, &rest)
 }
 
 /// Tokens spell one statement of a kind at most.
 pub fn one_tree()
-    ensures sql { (ts : Sequence Piece) (a b : SqlTree) → grammar.SpellsSql ts a → grammar.SpellsSql ts b → a ≡ b }
-    ensures transaction { (ts : Sequence Piece) (a b : Transaction) → grammar.SpellsTransaction ts a → grammar.SpellsTransaction ts b → a ≡ b }
-    ensures session { (ts : Sequence Piece) (a b : Name) → grammar.SpellsSession ts a → grammar.SpellsSession ts b → a ≡ b }
+    ensures sql { (ts : Sequence Token) (a b : SqlTree) → grammar.SpellsSql ts a → grammar.SpellsSql ts b → a ≡ b }
+    ensures transaction { (ts : Sequence Token) (a b : Transaction) → grammar.SpellsTransaction ts a → grammar.SpellsTransaction ts b → a ≡ b }
+    ensures session { (ts : Sequence Token) (a b : Name) → grammar.SpellsSession ts a → grammar.SpellsSession ts b → a ≡ b }
 {}
 
 /// The name of an aggregate with one expression in parentheses spells that aggregate.
 pub fn calls_of_aggregates()
-    ensures { (name before after : Piece) (n : Sequence ℕ) (argument : Sequence Piece) (f : Function) (x : Tree) →
+    ensures { (name before after : Token) (n : Sequence ℕ) (argument : Sequence Token) (f : Function) (x : Tree) →
         function_ahead (name ∷ []) ≡ Some f → named_by name ≡ Some n → member (kind_of before) (kinds.LeftParen ∷ []) ≡ true → member (kind_of after) (kinds.RightParen ∷ []) ≡ true →
         SpellsExpr argument x → SpellsWhat (name ∷ before ∷ argument ++ after ∷ []) (item.Aggregate (aggregate_of f x)) }
 {}

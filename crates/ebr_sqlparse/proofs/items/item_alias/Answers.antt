@@ -1,16 +1,16 @@
 use Rattle.std.proofs.Common.{rules}
 use Rattle.ebr_grammar.proofs.Steps.{steps}
-use Rattle.ebr_sqlparse.specs.Statements.{item_alias}
+use Rattle.ebr_sqlparse.specs.Statements.{item_alias, alias}
 use Rattle.ebr_sqlparse.proofs.items.item_alias.Goals as goal
 
 pub returns-in_err-name : goal.returns-in_err-name
-unfolding item_alias
+unfolding item_alias alias
 returns-in_err-name c = simp steps (search rules)
 
 pub returns-in_ok-name : goal.returns-in_ok-name
-unfolding item_alias
+unfolding item_alias alias
 returns-in_ok-name c = simp steps (search rules)
 
 pub returns-else-eat : goal.returns-else-eat
-unfolding item_alias
+unfolding item_alias alias
 returns-else-eat c = simp steps (search rules)

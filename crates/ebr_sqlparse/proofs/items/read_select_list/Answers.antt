@@ -1,7 +1,7 @@
 use Rattle.std.proofs.Common.{rules}
 use Rattle.ebr_grammar.proofs.Steps.{steps}
 use Rattle.ebr_sqlparse.specs.Statements.{select_list}
-use Rattle.ebr_sqlparse.proofs.items.select_list.Goals as goal
+use Rattle.ebr_sqlparse.proofs.items.read_select_list.Goals as goal
 
 pub returns-then-eat : goal.returns-then-eat
 unfolding select_list

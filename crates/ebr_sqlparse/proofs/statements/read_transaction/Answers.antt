@@ -1,7 +1,7 @@
 use Rattle.std.proofs.Common.{rules}
 use Rattle.ebr_grammar.proofs.Steps.{steps}
 use Rattle.ebr_sqlparse.specs.Statements.{transaction}
-use Rattle.ebr_sqlparse.proofs.statements.transaction_statement.Goals as goal
+use Rattle.ebr_sqlparse.proofs.statements.read_transaction.Goals as goal
 
 pub returns-then-eat : goal.returns-then-eat
 unfolding transaction

@@ -1,7 +1,7 @@
 use Rattle.std.proofs.Common.{rules}
 use Rattle.ebr_grammar.proofs.Steps.{steps}
 use Rattle.ebr_sqlparse.specs.Statements.{query}
-use Rattle.ebr_sqlparse.proofs.queries.query.Goals as goal
+use Rattle.ebr_sqlparse.proofs.queries.read_query.Goals as goal
 
 pub returns-in_err-expect : goal.returns-in_err-expect
 unfolding query

@@ -1,7 +1,7 @@
 use Rattle.std.proofs.Common.{rules}
 use Rattle.ebr_grammar.proofs.Steps.{steps}
 use Rattle.ebr_sqlparse.specs.Statements.{session}
-use Rattle.ebr_sqlparse.proofs.statements.session_statement.Goals as goal
+use Rattle.ebr_sqlparse.proofs.statements.read_session.Goals as goal
 
 pub returns-in_err-expect : goal.returns-in_err-expect
 unfolding session

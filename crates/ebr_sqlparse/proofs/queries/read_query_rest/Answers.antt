@@ -1,7 +1,7 @@
 use Rattle.std.proofs.Common.{rules}
 use Rattle.ebr_grammar.proofs.Steps.{steps}
 use Rattle.ebr_sqlparse.specs.Statements.{query_rest}
-use Rattle.ebr_sqlparse.proofs.queries.query_rest.Goals as goal
+use Rattle.ebr_sqlparse.proofs.queries.read_query_rest.Goals as goal
 
 pub returns-in_err-sources : goal.returns-in_err-sources
 unfolding query_rest

@@ -1,7 +1,7 @@
 use Rattle.std.proofs.Common.{rules}
 use Rattle.ebr_grammar.proofs.Steps.{steps}
 use Rattle.ebr_sqlparse.specs.Statements.{insert}
-use Rattle.ebr_sqlparse.proofs.change.insert.Goals as goal
+use Rattle.ebr_sqlparse.proofs.change.read_insert.Goals as goal
 
 pub returns-in_err-expect : goal.returns-in_err-expect
 unfolding insert
