@@ -4,64 +4,53 @@ use Rattle.std.specs.Prelude.{◌&&◌, ◌||◌, ◌⊎◌}
 use Rattle.ebr_lexer.specs.declared.token.Token.{Token}
 use Rattle.ebr_grammar.specs.declared.kind.Kind.{Kind}
 use Rattle.ebr_grammar.specs.declared.kind.Kind.TheVariants as k
-use Rattle.ebr_grammar.specs.Kinds.{same, kind_of, member, name_kinds}
-use Rattle.ebr_grammar.specs.Forms.{Form, Reader, IsReader, sees}
+use Rattle.ebr_grammar.specs.Kinds.{same, kind_of, member, name_kinds, names_but}
+use Rattle.ebr_grammar.specs.Forms.{sees}
 use Rattle.ebr_grammar.specs.Grammar.{token, both, led, SpellsEach}
 use Rattle.ebr_grammar.specs.Reading.{nullable, first}
 use Rattle.ebr_grammar.specs.Choice.{among, apart, after, is_clear}
 use Rattle.ebr_grammar.specs.Outcome.{named_by}
 use Rattle.ebr_grammar.proofs.Next.{not_both, member-apart, sees-append, sees-apart, sees-among, unseen-among, or_right}
-use Rattle.ebr_grammar.proofs.Laws.{begun, begun_first, sound, complete}
-use Rattle.ebr_grammar.proofs.Outside.{either_reader}
+use Rattle.ebr_grammar.proofs.Right.{IsReader, IsRight, foreign, AreRight, widened}
+use Rattle.ebr_grammar.proofs.Laws.{begun, begun_first}
+use Rattle.ebr_grammar.proofs.Outside.{IsReadable, reader_over, either_reader}
 use Rattle.ebr_ast.specs.declared.statement.DeclaredType.{DeclaredType}
 use Rattle.ebr_ast.specs.declared.definition.ColumnConstraint.{ColumnConstraint}
 use Rattle.ebr_ddlparse.specs.Base.{P, hints, reading, SpellsBy, one_name, more_names, names, closed_names}
-use Rattle.ebr_ddlparse.specs.Types.{table_names, column_of, digits, unit, closed_unit, size, number_type, integer_type, varchar2_type, boolean_type, of_column, declared_type, SpellsType, type_reader, type_goes_on}
+use Rattle.ebr_ddlparse.specs.Types.{table_names, column_of, digits, unit, closed_unit, size, number_type, integer_type, varchar2_type, boolean_type, of_column, declared_type, type_reader, type_goes_on}
 use Rattle.ebr_ddlparse.specs.Tables.{constraint, constraint_begins, constraints, column_rest, column, key_words, key_head, key, Entry, is_key_words, is_key, key_entry, column_entry, SpellsEntry, entry_reader}
-use Rattle.ebr_ddlparse.specs.Views.{alias, item, more_items, items, selected, view_body, view_names, view_head, editioning_view, SpellsView, view_reader}
+use Rattle.ebr_ddlparse.specs.Views.{alias, item, more_items, items, selected, view_body, view_names, view_head, editioning_view, view_reader}
 use Rattle.ebr_ddlparse.specs.Definitions.{column_goes_on}
-use Rattle.ebr_ddlparse.proofs.Clear.{type_is_clear, column_is_clear, entry_is_clear, key_is_clear, view_is_clear}
+use Rattle.ebr_ddlparse.specs.Parts.{type_part, view_part}
+use Rattle.ebr_ddlparse.proofs.Clear.{type_is, column_is, column_entry_is, key_entry_is, view_is}
 
 -- ---- a production without names
 
-how_begun : {C : Type 0} (g : P C) → is_clear hints g ≡ true → (ts : List Token) (c : C) → SpellsBy g ts c → (sees (first hints g) ts ≡ true) ⊎ ((nullable hints g ≡ true) × (ts ≡ []))
-how_begun g clear ts c s = begun hints (λ _ ts a. ⊥) (λ part ts a s. absurd s) g clear ts c s
+how_begun : {C : Type 0} (g : P C) → is_clear hints g ≡ true → AreRight (foreign g) → (ts : List Token) (c : C) → SpellsBy g ts c → (sees (first hints g) ts ≡ true) ⊎ ((nullable hints g ≡ true) × (ts ≡ []))
+how_begun g clear right ts c s = begun hints (λ _ ts a. ⊥) (λ part ts a s. absurd s) g clear right ts c s
 
-reader_of : {C : Type 0} (g : P C) → is_clear hints g ≡ true → nullable hints g ≡ false → IsReader (first hints g) (after hints g) (SpellsBy g) (reading g)
-reader_of g clear full = record {
-  begun = λ front c s. begun_first (first hints g) (nullable hints g) front full (how_begun g clear front c s);
-  sound = λ ts x e. sound hints (λ _ ts a. ⊥) (λ _ ts. None) (λ part ts x e. absurd part) g ts x e;
-  complete = λ front rest c s stop. complete hints (λ _ ts a. ⊥) (λ _ ts. None) (λ part ts a s. absurd s) (λ part front rest a s stop. absurd s) g clear front rest c s stop;
-}
+reader_of : {C : Type 0} (g : P C) → IsReadable hints g → IsReader (first hints g) (after hints g) (SpellsBy g) (reading g)
+reader_of g is = reader_over hints (λ _ ts a. ⊥) (λ _ ts. None) (λ part. absurd part) g is
 
--- with more kinds to begin with, and to go on with
-widened : {A : Type 0} (begins more_begins goes more_goes : List Kind) (F : Form A) (r : Reader A) → IsReader begins goes F r → among begins more_begins ≡ true → among goes more_goes ≡ true
-    → IsReader more_begins more_goes F r
-widened begins more_begins goes more_goes F r is b g = record {
-  begun = λ front a s. sees-among begins more_begins front b (is.begun front a s);
-  sound = is.sound;
-  complete = λ front rest a s stop. is.complete front rest a s (unseen-among goes more_goes rest g stop);
-}
-
-pub reads_types : IsReader name_kinds type_goes_on SpellsType type_reader
-unfolding same name_kinds hints table_names column_of digits unit closed_unit size number_type integer_type varchar2_type boolean_type of_column declared_type type_reader type_goes_on
-reads_types = widened (first hints declared_type) name_kinds (after hints declared_type) type_goes_on SpellsType (reading declared_type) (reader_of declared_type type_is_clear refl) refl refl
+pub reads_types : IsRight type_part
+unfolding same name_kinds names_but hints column_of digits unit closed_unit size number_type integer_type varchar2_type boolean_type of_column declared_type type_reader type_goes_on
+reads_types = widened (reader_of declared_type type_is) refl refl
 
 pub reads_columns : IsReader name_kinds column_goes_on (SpellsBy column) (reading column)
-unfolding same name_kinds hints table_names column_of digits unit closed_unit size number_type integer_type varchar2_type boolean_type of_column declared_type constraint constraints column_rest column column_goes_on
-reads_columns = widened (first hints column) name_kinds (after hints column) column_goes_on (SpellsBy column) (reading column) (reader_of column column_is_clear refl) refl refl
+unfolding same name_kinds names_but hints column_of digits unit closed_unit size number_type integer_type varchar2_type boolean_type of_column declared_type constraint constraints column_rest column column_goes_on
+reads_columns = widened (reader_of column column_is) refl refl
 
 reads_column_entries : IsReader name_kinds column_goes_on (SpellsBy column_entry) (reading column_entry)
-unfolding same name_kinds hints table_names column_of digits unit closed_unit size number_type integer_type varchar2_type boolean_type of_column declared_type constraint constraints column_rest column column_entry column_goes_on
-reads_column_entries = widened (first hints column_entry) name_kinds (after hints column_entry) column_goes_on (SpellsBy column_entry) (reading column_entry) (reader_of column_entry entry_is_clear refl) refl refl
+unfolding same name_kinds names_but hints column_of digits unit closed_unit size number_type integer_type varchar2_type boolean_type of_column declared_type constraint constraints column_rest column column_entry column_goes_on
+reads_column_entries = widened (reader_of column_entry column_entry_is) refl refl
 
 reads_key_entries : IsReader name_kinds column_goes_on (SpellsBy key_entry) (reading key_entry)
 unfolding same name_kinds hints one_name more_names names closed_names key_words key_head key key_entry column_goes_on
-reads_key_entries = widened (first hints key_entry) name_kinds (after hints key_entry) column_goes_on (SpellsBy key_entry) (reading key_entry) (reader_of key_entry key_is_clear refl) refl refl
+reads_key_entries = widened (reader_of key_entry key_entry_is) refl refl
 
-pub reads_views : IsReader (k.Editioning ∷ []) [] SpellsView view_reader
+pub reads_views : IsRight view_part
 unfolding same name_kinds hints one_name more_names names closed_names alias item more_items items selected view_body view_names view_head editioning_view view_reader
-reads_views = widened (first hints editioning_view) (k.Editioning ∷ []) (after hints editioning_view) [] SpellsView (reading editioning_view) (reader_of editioning_view view_is_clear refl) refl refl
+reads_views = widened (reader_of editioning_view view_is) refl refl
 
 -- ---- where a key begins, the test holds
 
@@ -131,24 +120,24 @@ brackets = k.LeftParen ∷ k.Dot ∷ []
 abbrev Parts : List Token → Type 0
 Parts ts = (t : Token) × (y : List Token) × (ts ≡ t ∷ y) × ((sees brackets y ≡ true) ⊎ (y ≡ [])) × (Is k.Key t → sees (k.Dot ∷ []) y ≡ true)
 
-keyword : (kinds : List Kind) (g : P (List ℕ → DeclaredType)) → is_clear hints g ≡ true → apart kinds (k.Key ∷ []) ≡ true → among (first hints g) brackets ≡ true
+keyword : (kinds : List Kind) (g : P (List ℕ → DeclaredType)) → is_clear hints g ≡ true → AreRight (foreign g) → apart kinds (k.Key ∷ []) ≡ true → among (first hints g) brackets ≡ true
     → (ts : List Token) (ty : DeclaredType) → SpellsBy (both (λ word f. f word) (token kinds named_by) g) ts ty → Parts ts
-keyword kinds g clear other begins ts ty s =
-    let tail : (sees brackets s.1 ≡ true) ⊎ (s.1 ≡ []) = elim (how_begun g clear s.1 s.3 s.6) [ inl seen ↦ inl (sees-among (first hints g) brackets s.1 begins seen) | inr none ↦ inr none.1 ] in
+keyword kinds g clear right other begins ts ty s =
+    let tail : (sees brackets s.1 ≡ true) ⊎ (s.1 ≡ []) = elim (how_begun g clear right s.1 s.3 s.6) [ inl seen ↦ inl (sees-among (first hints g) brackets s.1 begins seen) | inr none ↦ inr none.1 ] in
     (s.5.0, s.1, s.4 ∙ ap (λ (z : List Token). z ++ s.1) s.5.1, tail, λ is. absurd (not_both (member (kind_of s.5.0) (k.Key ∷ [])) is (member-apart (kind_of s.5.0) kinds (k.Key ∷ []) other s.5.2)))
 
 tabled : (ts : List Token) (ty : DeclaredType) → SpellsBy (both (λ table f. f table) (token table_names named_by) of_column) ts ty → Parts ts
 unfolding same name_kinds hints of_column column_of
 tabled ts ty s =
-    let dot : sees (k.Dot ∷ []) s.1 ≡ true = begun_first (k.Dot ∷ []) false s.1 refl (how_begun of_column refl s.1 s.3 s.6) in
+    let dot : sees (k.Dot ∷ []) s.1 ≡ true = begun_first (k.Dot ∷ []) false s.1 refl (how_begun of_column refl tt s.1 s.3 s.6) in
     (s.5.0, s.1, s.4 ∙ ap (λ (z : List Token). z ++ s.1) s.5.1, inl (sees-among (k.Dot ∷ []) brackets s.1 refl dot), λ is. dot)
 
 type_parts : (ts : List Token) (ty : DeclaredType) → SpellsBy declared_type ts ty → Parts ts
 unfolding same name_kinds hints column_of digits unit closed_unit size number_type integer_type varchar2_type boolean_type declared_type
-type_parts ts ty (inl s) = keyword (k.Number ∷ []) number_type refl refl refl ts ty s
-type_parts ts ty (inr (inl s)) = keyword (k.Integer ∷ []) integer_type refl refl refl ts ty s
-type_parts ts ty (inr (inr (inl s))) = keyword (k.Varchar2 ∷ []) varchar2_type refl refl refl ts ty s
-type_parts ts ty (inr (inr (inr (inl s)))) = keyword (k.Boolean ∷ []) boolean_type refl refl refl ts ty s
+type_parts ts ty (inl s) = keyword (k.Number ∷ []) number_type refl tt refl refl ts ty s
+type_parts ts ty (inr (inl s)) = keyword (k.Integer ∷ []) integer_type refl tt refl refl ts ty s
+type_parts ts ty (inr (inr (inl s))) = keyword (k.Varchar2 ∷ []) varchar2_type refl tt refl refl ts ty s
+type_parts ts ty (inr (inr (inr (inl s)))) = keyword (k.Boolean ∷ []) boolean_type refl tt refl refl ts ty s
 type_parts ts ty (inr (inr (inr (inr s)))) = tabled ts ty s
 
 -- no key behind one constraint
@@ -169,7 +158,7 @@ Constraints each ts = SpellsEach (SpellsBy (led constraint_begins constraint)) e
 no_bracket : (each : List ColumnConstraint) (y rest : List Token) → Constraints each y → sees column_goes_on rest ≡ false → sees (k.LeftParen ∷ []) (y ++ rest) ≡ false
 unfolding same hints constraints constraint column_goes_on
 no_bracket each y rest s stop =
-    elim (how_begun constraints refl y each (each, s, refl)) [
+    elim (how_begun constraints refl tt y each (each, s, refl)) [
       | inl seen ↦ sees-apart (k.LeftParen ∷ []) constraint_begins (y ++ rest) refl (sees-append constraint_begins y rest seen)
       | inr none ↦ subst (λ (z : List Token). sees (k.LeftParen ∷ []) (z ++ rest) ≡ false) (sym none.1) (unseen-among (k.LeftParen ∷ []) column_goes_on rest refl stop)
     ]
@@ -218,5 +207,5 @@ column_is_no_key front rest entry s stop =
 pub reads_entries : IsReader name_kinds column_goes_on SpellsEntry entry_reader
 unfolding same name_kinds column_goes_on entry_reader
 reads_entries =
-    widened (name_kinds ++ name_kinds) name_kinds (column_goes_on ++ column_goes_on) column_goes_on SpellsEntry entry_reader
+    widened
     (either_reader name_kinds column_goes_on name_kinds column_goes_on (SpellsBy key_entry) (SpellsBy column_entry) (reading key_entry) (reading column_entry) reads_key_entries reads_column_entries is_key key_is_seen column_is_no_key) refl refl

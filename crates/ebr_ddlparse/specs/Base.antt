@@ -1,12 +1,10 @@
 -- Productions that hold no other by its name, and lists of names.
-use Rattle.std.specs.Prelude.{ℕ, List, [], ◌∷◌, Some, None}
+use Rattle.std.specs.Prelude.{ℕ, List, [], ◌∷◌, None}
 use Rattle.ebr_grammar.specs.declared.kind.Kind.TheVariants as k
-use Rattle.ebr_grammar.specs.Kinds.{name_kinds}
-use Rattle.ebr_grammar.specs.Forms.{Form, Found, Reader}
-use Rattle.ebr_grammar.specs.Grammar.{Production, token, both, many, Spells}
-use Rattle.ebr_grammar.specs.Reading.{and_then, Hints, reads}
-use Rattle.ebr_grammar.specs.Outcome.{named_by}
-use Rattle.ebr_grammar.specs.Words.{◌▸◌, ◌◂◌}
+use Rattle.ebr_grammar.specs.Forms.{Form, Reader}
+use Rattle.ebr_grammar.specs.Grammar.{Production, both, many, Spells}
+use Rattle.ebr_grammar.specs.Reading.{Hints, reads}
+use Rattle.ebr_grammar.specs.Words.{◌▸◌, ◌◂◌, name}
 
 abbrev pub P : Type 0 → Type 1
 P C = Production ⊥ (λ _. ⊥) C
@@ -21,13 +19,6 @@ reading g = reads hints (λ _ ts. None) g
 -- The tokens spell the tree by the production.
 abbrev pub SpellsBy : {C : Type 0} → P C → Form C
 SpellsBy g = Spells (λ _ ts a. ⊥) g
-
--- what was found behind its first name or item
-abbrev pub with_first : {A B : Type 0} → A → Found (A → B) → Found B
-with_first a found = and_then found (λ f end. Some (f a, end))
-
-abbrev pub name : {K : Type 0} {V : K → Type 0} → Production K V (List ℕ)
-name = token name_kinds named_by
 
 unfoldable pub one_name : P (List ℕ)
 one_name = name

@@ -10,12 +10,12 @@ use Rattle.std.specs.Prelude.{ℕ, Bool, true, false, List, [], ◌∷◌, Optio
 use Rattle.ebr_lexer.specs.declared.token.Token.{Token}
 use Rattle.ebr_grammar.specs.declared.kind.Kind.{Kind}
 use Rattle.ebr_grammar.specs.declared.kind.Kind.TheVariants as k
-use Rattle.ebr_grammar.specs.Kinds.{name_kinds}
+use Rattle.ebr_grammar.specs.Kinds.{name_kinds, names_but}
 use Rattle.ebr_grammar.specs.Forms.{Form, Found, Reader}
 use Rattle.ebr_grammar.specs.Grammar.{Production, token, word, nothing, both, made, tested, named, Spells}
 use Rattle.ebr_grammar.specs.Reading.{and_then, before, Hints, reads}
 use Rattle.ebr_grammar.specs.Outcome.{named_by}
-use Rattle.ebr_grammar.specs.Words.{mark, ◌▸◌, ◌◂◌, ◌∣◌, maybe, is_there, all}
+use Rattle.ebr_grammar.specs.Words.{mark, ◌▸◌, ◌◂◌, ◌∣◌, maybe, is_there, all, name, past}
 use Rattle.ebr_ast.specs.declared.statement.DeclaredType.{DeclaredType}
 use Rattle.ebr_ast.specs.declared.definition.Definition.{Definition}
 use Rattle.ebr_ast.specs.declared.definition.Definition.TheVariants as d
@@ -24,8 +24,6 @@ use Rattle.ebr_ast.specs.declared.definition.ObjectKind.{ObjectKind}
 use Rattle.ebr_ast.specs.declared.definition.ObjectKind.TheVariants as object
 use Rattle.ebr_ast.specs.declared.unit.EditioningView.{EditioningView}
 use Rattle.ebr_ast.specs.declared.unit.UnitTree.TheVariants as unit
-use Rattle.ebr_ddlparse.specs.declared.drops.TheConstants.{PACKAGE_NAMES}
-use Rattle.ebr_ddlparse.specs.Base.{name}
 use Rattle.ebr_ddlparse.specs.Types.{SpellsType, type_reader, type_goes_on}
 use Rattle.ebr_ddlparse.specs.Tables.{Entry, Items, the_column, placed, column, SpellsEntry, entry_reader}
 use Rattle.ebr_ddlparse.specs.Views.{SpellsView, view_reader}
@@ -113,7 +111,7 @@ create_view replace = made (λ view. d.CreateObject replace (unit.View view)) (n
 
 -- EDITIONABLE leaves nothing in the tree
 unfoldable pub create_object : Bool → P Definition
-create_object replace = k.Editionable ▸ create_view replace ∣ create_view replace
+create_object replace = past k.Editionable (create_view replace)
 
 -- behind CREATE
 unfoldable pub create : P Definition
@@ -163,22 +161,15 @@ drop_edition = both (λ name cascade. d.DropEdition name cascade) name (is_there
 unfoldable pub drop_object : ObjectKind → P Definition
 drop_object kind = made (λ name. d.DropObject kind name) name
 
--- the names but BODY
-unfoldable pub package_names : List Kind
-package_names = PACKAGE_NAMES
-
 -- The body of a package, or the package BODY where no name follows.
 abbrev pub dropped_body : List ℕ → Option (List ℕ) → Definition
 dropped_body body None = d.DropObject object.Package body
 dropped_body body (Some name) = d.DropObject object.PackageBody name
 
-unfoldable pub maybe_name : P (Option (List ℕ))
-maybe_name = maybe name
-
 -- behind DROP PACKAGE
 unfoldable pub drop_package : P Definition
-drop_package = both dropped_body (token (k.Body ∷ []) named_by) maybe_name
-    ∣ made (λ name. d.DropObject object.Package name) (token package_names named_by)
+drop_package = both dropped_body (token (k.Body ∷ []) named_by) (maybe name)
+    ∣ made (λ name. d.DropObject object.Package name) (token (names_but (k.Body ∷ [])) named_by)
 
 -- behind DROP
 unfoldable pub dropped : P Definition
@@ -198,10 +189,6 @@ abbrev pub SpellsDefinition : List Token → Definition → Type 0
 SpellsDefinition = Spells SpellsPart definition
 
 -- ---- what readers give
-
--- what was found, behind its first name
-abbrev pub behind : {A B : Type 0} → A → Found (A → B) → Found B
-behind a found = and_then found (λ f end. Some (f a, end))
 
 -- the items, where the closing parenthesis follows
 abbrev pub closing : Items → Reader Items

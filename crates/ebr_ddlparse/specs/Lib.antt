@@ -3,3 +3,4 @@ pub mod Types
 pub mod Tables
 pub mod Views
 pub mod Definitions
+pub mod Parts

@@ -8,12 +8,12 @@ use Rattle.ebr_grammar.specs.declared.kind.Kind.{Kind}
 use Rattle.ebr_grammar.specs.declared.kind.Kind.TheVariants as k
 use Rattle.ebr_grammar.specs.Forms.{Form, Reader, sees, either, by_test}
 use Rattle.ebr_grammar.specs.Grammar.{word, both, made, led}
-use Rattle.ebr_grammar.specs.Words.{mark, ◌▸◌, ◌∣◌, all}
+use Rattle.ebr_grammar.specs.Words.{mark, ◌▸◌, ◌∣◌, all, name}
 use Rattle.ebr_ast.specs.declared.statement.DeclaredType.{DeclaredType}
 use Rattle.ebr_ast.specs.declared.definition.ColumnTree.{ColumnTree}
 use Rattle.ebr_ast.specs.declared.definition.ColumnConstraint.{ColumnConstraint}
 use Rattle.ebr_ast.specs.declared.definition.ColumnConstraint.TheVariants as constrained
-use Rattle.ebr_ddlparse.specs.Base.{P, reading, SpellsBy, name, closed_names}
+use Rattle.ebr_ddlparse.specs.Base.{P, reading, SpellsBy, closed_names}
 use Rattle.ebr_ddlparse.specs.Types.{declared_type}
 
 abbrev pub column_tree : List ℕ → DeclaredType → List ColumnConstraint → ColumnTree

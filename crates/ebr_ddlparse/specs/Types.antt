@@ -6,18 +6,18 @@ use Rattle.std.specs.Prelude.{ℕ, List, [], ◌∷◌, Some, None}
 use Rattle.ebr_lexer.specs.declared.token.Token.{Token}
 use Rattle.ebr_grammar.specs.declared.kind.Kind.{Kind}
 use Rattle.ebr_grammar.specs.declared.kind.Kind.TheVariants as k
+use Rattle.ebr_grammar.specs.Kinds.{names_but}
 use Rattle.ebr_grammar.specs.Forms.{Reader}
 use Rattle.ebr_grammar.specs.Grammar.{token, nothing, both, made}
 use Rattle.ebr_grammar.specs.Outcome.{number_of, named_by}
-use Rattle.ebr_grammar.specs.Words.{mark, ◌▸◌, ◌◂◌, ◌∣◌}
+use Rattle.ebr_grammar.specs.Words.{mark, ◌▸◌, ◌◂◌, ◌∣◌, name}
 use Rattle.ebr_ast.specs.declared.statement.DeclaredType.{DeclaredType}
 use Rattle.ebr_ast.specs.declared.statement.DeclaredType.TheVariants as t
-use Rattle.ebr_ddlparse.specs.declared.types.TheConstants.{TABLE_NAMES}
-use Rattle.ebr_ddlparse.specs.Base.{P, reading, SpellsBy, name}
+use Rattle.ebr_ddlparse.specs.Base.{P, reading, SpellsBy}
 
 -- the names that begin no type but that of a table's column
-unfoldable pub table_names : List Kind
-table_names = TABLE_NAMES
+abbrev pub table_names : List Kind
+table_names = names_but (k.Number ∷ k.Integer ∷ k.Varchar2 ∷ k.Boolean ∷ [])
 
 -- `n % TYPE`, behind a table's name and the dot
 unfoldable pub column_of : P (List ℕ → DeclaredType)

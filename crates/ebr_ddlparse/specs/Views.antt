@@ -6,10 +6,10 @@ use Rattle.ebr_lexer.specs.declared.token.Token.{Token}
 use Rattle.ebr_grammar.specs.declared.kind.Kind.TheVariants as k
 use Rattle.ebr_grammar.specs.Forms.{Reader}
 use Rattle.ebr_grammar.specs.Grammar.{nothing, both, many, made}
-use Rattle.ebr_grammar.specs.Words.{◌▸◌, ◌◂◌, ◌∣◌, maybe}
+use Rattle.ebr_grammar.specs.Words.{◌▸◌, ◌◂◌, ◌∣◌, maybe, name}
 use Rattle.ebr_ast.specs.declared.unit.EditioningView.{EditioningView}
 use Rattle.ebr_ast.specs.declared.unit.ViewItem.{ViewItem}
-use Rattle.ebr_ddlparse.specs.Base.{P, reading, SpellsBy, name, closed_names}
+use Rattle.ebr_ddlparse.specs.Base.{P, reading, SpellsBy, closed_names}
 
 abbrev pub item_tree : List ℕ → Option (List ℕ) → ViewItem
 item_tree column alias = record { column = column; alias = alias }

@@ -2,6 +2,7 @@
 
 ghost use Rattle.std.specs.Prelude.{◌≡◌};
 ghost use Rattle.ebr_grammar.specs.Outcome.{Reads};
+ghost use Rattle.ebr_grammar.specs.Reading.{with_first};
 ghost use Rattle.ebr_ddlparse.specs.Definitions as spec;
 
 use crate::types::declared_type;
@@ -22,7 +23,7 @@ fn default_edition(alloc: Global, tokens: &mut Tokens<'_>) -> Result<Definition,
 }
 
 fn new_column(alloc: Global, tokens: &mut Tokens<'_>, table: Name) -> Result<Definition, ReadStop>
-    ensures { Reads (spec.behind table (spec.reads_by spec.new_column tokens.old)) result tokens.new }
+    ensures { Reads (with_first table (spec.reads_by spec.new_column tokens.old)) result tokens.new }
 {
     let column = tokens.name(alloc)?;
     let ty = declared_type(alloc, tokens)?;
@@ -34,7 +35,7 @@ fn closed_column(
     tokens: &mut Tokens<'_>,
     table: Name,
 ) -> Result<Definition, ReadStop>
-    ensures { Reads (spec.behind table (spec.reads_by spec.closed_column tokens.old)) result tokens.new }
+    ensures { Reads (with_first table (spec.reads_by spec.closed_column tokens.old)) result tokens.new }
 {
     let added = new_column(alloc, tokens, table)?;
     ended(tokens, Kind::RightParen, added)
@@ -42,7 +43,7 @@ fn closed_column(
 
 /// What stands behind ADD.
 fn added_column(alloc: Global, tokens: &mut Tokens<'_>, table: Name) -> Result<Definition, ReadStop>
-    ensures { Reads (spec.behind table (spec.reads_by spec.added_column tokens.old)) result tokens.new }
+    ensures { Reads (with_first table (spec.reads_by spec.added_column tokens.old)) result tokens.new }
 {
     if tokens.eat(Kind::LeftParen) {
         closed_column(alloc, tokens, table)

@@ -65,11 +65,8 @@ fn create_object(
 ) -> Result<Definition, ReadStop>
     ensures { Reads (spec.reads_by (spec.create_object replace) tokens.old) result tokens.new }
 {
-    if tokens.eat(Kind::Editionable) {
-        create_view(alloc, tokens, replace)
-    } else {
-        create_view(alloc, tokens, replace)
-    }
+    tokens.eat(Kind::Editionable);
+    create_view(alloc, tokens, replace)
 }
 
 /// What stands behind CREATE.

@@ -6,67 +6,8 @@ ghost use Rattle.ebr_ddlparse.specs.Definitions as spec;
 
 use ebr_ast::{Definition, ObjectKind};
 use ebr_base::Name;
-use ebr_grammar::{Kind, NAME_KINDS, ReadStop, Tokens};
+use ebr_grammar::{Kind, ReadStop, Tokens};
 use std::alloc::Global;
-
-/// The kinds of names but that of BODY.
-pub const PACKAGE_NAMES: [Kind; 55] = [
-    Kind::Name,
-    Kind::Add,
-    Kind::After,
-    Kind::Apply,
-    Kind::AutonomousTransaction,
-    Kind::Before,
-    Kind::Boolean,
-    Kind::Byte,
-    Kind::Call,
-    Kind::Cascade,
-    Kind::Char,
-    Kind::Child,
-    Kind::Constant,
-    Kind::Constraint,
-    Kind::Count,
-    Kind::Crossedition,
-    Kind::Database,
-    Kind::Default,
-    Kind::Disable,
-    Kind::Each,
-    Kind::Edition,
-    Kind::Editionable,
-    Kind::Editioning,
-    Kind::Enable,
-    Kind::ExceptionInit,
-    Kind::Forward,
-    Kind::Found,
-    Kind::Integer,
-    Kind::Isopen,
-    Kind::Key,
-    Kind::Max,
-    Kind::Min,
-    Kind::New,
-    Kind::Notfound,
-    Kind::Nowait,
-    Kind::Number,
-    Kind::Of,
-    Kind::Old,
-    Kind::Others,
-    Kind::Out,
-    Kind::Package,
-    Kind::Primary,
-    Kind::PutLine,
-    Kind::Replace,
-    Kind::Reverse,
-    Kind::Row,
-    Kind::Rowcount,
-    Kind::Session,
-    Kind::Sum,
-    Kind::To,
-    Kind::Trigger,
-    Kind::Trunc,
-    Kind::TypeWord,
-    Kind::Varchar2,
-    Kind::Work,
-];
 
 /// What stands behind DROP EDITION.
 fn drop_edition(alloc: Global, tokens: &mut Tokens<'_>) -> Result<Definition, ReadStop>
@@ -105,26 +46,16 @@ fn dropped_body(body: Name, name: Option<Name>) -> Definition
     }
 }
 
-fn maybe_name(alloc: Global, tokens: &mut Tokens<'_>) -> Result<Option<Name>, ReadStop>
-    ensures { Reads (spec.reads_by spec.maybe_name tokens.old) result tokens.new }
-{
-    if tokens.sees_any(&NAME_KINDS) {
-        Ok(Some(tokens.name(alloc)?))
-    } else {
-        Ok(None)
-    }
-}
-
 /// What stands behind DROP PACKAGE.
 fn drop_package(alloc: Global, tokens: &mut Tokens<'_>) -> Result<Definition, ReadStop>
     ensures { Reads (spec.reads_by spec.drop_package tokens.old) result tokens.new }
 {
     if tokens.sees(Kind::Body) {
         let body = tokens.name_among(alloc, &[Kind::Body])?;
-        let name = maybe_name(alloc, tokens)?;
+        let name = tokens.maybe_name(alloc)?;
         Ok(dropped_body(body, name))
     } else {
-        let name = tokens.name_among(alloc, &PACKAGE_NAMES)?;
+        let name = tokens.name_but(alloc, &[Kind::Body])?;
         Ok(Definition::DropObject {
             kind: ObjectKind::Package,
             name,

@@ -2,6 +2,7 @@
 
 ghost use Rattle.std.specs.Prelude.{◌≡◌};
 ghost use Rattle.ebr_grammar.specs.Outcome.{Reads};
+ghost use Rattle.ebr_grammar.specs.Reading.{with_first};
 ghost use Rattle.ebr_ddlparse.specs.Base as spec;
 
 use ebr_base::{List, Name};
@@ -16,7 +17,7 @@ fn one_name(alloc: Global, tokens: &mut Tokens<'_>) -> Result<Name, ReadStop>
 
 /// The names behind the first, and with it.
 fn more_names(alloc: Global, tokens: &mut Tokens<'_>, first: Name) -> Result<List<Name>, ReadStop>
-    ensures { Reads (spec.with_first first (spec.reading spec.more_names tokens.old)) result tokens.new }
+    ensures { Reads (with_first first (spec.reading spec.more_names tokens.old)) result tokens.new }
 {
     let mut found = List::new(alloc);
     found.push(first)?;

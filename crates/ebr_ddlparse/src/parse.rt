@@ -1,10 +1,7 @@
 //! Whole definitions, and the readers for other grammars.
 
 ghost use Rattle.std.specs.Prelude.{◌≡◌, List as Sequence, Some, IfOk, IfSome};
-ghost use Rattle.ebr_lexer.specs.declared.token.Token.{Token as Piece};
-ghost use Rattle.ebr_grammar.specs.Forms.{Found};
 ghost use Rattle.ebr_grammar.specs.Outcome.{Reads};
-ghost use Rattle.ebr_grammar.specs.Reading as reading;
 ghost use Rattle.ebr_ast.specs.declared.definition.Definition.{Definition as Tree};
 ghost use Rattle.ebr_ddlparse.specs.Types.{type_reader};
 ghost use Rattle.ebr_ddlparse.specs.Views.{view_reader};
@@ -17,7 +14,7 @@ use crate::types::declared_type;
 use crate::views::editioning_view;
 use ebr_ast::{DeclaredType, Definition, EditioningView};
 use ebr_base::{NoMemory, Shared};
-use ebr_grammar::{Kind, ReadStop, Tokens};
+use ebr_grammar::{Kind, ReadStop, Tokens, whole};
 use ebr_lexer::Token;
 use std::alloc::Global;
 
@@ -53,23 +50,6 @@ fn read_definition(alloc: Global, tokens: &mut Tokens<'_>) -> Result<Definition,
     }
 }
 
-/// What was read, where no token is left.
-fn whole<T: Drop>(read: Result<T, ReadStop>, rest: &Tokens<'_>) -> Result<Option<T>, NoMemory>
-    ensures { (found : Found T) → Reads found read rest.now → IfOk result (λ r. r ≡ reading.whole found) }
-{
-    match read {
-        Ok(tree) => {
-            if rest.left() == 0 {
-                Ok(Some(tree))
-            } else {
-                Ok(None)
-            }
-        }
-        Err(ReadStop::NoTree) => Ok(None),
-        Err(ReadStop::NoMemory) => Err(NoMemory),
-    }
-}
-
 /// The definition that the tokens spell, all of them; none where they spell none.
 pub fn definition(alloc: Global, tokens: &[Token]) -> Result<Option<Definition>, NoMemory>
     // What is found is spelled by the tokens.
@@ -84,5 +64,5 @@ pub fn definition(alloc: Global, tokens: &[Token]) -> Result<Option<Definition>,
 
 /// Tokens spell one definition at most.
 pub fn one_tree()
-    ensures { (ts : Sequence Piece) (a b : Tree) → spec.SpellsDefinition ts a → spec.SpellsDefinition ts b → a ≡ b }
+    ensures { (ts : Sequence Token) (a b : Tree) → spec.SpellsDefinition ts a → spec.SpellsDefinition ts b → a ≡ b }
 {}

@@ -2,6 +2,7 @@
 
 ghost use Rattle.std.specs.Prelude.{◌≡◌, ◌≤◌, []};
 ghost use Rattle.ebr_grammar.specs.Outcome.{Reads};
+ghost use Rattle.ebr_grammar.specs.Reading.{with_first};
 ghost use Rattle.ebr_ddlparse.specs.Base as base;
 ghost use Rattle.ebr_ddlparse.specs.Tables as spec;
 ghost use Rattle.ebr_ddlparse.specs.Definitions as whole;
@@ -42,7 +43,7 @@ fn constraints(alloc: Global, tokens: &mut Tokens<'_>) -> Result<List<ColumnCons
 
 /// What stands behind a column's name.
 fn column_rest(alloc: Global, tokens: &mut Tokens<'_>, name: Name) -> Result<ColumnTree, ReadStop>
-    ensures { Reads (base.with_first name (base.reading spec.column_rest tokens.old)) result tokens.new }
+    ensures { Reads (with_first name (base.reading spec.column_rest tokens.old)) result tokens.new }
 {
     let ty = declared_type(alloc, tokens)?;
     let constraints = constraints(alloc, tokens)?;

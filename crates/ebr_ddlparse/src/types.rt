@@ -2,6 +2,7 @@
 
 ghost use Rattle.std.specs.Prelude.{◌≡◌, Some};
 ghost use Rattle.ebr_grammar.specs.Outcome.{Reads};
+ghost use Rattle.ebr_grammar.specs.Reading.{with_first};
 ghost use Rattle.ebr_ddlparse.specs.Base as base;
 ghost use Rattle.ebr_ddlparse.specs.Types as spec;
 
@@ -10,65 +11,9 @@ use ebr_base::Name;
 use ebr_grammar::{Kind, ReadStop, Tokens};
 use std::alloc::Global;
 
-/// The kinds of names that begin no type but that of a table's column.
-pub const TABLE_NAMES: [Kind; 52] = [
-    Kind::Name,
-    Kind::Add,
-    Kind::After,
-    Kind::Apply,
-    Kind::AutonomousTransaction,
-    Kind::Before,
-    Kind::Body,
-    Kind::Byte,
-    Kind::Call,
-    Kind::Cascade,
-    Kind::Char,
-    Kind::Child,
-    Kind::Constant,
-    Kind::Constraint,
-    Kind::Count,
-    Kind::Crossedition,
-    Kind::Database,
-    Kind::Default,
-    Kind::Disable,
-    Kind::Each,
-    Kind::Edition,
-    Kind::Editionable,
-    Kind::Editioning,
-    Kind::Enable,
-    Kind::ExceptionInit,
-    Kind::Forward,
-    Kind::Found,
-    Kind::Isopen,
-    Kind::Key,
-    Kind::Max,
-    Kind::Min,
-    Kind::New,
-    Kind::Notfound,
-    Kind::Nowait,
-    Kind::Of,
-    Kind::Old,
-    Kind::Others,
-    Kind::Out,
-    Kind::Package,
-    Kind::Primary,
-    Kind::PutLine,
-    Kind::Replace,
-    Kind::Reverse,
-    Kind::Row,
-    Kind::Rowcount,
-    Kind::Session,
-    Kind::Sum,
-    Kind::To,
-    Kind::Trigger,
-    Kind::Trunc,
-    Kind::TypeWord,
-    Kind::Work,
-];
-
 /// What stands behind a table's name and the dot.
 fn column_of(alloc: Global, tokens: &mut Tokens<'_>, table: Name) -> Result<DeclaredType, ReadStop>
-    ensures { Reads (base.with_first table (base.reading spec.column_of tokens.old)) result tokens.new }
+    ensures { Reads (with_first table (base.reading spec.column_of tokens.old)) result tokens.new }
 {
     let column = tokens.name(alloc)?;
     tokens.expect(Kind::Percent)?;
@@ -117,7 +62,7 @@ fn size(tokens: &mut Tokens<'_>) -> Result<u64, ReadStop>
 
 /// What stands behind NUMBER.
 fn number_type(alloc: Global, tokens: &mut Tokens<'_>, word: Name) -> Result<DeclaredType, ReadStop>
-    ensures { Reads (base.with_first word (base.reading spec.number_type tokens.old)) result tokens.new }
+    ensures { Reads (with_first word (base.reading spec.number_type tokens.old)) result tokens.new }
 {
     if tokens.eat(Kind::LeftParen) {
         let count = digits(tokens)?;
@@ -135,7 +80,7 @@ fn integer_type(
     tokens: &mut Tokens<'_>,
     word: Name,
 ) -> Result<DeclaredType, ReadStop>
-    ensures { Reads (base.with_first word (base.reading spec.integer_type tokens.old)) result tokens.new }
+    ensures { Reads (with_first word (base.reading spec.integer_type tokens.old)) result tokens.new }
 {
     if tokens.eat(Kind::Dot) {
         column_of(alloc, tokens, word)
@@ -150,7 +95,7 @@ fn varchar2_type(
     tokens: &mut Tokens<'_>,
     word: Name,
 ) -> Result<DeclaredType, ReadStop>
-    ensures { Reads (base.with_first word (base.reading spec.varchar2_type tokens.old)) result tokens.new }
+    ensures { Reads (with_first word (base.reading spec.varchar2_type tokens.old)) result tokens.new }
 {
     if tokens.eat(Kind::LeftParen) {
         let bytes = size(tokens)?;
@@ -167,7 +112,7 @@ fn boolean_type(
     tokens: &mut Tokens<'_>,
     word: Name,
 ) -> Result<DeclaredType, ReadStop>
-    ensures { Reads (base.with_first word (base.reading spec.boolean_type tokens.old)) result tokens.new }
+    ensures { Reads (with_first word (base.reading spec.boolean_type tokens.old)) result tokens.new }
 {
     if tokens.eat(Kind::Dot) {
         column_of(alloc, tokens, word)
@@ -178,7 +123,7 @@ fn boolean_type(
 
 /// What stands behind another name.
 fn of_column(alloc: Global, tokens: &mut Tokens<'_>, table: Name) -> Result<DeclaredType, ReadStop>
-    ensures { Reads (base.with_first table (base.reading spec.of_column tokens.old)) result tokens.new }
+    ensures { Reads (with_first table (base.reading spec.of_column tokens.old)) result tokens.new }
 {
     tokens.expect(Kind::Dot)?;
     column_of(alloc, tokens, table)
@@ -200,7 +145,10 @@ pub fn declared_type(alloc: Global, tokens: &mut Tokens<'_>) -> Result<DeclaredT
         let word = tokens.name_among(alloc, &[Kind::Boolean])?;
         boolean_type(alloc, tokens, word)
     } else {
-        let table = tokens.name_among(alloc, &TABLE_NAMES)?;
+        let table = tokens.name_but(
+            alloc,
+            &[Kind::Number, Kind::Integer, Kind::Varchar2, Kind::Boolean],
+        )?;
         of_column(alloc, tokens, table)
     }
 }

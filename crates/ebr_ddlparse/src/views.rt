@@ -2,13 +2,14 @@
 
 ghost use Rattle.std.specs.Prelude.{◌≡◌};
 ghost use Rattle.ebr_grammar.specs.Outcome.{Reads};
+ghost use Rattle.ebr_grammar.specs.Reading.{with_first};
 ghost use Rattle.ebr_ddlparse.specs.Base as base;
 ghost use Rattle.ebr_ddlparse.specs.Views as spec;
 
 use crate::names::closed_names;
 use ebr_ast::{EditioningView, ViewItem};
 use ebr_base::{List, Name, Shared};
-use ebr_grammar::{Kind, NAME_KINDS, ReadStop, Tokens, ended, shared};
+use ebr_grammar::{Kind, ReadStop, Tokens, ended, shared};
 use std::alloc::Global;
 
 fn alias(alloc: Global, tokens: &mut Tokens<'_>) -> Result<Option<Name>, ReadStop>
@@ -16,10 +17,8 @@ fn alias(alloc: Global, tokens: &mut Tokens<'_>) -> Result<Option<Name>, ReadSto
 {
     if tokens.eat(Kind::As) {
         Ok(Some(tokens.name(alloc)?))
-    } else if tokens.sees_any(&NAME_KINDS) {
-        Ok(Some(tokens.name(alloc)?))
     } else {
-        Ok(None)
+        tokens.maybe_name(alloc)
     }
 }
 
@@ -37,7 +36,7 @@ fn more_items(
     tokens: &mut Tokens<'_>,
     first: ViewItem,
 ) -> Result<List<ViewItem>, ReadStop>
-    ensures { Reads (base.with_first first (base.reading spec.more_items tokens.old)) result tokens.new }
+    ensures { Reads (with_first first (base.reading spec.more_items tokens.old)) result tokens.new }
 {
     let mut found = List::new(alloc);
     found.push(first)?;

@@ -2,17 +2,18 @@ use Rattle.std.proofs.Common.{List, subst}
 use Rattle.ebr_lexer.specs.declared.token.Token.{Token}
 use Rattle.ebr_grammar.specs.Outcome.{Reads}
 use Rattle.ebr_ddlparse.specs.Definitions.{definition, reads_by}
-use Rattle.ebr_ddlparse.proofs.Whole.{is_found, is_only}
+use Rattle.ebr_grammar.proofs.Texts.{is_found, is_only}
+use Rattle.ebr_ddlparse.proofs.Whole.{reads_definitions}
 use Rattle.ebr_ddlparse.proofs.parse.definition.Goals as goal
 
 pub returns-clause-found : goal.returns-clause-found
 returns-clause-found c =
     let read : Reads (reads_by definition c.args.tokens.now) c.read_definition-read.result c.read_definition-read.new.tokens =
     subst (λ (ts : List Token). Reads (reads_by definition ts) c.read_definition-read.result c.read_definition-read.new.tokens) c.new-rest.ensures c.read_definition-read.ensures in
-    is_found c.args.tokens.now c.whole.result (c.whole.ensures (reads_by definition c.args.tokens.now) read)
+    is_found reads_definitions c.args.tokens.now c.whole.result (c.whole.ensures (reads_by definition c.args.tokens.now) read)
 
 pub returns-clause-only : goal.returns-clause-only
 returns-clause-only c d s =
     let read : Reads (reads_by definition c.args.tokens.now) c.read_definition-read.result c.read_definition-read.new.tokens =
     subst (λ (ts : List Token). Reads (reads_by definition ts) c.read_definition-read.result c.read_definition-read.new.tokens) c.new-rest.ensures c.read_definition-read.ensures in
-    is_only c.args.tokens.now c.whole.result (c.whole.ensures (reads_by definition c.args.tokens.now) read) d s
+    is_only reads_definitions c.args.tokens.now c.whole.result (c.whole.ensures (reads_by definition c.args.tokens.now) read) d s
