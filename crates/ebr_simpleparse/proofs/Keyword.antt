@@ -6,13 +6,14 @@ use Rattle.std.proofs.lemmas.List.{append-nil}
 use Rattle.ebr_grammar.specs.declared.kind.Kind.{Kind}
 use Rattle.ebr_grammar.specs.declared.kind.Kind.TheVariants as k
 use Rattle.ebr_lexer.specs.declared.token.Token.{Token}
-use Rattle.ebr_grammar.specs.Kinds.{same, kind_of, member, name_kinds}
+use Rattle.ebr_grammar.specs.Kinds.{same, kind_of, member, name_kinds, names_but}
 use Rattle.ebr_grammar.specs.Forms.{sees}
 use Rattle.ebr_grammar.specs.Grammar.{led, Spells, SpellsEach, SpellsAny}
 use Rattle.ebr_grammar.specs.Reading.{nullable, first}
 use Rattle.ebr_grammar.specs.Words.{◌▸◌}
 use Rattle.ebr_grammar.specs.Choice.{apart, among, is_clear}
 use Rattle.ebr_grammar.proofs.Next.{and_true, not_true, not_both, member-apart, member-among, sees-append, sees-apart, sees-among}
+use Rattle.ebr_grammar.proofs.Right.{foreign, AreRight}
 use Rattle.ebr_grammar.proofs.Laws.{begun, begun_first}
 use Rattle.ebr_ast.specs.declared.expression.Addend.{Addend}
 use Rattle.ebr_ast.specs.declared.expression.AdditiveOperator.{AdditiveOperator}
@@ -20,12 +21,12 @@ use Rattle.ebr_ast.specs.declared.expression.Comparison.{Comparison}
 use Rattle.ebr_ast.specs.declared.expression.Expr.{Expr}
 use Rattle.ebr_ast.specs.declared.expression.Expr.TheVariants as e
 use Rattle.ebr_exprparse.specs.declared.level.Level.TheVariants.{Whole}
-use Rattle.ebr_exprparse.specs.Expressions.{P, Read, signs as comparison_signs, begins, goes_on, plain_names, grammar, hints, disjunction, more_conjunctions, conjoined_tree, conjunction, more_negations, negated_tree, negation, comparison, comparison_tail, signed, sign, test, membership, null_test, pattern, range, range_end, in_list, closed_list, sum, more_terms, operators, addend, operator, term, more_factors, factor, primary, reference, constant, constants, row_column, row_image, closed, name_tail, trunc_tail, trunc_arguments, trunc_end, trunc_call, divisor, inner, inner_sum, sql_attribute, statement_attribute, attribute, member as member_tail, given, arguments, list, more_items, SpellsExpr}
+use Rattle.ebr_exprparse.specs.Expressions.{P, Read, signs as comparison_signs, begins, goes_on, grammar, hints, disjunction, more_conjunctions, conjoined_tree, conjunction, more_negations, negated_tree, negation, comparison, comparison_tail, signed, sign, test, membership, null_test, pattern, range, range_end, in_list, closed_list, sum, more_terms, operators, addend, operator, term, more_factors, factor, primary, reference, constant, constants, row_column, row_image, closed, name_tail, trunc_tail, trunc_arguments, trunc_end, trunc_call, divisor, inner, inner_sum, sql_attribute, statement_attribute, attribute, member as member_tail, given, arguments, list, more_items, SpellsExpr}
 use Rattle.ebr_exprparse.proofs.Whole.{reads_expressions}
 use Rattle.ebr_simpleparse.specs.Looking.{closes, signs, tests, has_one_item, name_ends, begins_bound}
 use Rattle.ebr_simpleparse.proofs.Closing.{at_last_right, at_last_comma}
 use Rattle.ebr_simpleparse.proofs.Balanced.{passes_expression}
-use Rattle.ebr_simpleparse.proofs.Pieces.{Has, starts_any, opened, closed_up, joins, Pieces, Negated, cut, has_all}
+use Rattle.ebr_simpleparse.proofs.Layers.{Has, starts_any, opened, closed_up, joins, Layers, Negated, cut, has_all}
 
 -- ---- the test, by the first token
 
@@ -61,13 +62,13 @@ front_is : (ts x y : List Token) (t : Token) (kinds : List Kind) → ts ≡ x ++
 unfolding sees
 front_is ts x y t kinds e is m = rw (e, is) m
 
-begun_by : {C : Type 0} (g : P C) → is_clear hints g ≡ true → (ts : List Token) → Has g ts → (sees (first hints g) ts ≡ true) ⊎ ((nullable hints g ≡ true) × (ts ≡ []))
-begun_by g clear ts h = begun hints (SpellsAny grammar) starts_any g clear ts h.0 h.1
+begun_by : {C : Type 0} (g : P C) → is_clear hints g ≡ true → AreRight (foreign g) → (ts : List Token) → Has g ts → (sees (first hints g) ts ≡ true) ⊎ ((nullable hints g ≡ true) × (ts ≡ []))
+begun_by g clear right ts h = begun hints (SpellsAny grammar) starts_any g clear right ts h.0 h.1
 
-some_by : {C : Type 0} (g : P C) → is_clear hints g ≡ true → nullable hints g ≡ false → (ts : List Token) → Has g ts → sees (first hints g) ts ≡ true
-some_by g clear full ts h = begun_first (first hints g) (nullable hints g) ts full (begun_by g clear ts h)
+some_by : {C : Type 0} (g : P C) → is_clear hints g ≡ true → AreRight (foreign g) → nullable hints g ≡ false → (ts : List Token) → Has g ts → sees (first hints g) ts ≡ true
+some_by g clear right full ts h = begun_first (first hints g) (nullable hints g) ts full (begun_by g clear right ts h)
 
--- ---- joined pieces
+-- ---- joined layers
 
 module _ (kinds : List Kind) (factors terms tail negations conjunctions rest : List Token) where
   joined_sees : (front : List Token) → sees kinds front ≡ true → sees kinds (joins front factors terms tail negations conjunctions ++ rest) ≡ true
@@ -108,7 +109,7 @@ not_is a e = rw e refl
 
 constant_begins : (ts : List Token) → Has (led constants constant) ts → sees constants ts ≡ true
 unfolding same constant
-constant_begins ts h = some_by (led constants constant) refl refl ts h
+constant_begins ts h = some_by (led constants constant) refl tt refl ts h
 
 -- with which a primary begins that has no parenthesis in front
 abbrev open_begins : List Kind
@@ -122,9 +123,9 @@ trunc_begins : (ts : List Token) → sees (k.Trunc ∷ []) ts ≡ true → sees 
 unfolding same name_kinds
 trunc_begins ts e = sees-among (k.Trunc ∷ []) open_begins ts refl e
 
-name_begins : (ts : List Token) → sees plain_names ts ≡ true → sees open_begins ts ≡ true
-unfolding same name_kinds plain_names
-name_begins ts e = sees-among plain_names open_begins ts refl e
+name_begins : (ts : List Token) → sees (names_but (k.Trunc ∷ [])) ts ≡ true → sees open_begins ts ≡ true
+unfolding same name_kinds names_but
+name_begins ts e = sees-among (names_but (k.Trunc ∷ [])) open_begins ts refl e
 
 constants_begin : (ts : List Token) → sees constants ts ≡ true → sees open_begins ts ≡ true
 unfolding same name_kinds
@@ -136,7 +137,7 @@ one_begins kind ts a e = sees-among (kind ∷ []) open_begins ts a e
 reference_begins : (ts : List Token) (x : Expr) → Spells (SpellsAny grammar) reference ts x → sees open_begins ts ≡ true
 unfolding reference
 reference_begins ts x (inl s) = trunc_begins ts (front_is ts s.1.0 s.1.1 s.1.5.0 (k.Trunc ∷ []) s.1.4 s.1.5.1 s.1.5.2)
-reference_begins ts x (inr s) = name_begins ts (front_is ts s.0 s.1 s.5.0 plain_names s.4 s.5.1 s.5.2)
+reference_begins ts x (inr s) = name_begins ts (front_is ts s.0 s.1 s.5.0 (names_but (k.Trunc ∷ [])) s.4 s.5.1 s.5.2)
 
 closed_is : (ts x y : List Token) (t : Token) → ts ≡ x ++ y → x ≡ t ∷ [] → member (kind_of t) (k.LeftParen ∷ []) ≡ true → (c : Expr) → Spells (SpellsAny grammar) closed y c → Closed ts
 unfolding closed
@@ -199,9 +200,9 @@ module _ (factors terms tail negations conjunctions rest : List Token) where
   factor_first ts x (inr (inr s)) = (primary_first ts x s).0
 
 comparison_unlike : (ts rest : List Token) → Has comparison ts → sees tests (ts ++ rest) ≡ false
-unfolding same name_kinds plain_names begins goes_on hints comparison comparison_tail signed sign test membership null_test pattern range range_end in_list closed_list sum more_terms addend operator term more_factors factor primary reference constant row_column row_image closed name_tail trunc_tail trunc_arguments trunc_end trunc_call divisor inner inner_sum sql_attribute statement_attribute attribute member_tail given arguments list more_items
+unfolding same name_kinds names_but begins goes_on hints comparison comparison_tail signed sign test membership null_test pattern range range_end in_list closed_list sum more_terms addend operator term more_factors factor primary reference constant row_column row_image closed name_tail trunc_tail trunc_arguments trunc_end trunc_call divisor inner inner_sum sql_attribute statement_attribute attribute member_tail given arguments list more_items
 comparison_unlike ts rest h =
-    sees-apart tests (first hints comparison) (ts ++ rest) refl (sees-append (first hints comparison) ts rest (some_by comparison refl refl ts h))
+    sees-apart tests (first hints comparison) (ts ++ rest) refl (sees-append (first hints comparison) ts rest (some_by comparison refl tt refl ts h))
 
 -- behind REVERSE the keyword the test holds
 pub begins_where : (ts : List Token) (x : Expr) → SpellsExpr ts x → (rest : List Token) → begins_bound (ts ++ rest) ≡ true
@@ -224,20 +225,20 @@ ends_there : (kinds : List Kind) (ts : List Token) → among kinds name_ends ≡
 ends_there kinds ts a e holds = not_false ts holds (end_first ts (sees-among kinds name_ends ts a e))
 
 factors_begin : (ts : List Token) → Has more_factors ts → (sees (k.Star ∷ []) ts ≡ true) ⊎ (ts ≡ [])
-unfolding same name_kinds plain_names begins goes_on hints more_factors factor primary reference constant row_column row_image closed name_tail trunc_tail trunc_arguments trunc_end trunc_call divisor inner inner_sum sql_attribute statement_attribute attribute member_tail given arguments list more_items
-factors_begin ts h = elim (begun_by more_factors refl ts h) [ inl seen ↦ inl seen | inr none ↦ inr none.1 ]
+unfolding same name_kinds names_but begins goes_on hints more_factors factor primary reference constant row_column row_image closed name_tail trunc_tail trunc_arguments trunc_end trunc_call divisor inner inner_sum sql_attribute statement_attribute attribute member_tail given arguments list more_items
+factors_begin ts h = elim (begun_by more_factors refl tt ts h) [ inl seen ↦ inl seen | inr none ↦ inr none.1 ]
 
 negations_begin : (ts : List Token) → Has more_negations ts → (sees (k.And ∷ []) ts ≡ true) ⊎ (ts ≡ [])
-unfolding same name_kinds plain_names begins goes_on hints more_negations negated_tree negation comparison comparison_tail signed sign test membership null_test pattern range range_end in_list closed_list sum more_terms addend operator term more_factors factor primary reference constant row_column row_image closed name_tail trunc_tail trunc_arguments trunc_end trunc_call divisor inner inner_sum sql_attribute statement_attribute attribute member_tail given arguments list more_items
-negations_begin ts h = elim (begun_by more_negations refl ts h) [ inl seen ↦ inl seen | inr none ↦ inr none.1 ]
+unfolding same name_kinds names_but begins goes_on hints more_negations negated_tree negation comparison comparison_tail signed sign test membership null_test pattern range range_end in_list closed_list sum more_terms addend operator term more_factors factor primary reference constant row_column row_image closed name_tail trunc_tail trunc_arguments trunc_end trunc_call divisor inner inner_sum sql_attribute statement_attribute attribute member_tail given arguments list more_items
+negations_begin ts h = elim (begun_by more_negations refl tt ts h) [ inl seen ↦ inl seen | inr none ↦ inr none.1 ]
 
 conjunctions_begin : (ts : List Token) → Has more_conjunctions ts → (sees (k.Or ∷ []) ts ≡ true) ⊎ (ts ≡ [])
-unfolding same name_kinds plain_names begins goes_on hints more_conjunctions conjoined_tree conjunction more_negations negated_tree negation comparison comparison_tail signed sign test membership null_test pattern range range_end in_list closed_list sum more_terms addend operator term more_factors factor primary reference constant row_column row_image closed name_tail trunc_tail trunc_arguments trunc_end trunc_call divisor inner inner_sum sql_attribute statement_attribute attribute member_tail given arguments list more_items
-conjunctions_begin ts h = elim (begun_by more_conjunctions refl ts h) [ inl seen ↦ inl seen | inr none ↦ inr none.1 ]
+unfolding same name_kinds names_but begins goes_on hints more_conjunctions conjoined_tree conjunction more_negations negated_tree negation comparison comparison_tail signed sign test membership null_test pattern range range_end in_list closed_list sum more_terms addend operator term more_factors factor primary reference constant row_column row_image closed name_tail trunc_tail trunc_arguments trunc_end trunc_call divisor inner inner_sum sql_attribute statement_attribute attribute member_tail given arguments list more_items
+conjunctions_begin ts h = elim (begun_by more_conjunctions refl tt ts h) [ inl seen ↦ inl seen | inr none ↦ inr none.1 ]
 
 sign_begins : (ts : List Token) (c : Comparison) → Spells (SpellsAny grammar) sign ts c → sees comparison_signs ts ≡ true
 unfolding same sign
-sign_begins ts c s = some_by (led comparison_signs sign) refl refl ts (c, s)
+sign_begins ts c s = some_by (led comparison_signs sign) refl tt refl ts (c, s)
 
 word_among : (kind : Kind) (kinds : List Kind) (ts x y : List Token) (t : Token) → among (kind ∷ []) kinds ≡ true → ts ≡ x ++ y → x ≡ t ∷ [] → member (kind_of t) (kind ∷ []) ≡ true → sees kinds ts ≡ true
 word_among kind kinds ts x y t a e is m = front_is ts x y t kinds e is (member-among (kind_of t) (kind ∷ []) kinds a m)
@@ -429,7 +430,7 @@ module _ (d : Token) (is_range : member (kind_of d) (k.Range ∷ []) ≡ true) w
     unfolding sees
     clash kinds other rest e = not_both (member (kind_of r) (k.Reverse ∷ [])) is_reverse (member-apart (kind_of r) kinds (k.Reverse ∷ []) other e)
 
-    module _ (p : Pieces (r ∷ ts)) where
+    module _ (p : Layers (r ∷ ts)) where
       no_other : (kinds : List Kind) → apart kinds (k.Reverse ∷ []) ≡ true → sees kinds p.front ≡ true → ⊥
       no_other kinds other e =
           clash kinds other (ts ++ d ∷ []) (subst (λ (v : List Token). sees kinds (v ++ d ∷ []) ≡ true) (sym p.all) (joined_sees kinds p.factors p.terms p.tail p.negations p.conjunctions (d ∷ []) p.front e))

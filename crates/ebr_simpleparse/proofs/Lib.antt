@@ -2,7 +2,7 @@ pub mod Absent
 pub mod Reader
 pub mod Closing
 pub mod Balanced
-pub mod Pieces
+pub mod Layers
 pub mod Keyword
 pub mod ReadsType
 pub mod ReadsBound

@@ -5,28 +5,28 @@ use Rattle.ebr_lexer.specs.declared.token.Token.{Token}
 use Rattle.ebr_grammar.specs.declared.kind.Kind.{Kind}
 use Rattle.ebr_grammar.specs.declared.kind.Kind.TheVariants as k
 use Rattle.ebr_grammar.specs.Kinds.{same, kind_of, member, name_kinds}
-use Rattle.ebr_grammar.specs.Forms.{IsReader, sees}
-use Rattle.ebr_grammar.specs.Reading.{first}
-use Rattle.ebr_grammar.specs.Choice.{apart, after}
+use Rattle.ebr_grammar.specs.Forms.{sees}
+use Rattle.ebr_grammar.specs.Choice.{apart}
 use Rattle.ebr_grammar.proofs.Next.{and_true, cases_bool, not_both, member-apart}
+use Rattle.ebr_grammar.proofs.Right.{IsReader, widened}
 use Rattle.ebr_grammar.proofs.Laws.{which, take_first, take_second}
 use Rattle.ebr_exprparse.specs.declared.level.Level.TheVariants.{Whole}
 use Rattle.ebr_ast.specs.declared.expression.Expr.{Expr}
 use Rattle.ebr_exprparse.specs.Expressions.{begins, goes_on, SpellsExpr}
 use Rattle.ebr_exprparse.proofs.Whole.{reads_expressions}
-use Rattle.ebr_simpleparse.specs.Types.{plain_hints, SpelledPlainly, reads_plainly}
+use Rattle.ebr_simpleparse.specs.Types.{SpelledPlainly, reads_plainly}
 use Rattle.ebr_simpleparse.specs.Bounds.{Bound, plain_bound, reversed_bound, SpellsBound}
 use Rattle.ebr_simpleparse.specs.Looking.{closes, signs, tests, has_one_item, name_ends, begins_bound, is_reversed, bound_reader}
 use Rattle.ebr_simpleparse.proofs.Keyword.{begins_where, behind_reverse}
-use Rattle.ebr_simpleparse.proofs.Reader.{reads_plain, widened}
+use Rattle.ebr_simpleparse.proofs.Reader.{reads_plain}
 
 reads_reversed : IsReader (begins Whole) [] (SpelledPlainly reversed_bound) (reads_plainly reversed_bound)
 unfolding same name_kinds begins goes_on reversed_bound
-reads_reversed = widened (first plain_hints reversed_bound) (begins Whole) (after plain_hints reversed_bound) [] (SpelledPlainly reversed_bound) (reads_plainly reversed_bound) (reads_plain reversed_bound refl refl) refl refl
+reads_reversed = widened (reads_plain reversed_bound (record { clear = refl; full = refl; right = (reads_expressions, tt) })) refl refl
 
 reads_unreversed : IsReader (begins Whole) [] (SpelledPlainly plain_bound) (reads_plainly plain_bound)
 unfolding same name_kinds begins goes_on plain_bound
-reads_unreversed = widened (first plain_hints plain_bound) (begins Whole) (after plain_hints plain_bound) [] (SpelledPlainly plain_bound) (reads_plainly plain_bound) (reads_plain plain_bound refl refl) refl refl
+reads_unreversed = widened (reads_plain plain_bound (record { clear = refl; full = refl; right = (reads_expressions, tt) })) refl refl
 
 -- ---- the test looks at nothing behind `..`
 

@@ -4,35 +4,36 @@ use Rattle.std.specs.Prelude.{◌&&◌, ◌||◌}
 use Rattle.ebr_lexer.specs.declared.token.Token.{Token}
 use Rattle.ebr_grammar.specs.declared.kind.Kind.TheVariants as k
 use Rattle.ebr_grammar.specs.Kinds.{same, kind_of, member, name_kinds}
-use Rattle.ebr_grammar.specs.Forms.{IsReader, sees}
-use Rattle.ebr_grammar.specs.Reading.{first}
-use Rattle.ebr_grammar.specs.Choice.{after}
+use Rattle.ebr_grammar.specs.Forms.{sees}
 use Rattle.ebr_grammar.proofs.Next.{or_false, or_right, sees-append}
+use Rattle.ebr_grammar.proofs.Right.{IsReader, IsRight, widened}
+use Rattle.ebr_grammar.proofs.Absent.{stands, absent_token, joined}
 use Rattle.ebr_grammar.proofs.Outside.{either_reader}
 use Rattle.ebr_exprparse.specs.declared.level.Level.TheVariants.{Whole}
 use Rattle.ebr_exprparse.specs.Expressions.{begins}
 use Rattle.ebr_ast.specs.declared.query.Query.{Query}
 use Rattle.ebr_ast.specs.declared.statement.RowsFrom.{RowsFrom}
 use Rattle.ebr_sqlparse.specs.Statements as sql
-use Rattle.ebr_sqlparse.proofs.Parts.{query_part}
+use Rattle.ebr_sqlparse.specs.Parts.{query_part}
+use Rattle.ebr_sqlparse.proofs.Parts.{reads_queries}
 use Rattle.ebr_simpleparse.specs.declared.headings.Heading.{Heading}
 use Rattle.ebr_simpleparse.specs.Types.{SpelledPlainly}
 use Rattle.ebr_simpleparse.specs.Bounds.{Bound, plain_bound, reversed_bound, SpellsBound}
 use Rattle.ebr_simpleparse.specs.Productions.{part_begins, part_goes_on, hints, SpelledBy, reads_by}
-use Rattle.ebr_simpleparse.specs.Headings.{rows_from, rows, high_bound, range, begins_query, begins_cursor, is_rows, SpellsHeading, heading_reader}
-use Rattle.ebr_simpleparse.proofs.Absent.{stands, absent_token, joined, loop_is_absent, select_is_absent}
-use Rattle.ebr_simpleparse.proofs.Reader.{widened}
+use Rattle.ebr_simpleparse.specs.Headings.{rows_from, rows, high_bound, range, begins_query, begins_cursor, is_rows, heading_reader}
+use Rattle.ebr_simpleparse.specs.Parts.{heading_part}
+use Rattle.ebr_simpleparse.proofs.Absent.{loop_is_absent, select_is_absent}
 use Rattle.ebr_simpleparse.proofs.ReadsBound.{Ends, reversed_ends, plain_ends}
 use Rattle.ebr_simpleparse.proofs.ReadsParts.{reader}
-use Rattle.ebr_simpleparse.proofs.Clear.{rows_are_clear, range_is_clear}
+use Rattle.ebr_simpleparse.proofs.Clear.{rows_is, range_is}
 
 reads_rows : IsReader (begins Whole) [] (SpelledBy rows) (reads_by rows)
 unfolding same name_kinds begins hints rows_from rows
-reads_rows = widened (first hints rows) (begins Whole) (after hints rows) [] (SpelledBy rows) (reads_by rows) (reader rows rows_are_clear refl) refl refl
+reads_rows = widened (reader rows rows_is) refl refl
 
 reads_ranges : IsReader (begins Whole) [] (SpelledBy range) (reads_by range)
 unfolding same name_kinds begins part_begins part_goes_on hints high_bound range
-reads_ranges = widened (first hints range) (begins Whole) (after hints range) [] (SpelledBy range) (reads_by range) (reader range range_is_clear refl) refl refl
+reads_ranges = widened (reader range range_is) refl refl
 
 -- ---- where rows stand, the test holds
 
@@ -52,7 +53,7 @@ name_is_seen t u ts p q = right_is (member (kind_of t) (k.LeftParen ∷ []) && m
 
 query_begins : (ts : List Token) (q : Query) → query_part.form ts q → sees (k.Select ∷ []) ts ≡ true
 unfolding sql.query
-query_begins ts q s = query_part.law.begun ts q s
+query_begins ts q s = reads_queries.begun ts q s
 
 seen_from : (x y rest : List Token) (l : Token) (from : RowsFrom) → SpelledBy rows_from x from → y ≡ l ∷ [] → member (kind_of l) (k.Loop ∷ []) ≡ true → is_rows ((x ++ y) ++ rest) ≡ true
 unfolding rows_from
@@ -120,9 +121,9 @@ unfolding range
 range_is_unseen front rest h s stop =
     subst (λ (z : List Token). is_rows (z ++ rest) ≡ false) (sym s.4) (ap is_rows (append_assoc s.0 s.1 rest) ∙ bound_is_unseen s.0 (s.1 ++ rest) s.5.0 s.5.1)
 
-pub reads_headings : IsReader (begins Whole) [] SpellsHeading heading_reader
+pub reads_headings : IsRight heading_part
 unfolding same name_kinds begins heading_reader
 reads_headings =
-    widened (begins Whole ++ begins Whole) (begins Whole) ([] ++ []) [] SpellsHeading heading_reader
+    widened
     (either_reader (begins Whole) [] (begins Whole) [] (SpelledBy rows) (SpelledBy range) (reads_by rows) (reads_by range) reads_rows reads_ranges is_rows rows_are_seen range_is_unseen)
     refl refl

@@ -5,28 +5,28 @@ use Rattle.ebr_lexer.specs.declared.token.Token.{Token}
 use Rattle.ebr_grammar.specs.declared.kind.Kind.{Kind}
 use Rattle.ebr_grammar.specs.declared.kind.Kind.TheVariants as k
 use Rattle.ebr_grammar.specs.Kinds.{same, kind_of, member, name_kinds}
-use Rattle.ebr_grammar.specs.Forms.{IsReader, sees}
+use Rattle.ebr_grammar.specs.Forms.{sees}
 use Rattle.ebr_grammar.specs.Grammar.{token, both}
-use Rattle.ebr_grammar.specs.Reading.{first}
-use Rattle.ebr_grammar.specs.Choice.{apart, after}
+use Rattle.ebr_grammar.specs.Choice.{apart}
 use Rattle.ebr_grammar.specs.Outcome.{named_by}
 use Rattle.ebr_grammar.proofs.Next.{not_both, member-apart, sees-append, sees-apart}
+use Rattle.ebr_grammar.proofs.Right.{IsReader, widened}
 use Rattle.ebr_grammar.proofs.Laws.{begun, begun_first}
 use Rattle.ebr_grammar.proofs.Outside.{either_reader}
 use Rattle.ebr_ast.specs.declared.statement.DeclaredType.{DeclaredType}
 use Rattle.ebr_ddlparse.specs.Base as base
 use Rattle.ebr_ddlparse.specs.Types.{table_names, column_of, number_type, integer_type, varchar2_type, boolean_type, of_column, declared_type, SpellsType, type_goes_on}
 use Rattle.ebr_ddlparse.proofs.Parts.{reads_types}
-use Rattle.ebr_simpleparse.specs.Types.{Typed, plain_hints, constant, variable, is_constant, SpelledPlainly, reads_plainly, SpellsTyped, typed_reader}
-use Rattle.ebr_simpleparse.proofs.Reader.{reads_plain, widened}
+use Rattle.ebr_simpleparse.specs.Types.{Typed, constant, variable, is_constant, SpelledPlainly, reads_plainly, SpellsTyped, typed_reader}
+use Rattle.ebr_simpleparse.proofs.Reader.{reads_plain}
 
 reads_constant : IsReader (k.Constant ∷ []) type_goes_on (SpelledPlainly constant) (reads_plainly constant)
 unfolding same name_kinds type_goes_on constant
-reads_constant = widened (first plain_hints constant) (k.Constant ∷ []) (after plain_hints constant) type_goes_on (SpelledPlainly constant) (reads_plainly constant) (reads_plain constant refl refl) refl refl
+reads_constant = widened (reads_plain constant (record { clear = refl; full = refl; right = (reads_types, tt) })) refl refl
 
 reads_variable : IsReader name_kinds type_goes_on (SpelledPlainly variable) (reads_plainly variable)
 unfolding same name_kinds type_goes_on variable
-reads_variable = widened (first plain_hints variable) name_kinds (after plain_hints variable) type_goes_on (SpelledPlainly variable) (reads_plainly variable) (reads_plain variable refl refl) refl refl
+reads_variable = widened (reads_plain variable (record { clear = refl; full = refl; right = (reads_types, tt) })) refl refl
 
 -- ---- where CONSTANT is the keyword, the test holds
 
@@ -58,7 +58,7 @@ keyword kinds g other ts ty s =
 tabled : (ts : List Token) (ty : DeclaredType) → base.SpellsBy (both (λ table f. f table) (token table_names named_by) of_column) ts ty → Parts ts
 unfolding same name_kinds base.hints of_column column_of
 tabled ts ty s =
-    let dot : sees (k.Dot ∷ []) s.1 ≡ true = begun_first (k.Dot ∷ []) false s.1 refl (begun base.hints (λ _ ts a. ⊥) (λ part ts a s. absurd s) of_column refl s.1 s.3 s.6) in
+    let dot : sees (k.Dot ∷ []) s.1 ≡ true = begun_first (k.Dot ∷ []) false s.1 refl (begun base.hints (λ _ ts a. ⊥) (λ part ts a s. absurd s) of_column refl tt s.1 s.3 s.6) in
     (s.5.0, s.1, s.4 ∙ ap (λ (z : List Token). z ++ s.1) s.5.1, λ is. dot)
 
 type_parts : (ts : List Token) (ty : DeclaredType) → SpellsType ts ty → Parts ts
@@ -86,6 +86,6 @@ variable_is_unseen front rest a s stop =
 pub reads_typed : IsReader name_kinds type_goes_on SpellsTyped typed_reader
 unfolding same name_kinds type_goes_on typed_reader
 reads_typed =
-    widened ((k.Constant ∷ []) ++ name_kinds) name_kinds (type_goes_on ++ type_goes_on) type_goes_on SpellsTyped typed_reader
+    widened
     (either_reader (k.Constant ∷ []) type_goes_on name_kinds type_goes_on (SpelledPlainly constant) (SpelledPlainly variable) (reads_plainly constant) (reads_plainly variable) reads_constant reads_variable is_constant constant_is_seen variable_is_unseen)
     refl refl

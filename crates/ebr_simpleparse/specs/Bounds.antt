@@ -6,7 +6,7 @@ use Rattle.ebr_grammar.specs.Forms.{Form}
 use Rattle.ebr_grammar.specs.Grammar.{outer}
 use Rattle.ebr_grammar.specs.Words.{◌▸◌, ◌◂◌}
 use Rattle.ebr_ast.specs.declared.expression.Expr.{Expr}
-use Rattle.ebr_sqlparse.specs.Productions.{expression}
+use Rattle.ebr_exprparse.specs.Parts.{expression}
 use Rattle.ebr_simpleparse.specs.Types.{Plain, SpelledPlainly}
 
 -- whether the loop runs downwards, and the bound

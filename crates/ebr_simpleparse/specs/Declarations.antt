@@ -9,14 +9,14 @@ use Rattle.ebr_grammar.specs.declared.kind.Kind.TheVariants as k
 use Rattle.ebr_grammar.specs.Kinds.{name_kinds}
 use Rattle.ebr_grammar.specs.Grammar.{token, word, nothing, both, made, named, outer}
 use Rattle.ebr_grammar.specs.Outcome.{number_of}
-use Rattle.ebr_grammar.specs.Words.{◌▸◌, ◌◂◌, ◌∣◌}
+use Rattle.ebr_grammar.specs.Words.{◌▸◌, ◌◂◌, ◌∣◌, name}
 use Rattle.ebr_ast.specs.declared.expression.Expr.{Expr}
 use Rattle.ebr_ast.specs.declared.query.Query.{Query}
 use Rattle.ebr_ast.specs.declared.statement.Decl.{Decl}
 use Rattle.ebr_ast.specs.declared.statement.Decl.TheVariants as decl
-use Rattle.ebr_sqlparse.proofs.Parts.{query_part}
+use Rattle.ebr_sqlparse.specs.Parts.{query_part}
 use Rattle.ebr_simpleparse.specs.Types.{Typed}
-use Rattle.ebr_simpleparse.specs.Productions.{P, a_type, expr, name}
+use Rattle.ebr_simpleparse.specs.Productions.{P, a_type, expr}
 
 -- - k ) ;
 unfoldable pub exception_code : P ℕ

@@ -7,14 +7,14 @@ use Rattle.ebr_grammar.specs.declared.kind.Kind.TheVariants as k
 use Rattle.ebr_grammar.specs.Kinds.{name_kinds}
 use Rattle.ebr_grammar.specs.Forms.{Form, Reader, sees, either, by_test}
 use Rattle.ebr_grammar.specs.Grammar.{both, made, named, outer}
-use Rattle.ebr_grammar.specs.Words.{◌▸◌, ◌◂◌, ◌∣◌}
+use Rattle.ebr_grammar.specs.Words.{◌▸◌, ◌◂◌, ◌∣◌, name}
 use Rattle.ebr_ast.specs.declared.expression.Expr.{Expr}
 use Rattle.ebr_ast.specs.declared.statement.RowsFrom.{RowsFrom}
 use Rattle.ebr_ast.specs.declared.statement.RowsFrom.TheVariants as rows_of
-use Rattle.ebr_sqlparse.proofs.Parts.{query_part}
+use Rattle.ebr_sqlparse.specs.Parts.{query_part}
 use Rattle.ebr_simpleparse.specs.declared.headings.Heading.{Heading}
 use Rattle.ebr_simpleparse.specs.declared.headings.Heading.TheVariants as heading
-use Rattle.ebr_simpleparse.specs.Productions.{P, a_bound, SpelledBy, reads_by, expr, name}
+use Rattle.ebr_simpleparse.specs.Productions.{P, a_bound, SpelledBy, reads_by, expr}
 
 -- ( query ) | n
 unfoldable pub rows_from : P RowsFrom

@@ -6,3 +6,4 @@ pub mod Paths
 pub mod Simple
 pub mod Declarations
 pub mod Headings
+pub mod Parts

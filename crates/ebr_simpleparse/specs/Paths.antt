@@ -5,7 +5,7 @@ use Rattle.std.specs.Prelude.{ℕ, Bool, true, false, ◌&&◌, List, [], ◌∷
 use Rattle.std.specs.Str.{bytes_eq}
 use Rattle.ebr_grammar.specs.declared.kind.Kind.TheVariants as k
 use Rattle.ebr_grammar.specs.Grammar.{word, both, many, made}
-use Rattle.ebr_grammar.specs.Words.{◌▸◌, ◌◂◌, ◌∣◌, maybe}
+use Rattle.ebr_grammar.specs.Words.{◌▸◌, ◌◂◌, ◌∣◌, maybe, name}
 use Rattle.ebr_ast.specs.declared.expression.Expr.{Expr}
 use Rattle.ebr_ast.specs.declared.expression.Path.{Path}
 use Rattle.ebr_ast.specs.declared.statement.Caught.{Caught}
@@ -13,7 +13,7 @@ use Rattle.ebr_ast.specs.declared.statement.Caught.TheVariants as caught_of
 use Rattle.ebr_ast.specs.declared.statement.Target.{Target}
 use Rattle.ebr_ast.specs.declared.statement.Target.TheVariants as target_of
 use Rattle.ebr_simpleparse.specs.declared.paths.TheConstants.{OTHERS}
-use Rattle.ebr_simpleparse.specs.Productions.{P, expr, name}
+use Rattle.ebr_simpleparse.specs.Productions.{P, expr}
 
 abbrev pub path_of : List ℕ → Option (List ℕ) → Path
 path_of name member = record { name = name; member = member }

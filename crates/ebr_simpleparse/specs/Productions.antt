@@ -1,17 +1,16 @@
 -- Productions of declarations and of statements that hold no others, and what reading by them gives. Two forms stand in them
 -- by name, since they are told by more than one token: a type before which CONSTANT may stand, and the low bound of a range.
-use Rattle.std.specs.Prelude.{ℕ, List, [], Some}
+use Rattle.std.specs.Prelude.{List, []}
 use Rattle.ebr_grammar.specs.declared.kind.Kind.{Kind}
 use Rattle.ebr_grammar.specs.Kinds.{name_kinds}
-use Rattle.ebr_grammar.specs.Forms.{Form, Found, Reader}
-use Rattle.ebr_grammar.specs.Grammar.{Production, token, outer, Spells}
-use Rattle.ebr_grammar.specs.Reading.{and_then, Hints, reads}
-use Rattle.ebr_grammar.specs.Outcome.{named_by}
+use Rattle.ebr_grammar.specs.Forms.{Form, Reader}
+use Rattle.ebr_grammar.specs.Grammar.{Production, Spells}
+use Rattle.ebr_grammar.specs.Reading.{Hints, reads}
 use Rattle.ebr_ast.specs.declared.expression.Expr.{Expr}
 use Rattle.ebr_exprparse.specs.declared.level.Level.TheVariants.{Whole}
 use Rattle.ebr_exprparse.specs.Expressions as expressions
+use Rattle.ebr_exprparse.specs.Parts as parts
 use Rattle.ebr_ddlparse.specs.Types.{type_goes_on}
-use Rattle.ebr_sqlparse.specs.Productions.{expression}
 use Rattle.ebr_simpleparse.specs.Types.{Typed, SpellsTyped, typed_reader}
 use Rattle.ebr_simpleparse.specs.Bounds.{Bound, SpellsBound}
 use Rattle.ebr_simpleparse.specs.Looking.{bound_reader}
@@ -55,14 +54,6 @@ SpelledBy g = Spells SpellsPart g
 abbrev pub reads_by : {C : Type 0} → P C → Reader C
 reads_by g = reads hints part_reader g
 
--- what was found, behind what stood before it
-abbrev pub with_first : {A B : Type 0} → A → Found (A → B) → Found B
-with_first a found = and_then found (λ f end. Some (f a, end))
-
 -- e
 abbrev pub expr : P Expr
-expr = outer expression (λ x. x)
-
--- n
-abbrev pub name : P (List ℕ)
-name = token name_kinds named_by
+expr = parts.expr

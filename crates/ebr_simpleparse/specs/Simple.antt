@@ -11,7 +11,7 @@ use Rattle.ebr_grammar.specs.declared.kind.Kind.TheVariants as k
 use Rattle.ebr_grammar.specs.Kinds.{name_kinds}
 use Rattle.ebr_grammar.specs.Grammar.{token, word, both, made, led, outer}
 use Rattle.ebr_grammar.specs.Outcome.{number_of}
-use Rattle.ebr_grammar.specs.Words.{◌▸◌, ◌◂◌, ◌∣◌, maybe}
+use Rattle.ebr_grammar.specs.Words.{◌▸◌, ◌◂◌, ◌∣◌, maybe, name}
 use Rattle.ebr_ast.specs.declared.expression.Expr.{Expr}
 use Rattle.ebr_ast.specs.declared.expression.Path.{Path}
 use Rattle.ebr_ast.specs.declared.query.Query.{Query}
@@ -23,9 +23,9 @@ use Rattle.ebr_ast.specs.declared.statement.SqlStmt.TheVariants as sql_of
 use Rattle.ebr_ast.specs.declared.statement.CursorStmt.{CursorStmt}
 use Rattle.ebr_ast.specs.declared.statement.CursorStmt.TheVariants as cursor_of
 use Rattle.ebr_ast.specs.declared.statement.Target.TheVariants as target_of
-use Rattle.ebr_sqlparse.proofs.Parts.{select_list_part, query_rest_part, insert_part, update_part, delete_part, transaction_part}
+use Rattle.ebr_sqlparse.specs.Parts.{select_list_part, query_rest_part, insert_part, update_part, delete_part, transaction_part}
 use Rattle.ebr_simpleparse.specs.declared.simple.TheConstants.{SIMPLE_WORDS}
-use Rattle.ebr_simpleparse.specs.Productions.{P, expr, name}
+use Rattle.ebr_simpleparse.specs.Productions.{P, expr}
 use Rattle.ebr_simpleparse.specs.Paths.{path, given, new_column, targets}
 
 -- ---- SQL

@@ -3,14 +3,12 @@
 use Rattle.std.specs.Prelude.{Bool, true, false, not, ◌&&◌, List, [], ◌∷◌, drop, None}
 use Rattle.ebr_lexer.specs.declared.token.Token.{Token}
 use Rattle.ebr_grammar.specs.declared.kind.Kind.TheVariants as k
-use Rattle.ebr_grammar.specs.Kinds.{name_kinds}
-use Rattle.ebr_grammar.specs.Forms.{Form, Reader, Outer, sees, either, by_test}
+use Rattle.ebr_grammar.specs.Forms.{Form, Reader, sees, either, by_test}
 use Rattle.ebr_grammar.specs.Grammar.{Production, outer, Spells}
 use Rattle.ebr_grammar.specs.Reading.{Hints, reads}
 use Rattle.ebr_grammar.specs.Words.{◌▸◌}
 use Rattle.ebr_ast.specs.declared.statement.DeclaredType.{DeclaredType}
-use Rattle.ebr_ddlparse.specs.Types.{SpellsType, type_reader, type_goes_on}
-use Rattle.ebr_ddlparse.proofs.Parts.{reads_types}
+use Rattle.ebr_ddlparse.specs.Parts.{type_part}
 
 -- productions that hold none by its name
 abbrev pub Plain : Type 0 → Type 1
@@ -27,21 +25,17 @@ SpelledPlainly g = Spells (λ _ ts a. ⊥) g
 abbrev pub reads_plainly : {C : Type 0} → Plain C → Reader C
 reads_plainly g = reads plain_hints (λ _ ts. None) g
 
--- Types, as a form of another grammar.
-abbrev pub declared_type : Outer DeclaredType
-declared_type = record { begins = name_kinds; goes_on = type_goes_on; form = SpellsType; reader = type_reader; law = reads_types }
-
 -- whether it is a constant, and its type
 abbrev pub Typed : Type 0
 Typed = Bool × DeclaredType
 
 -- CONSTANT type
 unfoldable pub constant : Plain Typed
-constant = k.Constant ▸ outer declared_type (λ ty. (true, ty))
+constant = k.Constant ▸ outer type_part (λ ty. (true, ty))
 
 -- type
 unfoldable pub variable : Plain Typed
-variable = outer declared_type (λ ty. (false, ty))
+variable = outer type_part (λ ty. (false, ty))
 
 -- CONSTANT stands in front, and no dot behind it
 unfoldable pub is_constant : List Token → Bool

@@ -2,6 +2,7 @@
 
 ghost use Rattle.std.specs.Prelude.{◌≡◌};
 ghost use Rattle.ebr_grammar.specs.Outcome.{Reads};
+ghost use Rattle.ebr_grammar.specs.Reading.{with_first};
 ghost use Rattle.ebr_simpleparse.specs.Productions as productions;
 ghost use Rattle.ebr_simpleparse.specs.Declarations as grammar;
 
@@ -10,7 +11,7 @@ use ebr_ast::{Decl, Expr, Query};
 use ebr_base::{Name, Shared};
 use ebr_exprparse::read_expression;
 use ebr_grammar::{Kind, ReadStop, Tokens, ended};
-use ebr_sqlparse::query;
+use ebr_sqlparse::read_query;
 use std::alloc::Global;
 
 /// `- k ) ;`, of which it gives k.
@@ -50,7 +51,7 @@ fn pragma(alloc: Global, tokens: &mut Tokens<'_>) -> Result<Decl, ReadStop>
 fn closed_query(alloc: Global, tokens: &mut Tokens<'_>) -> Result<Shared<Query>, ReadStop>
     ensures { Reads (productions.reads_by grammar.closed_query tokens.old) result tokens.new }
 {
-    let found = query(alloc, tokens)?;
+    let found = read_query(alloc, tokens)?;
     ended(tokens, Kind::Semicolon, found)
 }
 
@@ -86,7 +87,7 @@ fn closed_value(alloc: Global, tokens: &mut Tokens<'_>) -> Result<Option<Shared<
 
 /// What stands behind the name of a variable or constant.
 fn variable(alloc: Global, tokens: &mut Tokens<'_>, name: Name) -> Result<Decl, ReadStop>
-    ensures { Reads (productions.with_first name (productions.reads_by grammar.variable tokens.old)) result tokens.new }
+    ensures { Reads (with_first name (productions.reads_by grammar.variable tokens.old)) result tokens.new }
 {
     let found = typed(alloc, tokens)?;
     let (constant, ty) = found;
@@ -101,7 +102,7 @@ fn variable(alloc: Global, tokens: &mut Tokens<'_>, name: Name) -> Result<Decl, 
 
 /// What stands behind a name.
 fn declared(alloc: Global, tokens: &mut Tokens<'_>, name: Name) -> Result<Decl, ReadStop>
-    ensures { Reads (productions.with_first name (productions.reads_by grammar.declared tokens.old)) result tokens.new }
+    ensures { Reads (with_first name (productions.reads_by grammar.declared tokens.old)) result tokens.new }
 {
     if tokens.eat(Kind::Exception) {
         tokens.expect(Kind::Semicolon)?;

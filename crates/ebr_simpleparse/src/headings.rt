@@ -1,8 +1,6 @@
 //! Headings of FOR loops.
 
 ghost use Rattle.std.specs.Prelude.{◌≡◌};
-ghost use Rattle.ebr_grammar.specs.Forms.{sees};
-ghost use Rattle.ebr_grammar.specs.Kinds.{name_kinds};
 ghost use Rattle.ebr_grammar.specs.Outcome.{Reads};
 ghost use Rattle.ebr_simpleparse.specs.Productions as productions;
 ghost use Rattle.ebr_simpleparse.specs.Headings as grammar;
@@ -11,8 +9,8 @@ use crate::bounds::bound;
 use ebr_ast::{Expr, RowsFrom};
 use ebr_base::Shared;
 use ebr_exprparse::read_expression;
-use ebr_grammar::{Kind, NAME_KINDS, ReadStop, Tokens, ended};
-use ebr_sqlparse::query;
+use ebr_grammar::{Kind, ReadStop, Tokens, ended};
+use ebr_sqlparse::read_query;
 use std::alloc::Global;
 
 /// What a FOR loop goes over.
@@ -22,13 +20,6 @@ pub enum Heading {
     Range(bool, Shared<Expr>, Shared<Expr>),
     /// The rows of a cursor or a query.
     Rows(RowsFrom),
-}
-
-/// Whether the next token may be a name.
-fn sees_name(tokens: &Tokens<'_>) -> bool
-    ensures { result ≡ sees name_kinds tokens.now }
-{
-    tokens.sees_any(&NAME_KINDS)
 }
 
 /// Whether a query in parentheses stands here.
@@ -44,7 +35,7 @@ fn begins_query(tokens: &Tokens<'_>) -> bool
 fn begins_cursor(tokens: &Tokens<'_>) -> bool
     ensures { result ≡ grammar.begins_cursor tokens.now }
 {
-    sees_name(tokens) && tokens.sees_later(1, &[Kind::Loop])
+    tokens.sees_name() && tokens.sees_later(1, &[Kind::Loop])
 }
 
 /// Whether rows are gone over.
@@ -60,7 +51,7 @@ fn rows_from(alloc: Global, tokens: &mut Tokens<'_>) -> Result<RowsFrom, ReadSto
     ensures { Reads (productions.reads_by grammar.rows_from tokens.old) result tokens.new }
 {
     if tokens.eat(Kind::LeftParen) {
-        let query = query(alloc, tokens)?;
+        let query = read_query(alloc, tokens)?;
         tokens.expect(Kind::RightParen)?;
         Ok(RowsFrom::Query(query))
     } else {

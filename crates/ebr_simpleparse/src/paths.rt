@@ -2,6 +2,7 @@
 
 ghost use Rattle.std.specs.Prelude.{◌≡◌};
 ghost use Rattle.ebr_grammar.specs.Outcome.{Reads};
+ghost use Rattle.ebr_grammar.specs.Reading.{with_first};
 ghost use Rattle.ebr_simpleparse.specs.Productions as productions;
 ghost use Rattle.ebr_simpleparse.specs.Paths as grammar;
 
@@ -40,7 +41,7 @@ fn more_expressions(
     tokens: &mut Tokens<'_>,
     first: Shared<Expr>,
 ) -> Result<List<Shared<Expr>>, ReadStop>
-    ensures { Reads (productions.with_first first (productions.reads_by grammar.more_expressions tokens.old)) result tokens.new }
+    ensures { Reads (with_first first (productions.reads_by grammar.more_expressions tokens.old)) result tokens.new }
 {
     let mut found = List::new(alloc);
     found.push(first)?;
@@ -124,7 +125,7 @@ fn more_targets(
     tokens: &mut Tokens<'_>,
     first: Target,
 ) -> Result<List<Target>, ReadStop>
-    ensures { Reads (productions.with_first first (productions.reads_by grammar.more_targets tokens.old)) result tokens.new }
+    ensures { Reads (with_first first (productions.reads_by grammar.more_targets tokens.old)) result tokens.new }
 {
     let mut found = List::new(alloc);
     found.push(first)?;
@@ -152,7 +153,7 @@ fn more_exceptions(
     tokens: &mut Tokens<'_>,
     first: Path,
 ) -> Result<List<Path>, ReadStop>
-    ensures { Reads (productions.with_first first (productions.reads_by grammar.more_exceptions tokens.old)) result tokens.new }
+    ensures { Reads (with_first first (productions.reads_by grammar.more_exceptions tokens.old)) result tokens.new }
 {
     let mut found = List::new(alloc);
     found.push(first)?;

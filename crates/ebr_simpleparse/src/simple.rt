@@ -2,6 +2,7 @@
 
 ghost use Rattle.std.specs.Prelude.{◌≡◌};
 ghost use Rattle.ebr_grammar.specs.Outcome.{Reads};
+ghost use Rattle.ebr_grammar.specs.Reading.{with_first};
 ghost use Rattle.ebr_simpleparse.specs.Productions as productions;
 ghost use Rattle.ebr_simpleparse.specs.Simple as grammar;
 
@@ -10,7 +11,9 @@ use ebr_ast::{CursorStmt, Expr, Path, Query, SelectList, SqlStmt, Stmt, Target};
 use ebr_base::Shared;
 use ebr_exprparse::read_expression;
 use ebr_grammar::{Kind, ReadStop, Tokens, ended};
-use ebr_sqlparse::{delete, insert, query_rest, select_list, transaction_statement, update};
+use ebr_sqlparse::{
+    read_delete, read_insert, read_query_rest, read_select_list, read_transaction, read_update,
+};
 use std::alloc::Global;
 
 /// With what such a statement begins that is no name.
@@ -41,10 +44,10 @@ fn from_sources(
     tokens: &mut Tokens<'_>,
     list: SelectList,
 ) -> Result<Shared<Query>, ReadStop>
-    ensures { Reads (productions.with_first list (productions.reads_by grammar.from_sources tokens.old)) result tokens.new }
+    ensures { Reads (with_first list (productions.reads_by grammar.from_sources tokens.old)) result tokens.new }
 {
     tokens.expect(Kind::From)?;
-    query_rest(alloc, tokens, list)
+    read_query_rest(alloc, tokens, list)
 }
 
 /// What stands behind INTO.
@@ -53,7 +56,7 @@ fn into_targets(
     tokens: &mut Tokens<'_>,
     list: SelectList,
 ) -> Result<SqlStmt, ReadStop>
-    ensures { Reads (productions.with_first list (productions.reads_by grammar.into_targets tokens.old)) result tokens.new }
+    ensures { Reads (with_first list (productions.reads_by grammar.into_targets tokens.old)) result tokens.new }
 {
     let targets = targets(alloc, tokens)?;
     let query = from_sources(alloc, tokens, list)?;
@@ -64,7 +67,7 @@ fn into_targets(
 fn select_into(alloc: Global, tokens: &mut Tokens<'_>) -> Result<SqlStmt, ReadStop>
     ensures { Reads (productions.reads_by grammar.select_into tokens.old) result tokens.new }
 {
-    let list = select_list(alloc, tokens)?;
+    let list = read_select_list(alloc, tokens)?;
     tokens.expect(Kind::Into)?;
     into_targets(alloc, tokens, list)
 }
@@ -75,13 +78,13 @@ fn sql(alloc: Global, tokens: &mut Tokens<'_>) -> Result<SqlStmt, ReadStop>
     if tokens.eat(Kind::Select) {
         select_into(alloc, tokens)
     } else if tokens.sees(Kind::Insert) {
-        Ok(SqlStmt::Insert(insert(alloc, tokens)?))
+        Ok(SqlStmt::Insert(read_insert(alloc, tokens)?))
     } else if tokens.sees(Kind::Update) {
-        Ok(SqlStmt::Update(update(alloc, tokens)?))
+        Ok(SqlStmt::Update(read_update(alloc, tokens)?))
     } else if tokens.sees(Kind::Delete) {
-        Ok(SqlStmt::Delete(delete(alloc, tokens)?))
+        Ok(SqlStmt::Delete(read_delete(alloc, tokens)?))
     } else {
-        Ok(SqlStmt::Transaction(transaction_statement(alloc, tokens)?))
+        Ok(SqlStmt::Transaction(read_transaction(alloc, tokens)?))
     }
 }
 
@@ -244,7 +247,7 @@ fn new_assignment(alloc: Global, tokens: &mut Tokens<'_>) -> Result<Stmt, ReadSt
 
 /// What stands behind a name with its member.
 fn assignment_or_call(alloc: Global, tokens: &mut Tokens<'_>, path: Path) -> Result<Stmt, ReadStop>
-    ensures { Reads (productions.with_first path (productions.reads_by grammar.assignment_or_call tokens.old)) result tokens.new }
+    ensures { Reads (with_first path (productions.reads_by grammar.assignment_or_call tokens.old)) result tokens.new }
 {
     if tokens.sees(Kind::Assign) {
         let value = assigned(alloc, tokens)?;

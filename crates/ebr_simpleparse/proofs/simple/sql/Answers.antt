@@ -7,34 +7,34 @@ pub returns-then-eat : goal.returns-then-eat
 unfolding sql
 returns-then-eat c = simp steps (search rules)
 
-pub returns-in_err-insert : goal.returns-in_err-insert
+pub returns-in_err-read_insert : goal.returns-in_err-read_insert
 unfolding sql
-returns-in_err-insert c = simp steps (search rules)
+returns-in_err-read_insert c = simp steps (search rules)
 
-pub returns-in_ok-insert : goal.returns-in_ok-insert
+pub returns-in_ok-read_insert : goal.returns-in_ok-read_insert
 unfolding sql
-returns-in_ok-insert c = simp steps (search rules)
+returns-in_ok-read_insert c = simp steps (search rules)
 
-pub returns-in_err-update : goal.returns-in_err-update
+pub returns-in_err-read_update : goal.returns-in_err-read_update
 unfolding sql
-returns-in_err-update c = simp steps (search rules)
+returns-in_err-read_update c = simp steps (search rules)
 
-pub returns-in_ok-update : goal.returns-in_ok-update
+pub returns-in_ok-read_update : goal.returns-in_ok-read_update
 unfolding sql
-returns-in_ok-update c = simp steps (search rules)
+returns-in_ok-read_update c = simp steps (search rules)
 
-pub returns-in_err-delete : goal.returns-in_err-delete
+pub returns-in_err-read_delete : goal.returns-in_err-read_delete
 unfolding sql
-returns-in_err-delete c = simp steps (search rules)
+returns-in_err-read_delete c = simp steps (search rules)
 
-pub returns-in_ok-delete : goal.returns-in_ok-delete
+pub returns-in_ok-read_delete : goal.returns-in_ok-read_delete
 unfolding sql
-returns-in_ok-delete c = simp steps (search rules)
+returns-in_ok-read_delete c = simp steps (search rules)
 
-pub returns-in_err-transaction_statement : goal.returns-in_err-transaction_statement
+pub returns-in_err-read_transaction : goal.returns-in_err-read_transaction
 unfolding sql
-returns-in_err-transaction_statement c = simp steps (search rules)
+returns-in_err-read_transaction c = simp steps (search rules)
 
-pub returns-in_ok-transaction_statement : goal.returns-in_ok-transaction_statement
+pub returns-in_ok-read_transaction : goal.returns-in_ok-read_transaction
 unfolding sql
-returns-in_ok-transaction_statement c = simp steps (search rules)
+returns-in_ok-read_transaction c = simp steps (search rules)

@@ -1,12 +1,12 @@
 -- An expression that doesn't begin with NOT is a factor, and what stands behind it on each level.
-use Rattle.std.proofs.Common.{◌≡◌, ℕ, zero, suc, true, List, [], ◌∷◌, ◌++◌, length, refl, ap, ◌∙◌, inl, inr, append_assoc, arith}
+use Rattle.std.proofs.Common.{◌≡◌, true, List, [], ◌∷◌, ◌++◌, refl, ap, ◌∙◌, inl, inr, append_assoc}
 use Rattle.std.specs.Prelude.{◌⊎◌}
 use Rattle.ebr_lexer.specs.declared.token.Token.{Token}
 use Rattle.ebr_grammar.specs.declared.kind.Kind.TheVariants as k
 use Rattle.ebr_grammar.specs.Kinds.{kind_of, member}
 use Rattle.ebr_grammar.specs.Forms.{sees}
-use Rattle.ebr_grammar.specs.Grammar.{both, Spells, SpellsWithin, SpellsAny}
-use Rattle.ebr_grammar.proofs.Depth.{starts_within, shrinks, weaker}
+use Rattle.ebr_grammar.specs.Grammar.{both, Spells, SpellsAny}
+use Rattle.ebr_grammar.proofs.Outside as outside
 use Rattle.ebr_ast.specs.declared.expression.Expr.TheVariants as e
 use Rattle.ebr_exprparse.specs.declared.level.Level.{Level}
 use Rattle.ebr_exprparse.specs.declared.level.Level.TheVariants.{Whole}
@@ -18,27 +18,22 @@ abbrev pub Has : {C : Type 0} → P C → List Token → Type 0
 Has g ts = (c : _) × Spells (SpellsAny grammar) g ts c
 
 pub starts_any : (l : Level) (ts : List Token) (a : Read) → SpellsAny grammar l ts a → sees (hints.begins l) ts ≡ true
-starts_any l ts a s = starts_within hints grammar clear s.0 l ts a s.1
-
-opened_within : (n : ℕ) (ts : List Token) (a : Read) → SpellsWithin grammar n Whole ts a → Spells (SpellsAny grammar) disjunction ts a
-unfolding grammar
-opened_within zero ts a s = absurd s
-opened_within (suc n) ts a s = weaker hints (length ts) (SpellsWithin grammar n) (SpellsAny grammar) (λ l ys b le t. (n, t)) (starts_within hints grammar clear n) disjunction ts a (omega arith) s
+starts_any = outside.starts_any hints grammar clear
 
 pub opened : (ts : List Token) (a : Read) → SpellsAny grammar Whole ts a → Spells (SpellsAny grammar) disjunction ts a
-opened ts a s = opened_within s.0 ts a s.1
+unfolding grammar
+opened ts a s = outside.opened hints grammar clear Whole ts a s
 
 pub closed_up : (ts : List Token) (a : Read) → Spells (SpellsAny grammar) disjunction ts a → SpellsAny grammar Whole ts a
 unfolding grammar
-closed_up ts a s =
-    (suc (length ts), weaker hints (length ts) (SpellsAny grammar) (SpellsWithin grammar (length ts)) (λ l ys b le t. shrinks hints grammar clear t.0 (length ts) l ys b t.1 le) starts_any disjunction ts a (omega arith) s)
+closed_up ts a s = outside.closed_up hints grammar clear Whole ts a s
 
--- ---- pieces
+-- ---- layers
 
 abbrev pub joins : List Token → List Token → List Token → List Token → List Token → List Token → List Token
 joins front factors terms tail negations conjunctions = ((((front ++ factors) ++ terms) ++ tail) ++ negations) ++ conjunctions
 
-pub record Pieces (ts : List Token) : Type 0 where
+pub record Layers (ts : List Token) : Type 0 where
   pub front : List Token
   pub factors : List Token
   pub terms : List Token
@@ -58,7 +53,7 @@ abbrev pub Negated : List Token → Type 0
 Negated ts = (t : Token) × (x y : List Token) × (ts ≡ t ∷ (x ++ y)) × (member (kind_of t) (k.Not ∷ []) ≡ true) × Has comparison x
 
 cut_comparison : (ts x negations conjunctions : List Token) (c : Read) → ts ≡ (x ++ negations) ++ conjunctions → Spells (SpellsAny grammar) comparison x c
-    → Has more_negations negations → Has more_conjunctions conjunctions → Pieces ts
+    → Has more_negations negations → Has more_conjunctions conjunctions → Layers ts
 unfolding comparison sum term
 cut_comparison ts x negations conjunctions c e s has_negations has_conjunctions =
     let sum_is = s.5 in
@@ -80,15 +75,15 @@ cut_comparison ts x negations conjunctions c e s has_negations has_conjunctions 
     }
 
 cut_negation : (ts x negations conjunctions : List Token) (c : Read) → ts ≡ (x ++ negations) ++ conjunctions → Spells (SpellsAny grammar) negation x c
-    → Has more_negations negations → Has more_conjunctions conjunctions → Negated ts ⊎ Pieces ts
+    → Has more_negations negations → Has more_conjunctions conjunctions → Negated ts ⊎ Layers ts
 unfolding negation
 cut_negation ts x negations conjunctions c e (inl n) has_negations has_conjunctions =
     let all : ts ≡ n.5.0 ∷ ((n.1 ++ negations) ++ conjunctions) = e ∙ ap (λ (z : List Token). (z ++ negations) ++ conjunctions) (n.4 ∙ ap (λ (z : List Token). z ++ n.1) n.5.1) in
     inl (n.5.0, n.1, negations ++ conjunctions, all ∙ ap (λ (z : List Token). n.5.0 ∷ z) (append_assoc n.1 negations conjunctions), n.5.2, (n.6.0, n.6.1))
 cut_negation ts x negations conjunctions c e (inr n) has_negations has_conjunctions = inr (cut_comparison ts x negations conjunctions c e n has_negations has_conjunctions)
 
--- the pieces of an expression
-pub cut : (ts : List Token) (a : Read) → Spells (SpellsAny grammar) disjunction ts a → Negated ts ⊎ Pieces ts
+-- the layers of an expression
+pub cut : (ts : List Token) (a : Read) → Spells (SpellsAny grammar) disjunction ts a → Negated ts ⊎ Layers ts
 unfolding disjunction conjunction
 cut ts a s = cut_negation ts s.5.0 s.5.1 s.1 s.5.2 (s.4 ∙ ap (λ (z : List Token). z ++ s.1) s.5.4) s.5.5 (s.5.3, s.5.6) (s.3, s.6)
 
@@ -100,7 +95,7 @@ unfolding comparison sum term
 has_comparison front factors terms tail a b c d =
     has_both (λ (x : _) f. f x) sum comparison_tail ((front ++ factors) ++ terms) tail (has_both summed term more_terms (front ++ factors) terms (has_both (joined e.Product) factor more_factors front factors a b) c) d
 
--- pieces make an expression
+-- layers make an expression
 pub has_all : (front factors terms tail negations conjunctions : List Token) → Has factor front → Has more_factors factors → Has more_terms terms → Has comparison_tail tail → Has more_negations negations → Has more_conjunctions conjunctions
     → Has disjunction (joins front factors terms tail negations conjunctions)
 unfolding disjunction conjunction negation
