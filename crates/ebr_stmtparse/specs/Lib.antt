@@ -1,2 +1,3 @@
 pub mod Statements
 pub mod Nests
+pub mod Parts

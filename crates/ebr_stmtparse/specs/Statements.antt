@@ -6,30 +6,27 @@
 --   statement = block | simple | IF e THEN statements {ELSIF e THEN statements} [ELSE statements] END IF ;
 --             | [WHILE e] LOOP statements END LOOP ; | FOR n IN heading statements END LOOP ;
 -- Everything that holds itself does so by the one name that there is: statements, which stand behind a word always.
-use Rattle.std.specs.Prelude.{ℕ, List, [], ◌∷◌, ◌++◌, length, Option, Some}
+use Rattle.std.specs.Prelude.{ℕ, List, [], ◌∷◌, ◌++◌, length}
 use Rattle.ebr_grammar.specs.declared.kind.Kind.{Kind}
 use Rattle.ebr_grammar.specs.declared.kind.Kind.TheVariants as k
 use Rattle.ebr_grammar.specs.Kinds.{name_kinds}
-use Rattle.ebr_grammar.specs.Forms.{Form, Found, Reader}
-use Rattle.ebr_grammar.specs.Grammar.{Production, token, nothing, both, many, made, led, named, outer, Spells, SpellsAny}
-use Rattle.ebr_grammar.specs.Reading.{and_then, Hints, reads, reads_within}
-use Rattle.ebr_grammar.specs.Outcome.{named_by}
-use Rattle.ebr_grammar.specs.Words.{mark, ◌▸◌, ◌∣◌, maybe, all}
+use Rattle.ebr_grammar.specs.Forms.{Form, Reader}
+use Rattle.ebr_grammar.specs.Grammar.{Production, nothing, both, many, made, led, named, outer, Spells, SpellsAny}
+use Rattle.ebr_grammar.specs.Reading.{Hints, reads, reads_within}
+use Rattle.ebr_grammar.specs.Words.{mark, ◌▸◌, ◌∣◌, maybe, all, name}
 use Rattle.ebr_ast.specs.declared.expression.Expr.{Expr}
 use Rattle.ebr_ast.specs.declared.statement.Block.{Block, roll-Block}
 use Rattle.ebr_ast.specs.declared.statement.Branch.{Branch, roll-Branch}
 use Rattle.ebr_ast.specs.declared.statement.Caught.{Caught}
 use Rattle.ebr_ast.specs.declared.statement.Decl.{Decl}
 use Rattle.ebr_ast.specs.declared.statement.Handler.{Handler, roll-Handler}
-use Rattle.ebr_ast.specs.declared.statement.Range.{Range}
-use Rattle.ebr_ast.specs.declared.statement.Rows.{Rows}
 use Rattle.ebr_ast.specs.declared.statement.Stmt.{Stmt}
 use Rattle.ebr_ast.specs.declared.statement.Stmt.TheVariants as s
-use Rattle.ebr_sqlparse.specs.Productions.{expression}
+use Rattle.ebr_exprparse.specs.Parts.{expr}
 use Rattle.ebr_simpleparse.specs.Simple.{simple_words}
 use Rattle.ebr_simpleparse.specs.declared.headings.Heading.{Heading}
 use Rattle.ebr_simpleparse.specs.declared.headings.Heading.TheVariants as heading
-use Rattle.ebr_simpleparse.proofs.Parts.{declaration_part, simple_part, heading_part, caught_part}
+use Rattle.ebr_simpleparse.specs.Parts.{declaration_part, simple_part, heading_part, caught_part}
 use Rattle.ebr_stmtparse.specs.declared.grammar.Initial.{Initial}
 use Rattle.ebr_stmtparse.specs.declared.grammar.TheConstants.{COMPOUND_WORDS}
 
@@ -59,14 +56,6 @@ pub data Nested : Type 0 where
 
 abbrev pub P : Type 0 → Type 1
 P C = Production Nested (λ _. List Stmt) C
-
--- e
-abbrev pub expr : P Expr
-expr = outer expression (λ x. x)
-
--- n
-abbrev pub name : P (List ℕ)
-name = token name_kinds named_by
 
 -- statement {statement}
 unfoldable pub body_statements : P (List Stmt)
@@ -142,13 +131,9 @@ handlers = k.Exception ▸ some_handlers ∣ nothing []
 unfoldable pub initial : P Initial
 initial = k.Begin ▸ both initial_of body_statements handlers
 
--- a name after END, which leaves nothing
-unfoldable pub end_name : P (Option (List ℕ))
-end_name = maybe name
-
--- END [n] ;
+-- END [n] ; : the name leaves nothing
 unfoldable pub block_end : P (Unit {0})
-block_end = k.End ▸ both (λ _ x. x) end_name (mark k.Semicolon)
+block_end = k.End ▸ both (λ _ x. x) (maybe name) (mark k.Semicolon)
 
 -- from BEGIN on
 unfoldable pub block_rest : P (List Decl → Block)
@@ -207,10 +192,6 @@ reads_at n g = reads hints (reads_within hints grammar n) g
 -- The reading of statements to a depth.
 abbrev pub read_within : ℕ → Reader (List Stmt)
 read_within n = reads_within hints grammar n some_statements
-
--- what was found, behind what stood before it
-abbrev pub with_first : {A B : Type 0} → A → Found (A → B) → Found B
-with_first a found = and_then found (λ f end. Some (f a, end))
 
 -- The tokens spell the tree by the production.
 abbrev pub SpelledBy : {C : Type 0} → P C → Form C

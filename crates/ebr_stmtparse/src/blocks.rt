@@ -2,13 +2,14 @@
 
 ghost use Rattle.std.specs.Prelude.{◌≡◌};
 ghost use Rattle.ebr_grammar.specs.Outcome.{Reads};
+ghost use Rattle.ebr_grammar.specs.Reading.{with_first};
 ghost use Rattle.ebr_stmtparse.specs.Statements as spec;
 ghost use Rattle.ebr_stmtparse.specs.Nests.{Nests};
 
 use crate::grammar::{Grammar, Initial, begins_declaration};
 use ebr_ast::{Block, Decl, Handler, Stmt};
-use ebr_base::{List, Name, Shared};
-use ebr_grammar::{Kind, NAME_KINDS, ReadStop, Tokens};
+use ebr_base::{List, Shared};
+use ebr_grammar::{Kind, ReadStop, Tokens};
 use ebr_simpleparse::{read_caught, read_declaration};
 use std::alloc::Global;
 
@@ -56,7 +57,7 @@ impl<F: Fn(Global, &mut Tokens<'_>, usize) -> Result<List<Shared<Stmt>>, ReadSto
         first: Handler,
     ) -> Result<List<Handler>, ReadStop>
         requires { Nests self.now.depth (F.pre self.now.nested) (F.post self.now.nested) }
-        ensures { Reads (spec.with_first first (spec.reads_at self.now.depth spec.more_handlers tokens.old)) result tokens.new }
+        ensures { Reads (with_first first (spec.reads_at self.now.depth spec.more_handlers tokens.old)) result tokens.new }
     {
         let mut found = List::new(self.alloc);
         found.push(first)?;
@@ -106,23 +107,12 @@ impl<F: Fn(Global, &mut Tokens<'_>, usize) -> Result<List<Shared<Stmt>>, ReadSto
         })
     }
 
-    /// A name after END.
-    fn end_name(&self, tokens: &mut Tokens<'_>) -> Result<Option<Name>, ReadStop>
-        ensures { Reads (spec.reads_at self.now.depth spec.end_name tokens.old) result tokens.new }
-    {
-        if tokens.sees_any(&NAME_KINDS) {
-            Ok(Some(tokens.name(self.alloc)?))
-        } else {
-            Ok(None)
-        }
-    }
-
     /// `END [n] ;`.
     fn block_end(&self, tokens: &mut Tokens<'_>) -> Result<(), ReadStop>
         ensures { Reads (spec.reads_at self.now.depth spec.block_end tokens.old) result tokens.new }
     {
         tokens.expect(Kind::End)?;
-        let _name = self.end_name(tokens)?;
+        let _name = tokens.maybe_name(self.alloc)?;
         tokens.expect(Kind::Semicolon)
     }
 
@@ -133,7 +123,7 @@ impl<F: Fn(Global, &mut Tokens<'_>, usize) -> Result<List<Shared<Stmt>>, ReadSto
         declarations: List<Decl>,
     ) -> Result<Block, ReadStop>
         requires { Nests self.now.depth (F.pre self.now.nested) (F.post self.now.nested) }
-        ensures { Reads (spec.with_first declarations (spec.reads_at self.now.depth spec.block_rest tokens.old)) result tokens.new }
+        ensures { Reads (with_first declarations (spec.reads_at self.now.depth spec.block_rest tokens.old)) result tokens.new }
     {
         let initial = self.initial(tokens)?;
         self.block_end(tokens)?;

@@ -8,7 +8,7 @@ ghost use Rattle.ebr_stmtparse.specs.Statements as spec;
 
 use ebr_ast::{Handler, Stmt};
 use ebr_base::{List, Shared};
-use ebr_grammar::{Kind, NAME_KINDS, Tokens};
+use ebr_grammar::{Kind, Tokens};
 use ebr_simpleparse::SIMPLE_WORDS;
 use std::alloc::Global;
 
@@ -40,13 +40,6 @@ pub const COMPOUND_WORDS: [Kind; 6] = [
     Kind::Begin,
 ];
 
-/// Whether the next token may be a name.
-fn sees_name(tokens: &Tokens<'_>) -> bool
-    ensures { result ≡ sees name_kinds tokens.now }
-{
-    tokens.sees_any(&NAME_KINDS)
-}
-
 /// Whether a word stands here with which a statement begins.
 fn sees_statement_word(tokens: &Tokens<'_>) -> bool
     ensures { result ≡ sees spec.statement_words tokens.now }
@@ -64,7 +57,7 @@ pub fn begins_statement(tokens: &Tokens<'_>) -> bool
     if sees_statement_word(tokens) {
         return true;
     }
-    sees_name(tokens)
+    tokens.sees_name()
 }
 
 /// Whether a declaration begins here.
@@ -74,5 +67,5 @@ pub fn begins_declaration(tokens: &Tokens<'_>) -> bool
     if tokens.sees_any(&[Kind::Pragma, Kind::Cursor]) {
         return true;
     }
-    sees_name(tokens)
+    tokens.sees_name()
 }

@@ -2,6 +2,7 @@
 
 ghost use Rattle.std.specs.Prelude.{◌≡◌};
 ghost use Rattle.ebr_grammar.specs.Outcome.{Reads};
+ghost use Rattle.ebr_grammar.specs.Reading.{with_first};
 ghost use Rattle.ebr_stmtparse.specs.Statements as spec;
 ghost use Rattle.ebr_stmtparse.specs.Nests.{Nests};
 
@@ -73,7 +74,7 @@ impl<F: Fn(Global, &mut Tokens<'_>, usize) -> Result<List<Shared<Stmt>>, ReadSto
     /// What stands behind IN.
     fn headed_loop(&self, tokens: &mut Tokens<'_>, name: Name) -> Result<Stmt, ReadStop>
         requires { Nests self.now.depth (F.pre self.now.nested) (F.post self.now.nested) }
-        ensures { Reads (spec.with_first name (spec.reads_at self.now.depth spec.headed_loop tokens.old)) result tokens.new }
+        ensures { Reads (with_first name (spec.reads_at self.now.depth spec.headed_loop tokens.old)) result tokens.new }
     {
         let heading = read_heading(self.alloc, tokens)?;
         let body = self.loop_body(tokens)?;
@@ -111,7 +112,7 @@ impl<F: Fn(Global, &mut Tokens<'_>, usize) -> Result<List<Shared<Stmt>>, ReadSto
         first: Branch,
     ) -> Result<List<Branch>, ReadStop>
         requires { Nests self.now.depth (F.pre self.now.nested) (F.post self.now.nested) }
-        ensures { Reads (spec.with_first first (spec.reads_at self.now.depth spec.more_branches tokens.old)) result tokens.new }
+        ensures { Reads (with_first first (spec.reads_at self.now.depth spec.more_branches tokens.old)) result tokens.new }
     {
         let mut found = List::new(self.alloc);
         found.push(first)?;
@@ -217,7 +218,7 @@ impl<F: Fn(Global, &mut Tokens<'_>, usize) -> Result<List<Shared<Stmt>>, ReadSto
         first: Shared<Stmt>,
     ) -> Result<List<Shared<Stmt>>, ReadStop>
         requires { Nests self.now.depth (F.pre self.now.nested) (F.post self.now.nested) }
-        ensures { Reads (spec.with_first first (spec.reads_at self.now.depth spec.more_statements tokens.old)) result tokens.new }
+        ensures { Reads (with_first first (spec.reads_at self.now.depth spec.more_statements tokens.old)) result tokens.new }
     {
         let mut found = List::new(self.alloc);
         found.push(first)?;

@@ -5,7 +5,7 @@ use Rattle.ebr_grammar.proofs.Steps.{steps}
 use Rattle.ebr_grammar.proofs.Loops.{stops, ends, goes_on, fails}
 use Rattle.ebr_grammar.specs.Grammar.{outer}
 use Rattle.ebr_simpleparse.specs.Declarations.{declaration_begins}
-use Rattle.ebr_simpleparse.proofs.Parts.{declaration_part}
+use Rattle.ebr_simpleparse.specs.Parts.{declaration_part}
 use Rattle.ebr_stmtparse.specs.Statements.{reads_at, declarations}
 use Rattle.ebr_stmtparse.proofs.grammar.Grammar.declarations.Goals as goal
 

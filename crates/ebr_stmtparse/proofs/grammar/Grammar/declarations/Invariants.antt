@@ -2,7 +2,7 @@ use Rattle.std.proofs.Common.{◌≡◌, ◌-◌, [], length}
 use Rattle.ebr_grammar.specs.Reading.{repeat}
 use Rattle.ebr_grammar.specs.Grammar.{outer}
 use Rattle.ebr_simpleparse.specs.Declarations.{declaration_begins}
-use Rattle.ebr_simpleparse.proofs.Parts.{declaration_part}
+use Rattle.ebr_simpleparse.specs.Parts.{declaration_part}
 use Rattle.ebr_stmtparse.specs.Statements.{reads_at}
 use Rattle.ebr_stmtparse.proofs.grammar.Grammar.declarations.Given as goal
 
