@@ -1,5 +1,8 @@
 //! Reads the trees of definitions from tokens: of editions, tables, editioning views and triggers, and of what is
 //! dropped.
+//!
+//! The crates above use `definition` (a tree exactly where all the tokens spell it), and the readers of types and
+//! editioning views at a cursor. That texts have their trees where memory is ample is tested in `ebr_parsetests`.
 #![tactic(auto)]
 
 mod alter;

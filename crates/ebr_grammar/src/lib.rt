@@ -1,5 +1,8 @@
 //! Grammars as data: a production says which tokens spell which trees, reading follows it with one token of
 //! look-ahead, and the two are proved to agree for every grammar that passes a test that computes.
+//!
+//! The crates above use the cursor `Tokens`, whose contract says what each reading gives, and the laws of `proofs/` for
+//! their own grammars. Tests alone show that its calls succeed where memory is ample.
 #![tactic(auto)]
 
 mod kind;

@@ -1,5 +1,8 @@
 //! Reads the trees of PL/SQL units from tokens: of subprograms, packages, triggers and blocks, and of what creates
 //! them.
+//!
+//! The crates above use `unit`, `created` and `block`: a tree exactly where all the tokens spell it. That texts have
+//! their trees where memory is ample is tested in `ebr_parsetests`.
 #![tactic(auto)]
 
 mod heads;

@@ -1,4 +1,7 @@
 //! The server: the edition machine, sessions, and the one call `serve`.
+//!
+//! The program uses `serve`, whose contract is the headline: the history is legal, the asks are the script's, and the
+//! report holds what the script prints. That calls succeed where memory is ample is tested in `ebr_servertests`.
 #![tactic(auto)]
 
 mod ask;

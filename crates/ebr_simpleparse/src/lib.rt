@@ -1,4 +1,7 @@
-//! Reads the trees of declarations, and of the statements that hold no others, from tokens.
+//! Reads declarations, and the statements of PL/SQL that hold no others, from tokens.
+//!
+//! The crate above uses its readers at a cursor: what each reads is what the grammar of `specs/` gives there. That texts
+//! have their trees where memory is ample is tested in `ebr_parsetests`.
 #![tactic(auto)]
 
 mod bounds;

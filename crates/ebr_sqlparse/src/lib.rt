@@ -1,4 +1,8 @@
-//! Reads the trees of SQL statements from tokens.
+//! Reads SQL, transaction statements and the choice of an edition from tokens.
+//!
+//! The crates above use `sql`, `transaction` and `session` (a tree exactly where all the tokens spell it), and the
+//! readers at a cursor for what stands in PL/SQL. That texts have their trees where memory is ample is tested in
+//! `ebr_parsetests`.
 #![tactic(auto)]
 
 mod change;
@@ -8,6 +12,7 @@ mod statements;
 mod whole;
 
 pub use change::{read_delete, read_insert, read_update};
+pub use ebr_ddlparse::definition;
 pub use ebr_exprparse::expr;
 pub use items::read_select_list;
 pub use queries::{read_query, read_query_rest};
