@@ -1,3 +1,3 @@
 pub mod Clear
 pub mod Begins
-pub mod WholeTexts
+pub mod Reader

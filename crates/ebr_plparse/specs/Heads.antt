@@ -9,23 +9,23 @@
 use Rattle.std.specs.Prelude.{ℕ, List, [], ◌∷◌, Option, Some, None}
 use Rattle.ebr_grammar.specs.declared.kind.Kind.{Kind}
 use Rattle.ebr_grammar.specs.declared.kind.Kind.TheVariants as k
+use Rattle.ebr_grammar.specs.Kinds.{names_but}
 use Rattle.ebr_grammar.specs.Grammar.{token, nothing, both, many, made}
 use Rattle.ebr_grammar.specs.Outcome.{named_by}
-use Rattle.ebr_grammar.specs.Words.{mark, ◌▸◌, ◌◂◌, ◌∣◌}
+use Rattle.ebr_grammar.specs.Words.{mark, ◌▸◌, ◌◂◌, ◌∣◌, name}
 use Rattle.ebr_ast.specs.declared.unit.Head.{Head}
 use Rattle.ebr_ast.specs.declared.unit.Parameter.{Parameter}
 use Rattle.ebr_ast.specs.declared.unit.Mode.{Mode}
 use Rattle.ebr_ast.specs.declared.unit.Mode.TheVariants as mode
 use Rattle.ebr_ast.specs.declared.unit.ParameterType.{ParameterType}
 use Rattle.ebr_ast.specs.declared.unit.ParameterType.TheVariants as t
-use Rattle.ebr_plparse.specs.declared.types.TheConstants.{TABLE_NAMES}
-use Rattle.ebr_plparse.specs.Productions.{P, name}
+use Rattle.ebr_plparse.specs.Productions.{P}
 
 -- ---- types
 
 -- the names that begin no type but that of a table's column, and no mode
-unfoldable pub table_names : List Kind
-table_names = TABLE_NAMES
+abbrev pub table_names : List Kind
+table_names = names_but (k.Number ∷ k.Integer ∷ k.Varchar2 ∷ k.Boolean ∷ k.Out ∷ [])
 
 -- `n % TYPE`, behind a table's name and the dot
 unfoldable pub column_of : P (List ℕ)

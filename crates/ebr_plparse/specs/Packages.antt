@@ -5,13 +5,13 @@
 --   PACKAGE n (IS | AS) {decl | head ;} END [n] ;
 --   PACKAGE BODY n (IS | AS) {decl} {subprogram} [initial] END [n] ;
 -- BODY is no reserved word, so it may name a package. A name behind END leaves nothing.
-use Rattle.std.specs.Prelude.{ℕ, List, [], ◌∷◌, Option}
+use Rattle.std.specs.Prelude.{ℕ, List, [], ◌∷◌}
 use Rattle.ebr_grammar.specs.declared.kind.Kind.{Kind}
 use Rattle.ebr_grammar.specs.declared.kind.Kind.TheVariants as k
-use Rattle.ebr_grammar.specs.Kinds.{name_kinds}
+use Rattle.ebr_grammar.specs.Kinds.{name_kinds, names_but}
 use Rattle.ebr_grammar.specs.Grammar.{token, nothing, both, made, led}
 use Rattle.ebr_grammar.specs.Outcome.{named_by}
-use Rattle.ebr_grammar.specs.Words.{mark, ◌▸◌, ◌◂◌, ◌∣◌, maybe, all}
+use Rattle.ebr_grammar.specs.Words.{mark, ◌▸◌, ◌◂◌, ◌∣◌, maybe, all, name}
 use Rattle.ebr_ast.specs.declared.statement.Block.{Block}
 use Rattle.ebr_ast.specs.declared.statement.Decl.{Decl}
 use Rattle.ebr_ast.specs.declared.unit.Head.{Head}
@@ -22,10 +22,9 @@ use Rattle.ebr_ast.specs.declared.unit.PackageBody.{PackageBody}
 use Rattle.ebr_ast.specs.declared.unit.UnitTree.{UnitTree}
 use Rattle.ebr_ast.specs.declared.unit.UnitTree.TheVariants as unit
 use Rattle.ebr_stmtparse.specs.declared.grammar.Initial.{Initial}
-use Rattle.ebr_stmtparse.proofs.Parts.{declaration_part, body_part, initial_part}
-use Rattle.ebr_plparse.specs.declared.packages.TheConstants.{PACKAGE_NAMES}
+use Rattle.ebr_stmtparse.specs.Parts.{declaration_part, body_part, initial_part}
 use Rattle.ebr_plparse.specs.declared.packages.BodyMembers.{BodyMembers}
-use Rattle.ebr_plparse.specs.Productions.{P, part, name, is_or_as}
+use Rattle.ebr_plparse.specs.Productions.{P, part, is_or_as}
 use Rattle.ebr_plparse.specs.Heads.{head, head_begins}
 
 -- ---- subprograms
@@ -42,12 +41,9 @@ subprogram = both subprogram_tree head given_body
 
 -- ---- the end of a package
 
-unfoldable pub maybe_name : P (Option (List ℕ))
-maybe_name = maybe name
-
 -- END [n] ;
 unfoldable pub unit_end : P (Unit {0})
-unit_end = k.End ▸ both (λ _ x. x) maybe_name (mark k.Semicolon)
+unit_end = k.End ▸ both (λ _ x. x) (maybe name) (mark k.Semicolon)
 
 -- ---- specifications
 
@@ -107,10 +103,6 @@ package_body = both body_tree name (both (λ _ members. members) is_or_as closed
 
 -- ---- either
 
--- the names but BODY
-unfoldable pub package_names : List Kind
-package_names = PACKAGE_NAMES
-
 -- Behind PACKAGE and the word BODY: the package BODY, or a package's body.
 unfoldable pub behind_body : P (List ℕ → UnitTree)
 behind_body = led (k.Is ∷ k.As ∷ []) specification ∣ made (λ body _. unit.PackageBody body) package_body
@@ -118,4 +110,4 @@ behind_body = led (k.Is ∷ k.As ∷ []) specification ∣ made (λ body _. unit
 -- behind PACKAGE
 unfoldable pub any_package : P UnitTree
 any_package = both (λ body f. f body) (token (k.Body ∷ []) named_by) behind_body
-    ∣ both (λ name f. f name) (token package_names named_by) specification
+    ∣ both (λ name f. f name) (token (names_but (k.Body ∷ [])) named_by) specification

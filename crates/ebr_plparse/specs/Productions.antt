@@ -1,12 +1,10 @@
 -- Productions of units, and what reading by them gives. No production is named: what nests stands in the forms of other
 -- grammars.
-use Rattle.std.specs.Prelude.{ℕ, List, [], Some, None}
+use Rattle.std.specs.Prelude.{[], None}
 use Rattle.ebr_grammar.specs.declared.kind.Kind.TheVariants as k
-use Rattle.ebr_grammar.specs.Kinds.{name_kinds}
-use Rattle.ebr_grammar.specs.Forms.{Form, Found, Reader, Outer}
-use Rattle.ebr_grammar.specs.Grammar.{Production, token, outer, Spells}
-use Rattle.ebr_grammar.specs.Reading.{and_then, Hints, reads}
-use Rattle.ebr_grammar.specs.Outcome.{named_by}
+use Rattle.ebr_grammar.specs.Forms.{Form, Reader, Outer}
+use Rattle.ebr_grammar.specs.Grammar.{Production, outer, Spells}
+use Rattle.ebr_grammar.specs.Reading.{Hints, reads}
 use Rattle.ebr_grammar.specs.Words.{mark, ◌∣◌}
 
 abbrev pub P : Type 0 → Type 1
@@ -23,17 +21,9 @@ reads_by g = reads hints (λ _ ts. None) g
 abbrev pub SpelledBy : {C : Type 0} → P C → Form C
 SpelledBy g = Spells (λ _ ts a. ⊥) g
 
--- what was found, behind what stood before it
-abbrev pub with_first : {A B : Type 0} → A → Found (A → B) → Found B
-with_first a found = and_then found (λ f end. Some (f a, end))
-
 -- what a form of another grammar spells
 abbrev pub part : {A : Type 0} → Outer A → P A
 part form = outer form (λ a. a)
-
--- n
-abbrev pub name : P (List ℕ)
-name = token name_kinds named_by
 
 -- IS | AS
 unfoldable pub is_or_as : P (Unit {0})

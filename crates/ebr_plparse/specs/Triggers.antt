@@ -5,7 +5,7 @@
 use Rattle.std.specs.Prelude.{ℕ, Bool, true, false, List, ◌∷◌, Option, Some, None}
 use Rattle.ebr_grammar.specs.declared.kind.Kind.TheVariants as k
 use Rattle.ebr_grammar.specs.Grammar.{word, nothing, both, many}
-use Rattle.ebr_grammar.specs.Words.{mark, ◌▸◌, ◌∣◌}
+use Rattle.ebr_grammar.specs.Words.{mark, ◌▸◌, ◌∣◌, name}
 use Rattle.ebr_ast.specs.declared.kinds.Op.{Op}
 use Rattle.ebr_ast.specs.declared.kinds.Op.TheVariants as op
 use Rattle.ebr_ast.specs.declared.kinds.Timing.{Timing}
@@ -14,10 +14,10 @@ use Rattle.ebr_ast.specs.declared.statement.Block.{Block}
 use Rattle.ebr_ast.specs.declared.unit.Direction.{Direction}
 use Rattle.ebr_ast.specs.declared.unit.Direction.TheVariants as direction
 use Rattle.ebr_ast.specs.declared.unit.Trigger.{Trigger}
-use Rattle.ebr_stmtparse.proofs.Parts.{block_part}
+use Rattle.ebr_stmtparse.specs.Parts.{block_part}
 use Rattle.ebr_plparse.specs.declared.triggers.EventClause.{EventClause}
 use Rattle.ebr_plparse.specs.declared.triggers.TriggerOptions.{TriggerOptions}
-use Rattle.ebr_plparse.specs.Productions.{P, part, name}
+use Rattle.ebr_plparse.specs.Productions.{P, part}
 
 abbrev pub event_clause_tree : Timing → List Op → List ℕ → EventClause
 event_clause_tree timing events on = record { timing = timing; events = events; on = on }

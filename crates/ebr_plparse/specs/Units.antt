@@ -5,21 +5,19 @@
 --   CREATE [OR REPLACE] [EDITIONABLE] stored
 use Rattle.std.specs.Prelude.{Bool, true, false, List, [], ◌∷◌, Option, Some, None}
 use Rattle.ebr_grammar.specs.declared.kind.Kind.TheVariants as k
-use Rattle.ebr_grammar.specs.Forms.{Form, Outer}
+use Rattle.ebr_grammar.specs.Forms.{Form}
 use Rattle.ebr_grammar.specs.Grammar.{made, tested, led}
-use Rattle.ebr_grammar.specs.Words.{◌▸◌, ◌∣◌}
+use Rattle.ebr_grammar.specs.Words.{◌▸◌, ◌∣◌, past}
 use Rattle.ebr_ast.specs.declared.expression.Expr.{Expr}
 use Rattle.ebr_ast.specs.declared.expression.Path.{Path}
 use Rattle.ebr_ast.specs.declared.statement.Block.{Block, roll-Block}
 use Rattle.ebr_ast.specs.declared.statement.Stmt.TheVariants as s
 use Rattle.ebr_ast.specs.declared.definition.Definition.{Definition}
 use Rattle.ebr_ast.specs.declared.definition.Definition.TheVariants as d
-use Rattle.ebr_ast.specs.declared.unit.EditioningView.{EditioningView}
 use Rattle.ebr_ast.specs.declared.unit.UnitTree.{UnitTree}
 use Rattle.ebr_ast.specs.declared.unit.UnitTree.TheVariants as unit
-use Rattle.ebr_ddlparse.specs.Views.{SpellsView, view_reader}
-use Rattle.ebr_ddlparse.proofs.Parts.{reads_views}
-use Rattle.ebr_stmtparse.proofs.Parts.{block_part, call_part}
+use Rattle.ebr_ddlparse.specs.Parts.{view_part}
+use Rattle.ebr_stmtparse.specs.Parts.{block_part, call_part}
 use Rattle.ebr_plparse.specs.Productions.{P, SpelledBy, part}
 use Rattle.ebr_plparse.specs.Heads.{head_begins}
 use Rattle.ebr_plparse.specs.Packages.{subprogram, any_package}
@@ -49,10 +47,6 @@ SpellsBlock = SpelledBy block
 
 -- ---- units
 
--- Editioning views, as a form of another grammar.
-abbrev pub view_part : Outer EditioningView
-view_part = record { begins = k.Editioning ∷ []; goes_on = []; form = SpellsView; reader = view_reader; law = reads_views }
-
 -- what CREATE makes
 unfoldable pub stored : P UnitTree
 stored = led head_begins (made unit.Subprogram subprogram)
@@ -74,7 +68,7 @@ create_stored replace = made (λ unit. d.CreateObject replace unit) stored
 
 -- EDITIONABLE leaves nothing in the tree
 unfoldable pub create_object : Bool → P Definition
-create_object replace = k.Editionable ▸ create_stored replace ∣ create_stored replace
+create_object replace = past k.Editionable (create_stored replace)
 
 -- behind CREATE
 unfoldable pub create : P Definition

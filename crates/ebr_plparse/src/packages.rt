@@ -3,75 +3,17 @@
 ghost use Rattle.std.specs.Prelude.{◌≡◌};
 ghost use Rattle.ebr_grammar.specs.Forms.{sees};
 ghost use Rattle.ebr_grammar.specs.Outcome.{Reads};
+ghost use Rattle.ebr_grammar.specs.Reading.{with_first};
 ghost use Rattle.ebr_plparse.specs.Productions as productions;
-ghost use Rattle.ebr_plparse.specs.Productions.{reads_by, with_first};
+ghost use Rattle.ebr_plparse.specs.Productions.{reads_by};
 ghost use Rattle.ebr_plparse.specs.Packages as grammar;
 
 use crate::heads::head;
 use ebr_ast::{Block, Decl, PackageBody, PackageItem, Subprogram, UnitTree};
 use ebr_base::{List, Name, Shared};
-use ebr_grammar::{Kind, NAME_KINDS, ReadStop, Tokens, shared};
+use ebr_grammar::{Kind, ReadStop, Tokens, shared};
 use ebr_stmtparse::{Initial, read_body, read_declaration, read_initial};
 use std::alloc::Global;
-
-/// The kinds of names but that of BODY.
-pub const PACKAGE_NAMES: [Kind; 55] = [
-    Kind::Name,
-    Kind::Add,
-    Kind::After,
-    Kind::Apply,
-    Kind::AutonomousTransaction,
-    Kind::Before,
-    Kind::Boolean,
-    Kind::Byte,
-    Kind::Call,
-    Kind::Cascade,
-    Kind::Char,
-    Kind::Child,
-    Kind::Constant,
-    Kind::Constraint,
-    Kind::Count,
-    Kind::Crossedition,
-    Kind::Database,
-    Kind::Default,
-    Kind::Disable,
-    Kind::Each,
-    Kind::Edition,
-    Kind::Editionable,
-    Kind::Editioning,
-    Kind::Enable,
-    Kind::ExceptionInit,
-    Kind::Forward,
-    Kind::Found,
-    Kind::Integer,
-    Kind::Isopen,
-    Kind::Key,
-    Kind::Max,
-    Kind::Min,
-    Kind::New,
-    Kind::Notfound,
-    Kind::Nowait,
-    Kind::Number,
-    Kind::Of,
-    Kind::Old,
-    Kind::Others,
-    Kind::Out,
-    Kind::Package,
-    Kind::Primary,
-    Kind::PutLine,
-    Kind::Replace,
-    Kind::Reverse,
-    Kind::Row,
-    Kind::Rowcount,
-    Kind::Session,
-    Kind::Sum,
-    Kind::To,
-    Kind::Trigger,
-    Kind::Trunc,
-    Kind::TypeWord,
-    Kind::Varchar2,
-    Kind::Work,
-];
 
 /// What a package's body holds.
 #[derive(Debug, Drop)]
@@ -120,22 +62,12 @@ pub fn shared_subprogram(
     shared(alloc, found)
 }
 
-fn maybe_name(alloc: Global, tokens: &mut Tokens<'_>) -> Result<Option<Name>, ReadStop>
-    ensures { Reads (reads_by grammar.maybe_name tokens.old) result tokens.new }
-{
-    if tokens.sees_any(&NAME_KINDS) {
-        Ok(Some(tokens.name(alloc)?))
-    } else {
-        Ok(None)
-    }
-}
-
 /// A package's end, with a name or without.
 fn unit_end(alloc: Global, tokens: &mut Tokens<'_>) -> Result<(), ReadStop>
     ensures { Reads (reads_by grammar.unit_end tokens.old) result tokens.new }
 {
     tokens.expect(Kind::End)?;
-    let _name = maybe_name(alloc, tokens)?;
+    let _name = tokens.maybe_name(alloc)?;
     tokens.expect(Kind::Semicolon)?;
     Ok(())
 }
@@ -144,7 +76,7 @@ fn unit_end(alloc: Global, tokens: &mut Tokens<'_>) -> Result<(), ReadStop>
 fn sees_declaration(tokens: &Tokens<'_>) -> bool
     ensures { result ≡ sees grammar.declaration_begins tokens.now }
 {
-    tokens.sees_any(&[Kind::Pragma, Kind::Cursor]) || tokens.sees_any(&NAME_KINDS)
+    tokens.sees_any(&[Kind::Pragma, Kind::Cursor]) || tokens.sees_name()
 }
 
 /// Whether an item of a package's specification begins here.
@@ -307,7 +239,7 @@ pub fn any_package(alloc: Global, tokens: &mut Tokens<'_>) -> Result<UnitTree, R
         let body = tokens.name_among(alloc, &[Kind::Body])?;
         behind_body(alloc, tokens, body)
     } else {
-        let name = tokens.name_among(alloc, &PACKAGE_NAMES)?;
+        let name = tokens.name_but(alloc, &[Kind::Body])?;
         specification(alloc, tokens, name)
     }
 }

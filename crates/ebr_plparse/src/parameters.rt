@@ -2,7 +2,8 @@
 
 ghost use Rattle.std.specs.Prelude.{◌≡◌};
 ghost use Rattle.ebr_grammar.specs.Outcome.{Reads};
-ghost use Rattle.ebr_plparse.specs.Productions.{reads_by, with_first};
+ghost use Rattle.ebr_grammar.specs.Reading.{with_first};
+ghost use Rattle.ebr_plparse.specs.Productions.{reads_by};
 ghost use Rattle.ebr_plparse.specs.Heads as grammar;
 
 use crate::types::{column_of, other_type, parameter_type};

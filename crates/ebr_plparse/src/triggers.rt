@@ -2,7 +2,8 @@
 
 ghost use Rattle.std.specs.Prelude.{◌≡◌};
 ghost use Rattle.ebr_grammar.specs.Outcome.{Reads};
-ghost use Rattle.ebr_plparse.specs.Productions.{reads_by, with_first};
+ghost use Rattle.ebr_grammar.specs.Reading.{with_first};
+ghost use Rattle.ebr_plparse.specs.Productions.{reads_by};
 ghost use Rattle.ebr_plparse.specs.Triggers as grammar;
 
 use ebr_ast::{Block, Direction, Op, Timing, Trigger};

@@ -2,68 +2,14 @@
 
 ghost use Rattle.std.specs.Prelude.{◌≡◌};
 ghost use Rattle.ebr_grammar.specs.Outcome.{Reads};
-ghost use Rattle.ebr_plparse.specs.Productions.{reads_by, with_first};
+ghost use Rattle.ebr_grammar.specs.Reading.{with_first};
+ghost use Rattle.ebr_plparse.specs.Productions.{reads_by};
 ghost use Rattle.ebr_plparse.specs.Heads as grammar;
 
 use ebr_ast::ParameterType;
 use ebr_base::Name;
 use ebr_grammar::{Kind, ReadStop, Tokens};
 use std::alloc::Global;
-
-/// The kinds of names that begin no type but that of a table's column, and no mode.
-pub const TABLE_NAMES: [Kind; 51] = [
-    Kind::Name,
-    Kind::Add,
-    Kind::After,
-    Kind::Apply,
-    Kind::AutonomousTransaction,
-    Kind::Before,
-    Kind::Body,
-    Kind::Byte,
-    Kind::Call,
-    Kind::Cascade,
-    Kind::Char,
-    Kind::Child,
-    Kind::Constant,
-    Kind::Constraint,
-    Kind::Count,
-    Kind::Crossedition,
-    Kind::Database,
-    Kind::Default,
-    Kind::Disable,
-    Kind::Each,
-    Kind::Edition,
-    Kind::Editionable,
-    Kind::Editioning,
-    Kind::Enable,
-    Kind::ExceptionInit,
-    Kind::Forward,
-    Kind::Found,
-    Kind::Isopen,
-    Kind::Key,
-    Kind::Max,
-    Kind::Min,
-    Kind::New,
-    Kind::Notfound,
-    Kind::Nowait,
-    Kind::Of,
-    Kind::Old,
-    Kind::Others,
-    Kind::Package,
-    Kind::Primary,
-    Kind::PutLine,
-    Kind::Replace,
-    Kind::Reverse,
-    Kind::Row,
-    Kind::Rowcount,
-    Kind::Session,
-    Kind::Sum,
-    Kind::To,
-    Kind::Trigger,
-    Kind::Trunc,
-    Kind::TypeWord,
-    Kind::Work,
-];
 
 /// What stands behind a table's name and the dot.
 pub fn column_of(alloc: Global, tokens: &mut Tokens<'_>) -> Result<Name, ReadStop>
@@ -118,7 +64,16 @@ pub fn other_type(alloc: Global, tokens: &mut Tokens<'_>) -> Result<ParameterTyp
         let word = tokens.name_among(alloc, &[Kind::Boolean])?;
         word_type(alloc, tokens, word, ParameterType::Boolean)
     } else {
-        let table = tokens.name_among(alloc, &TABLE_NAMES)?;
+        let table = tokens.name_but(
+            alloc,
+            &[
+                Kind::Number,
+                Kind::Integer,
+                Kind::Varchar2,
+                Kind::Boolean,
+                Kind::Out,
+            ],
+        )?;
         of_column(alloc, tokens, table)
     }
 }

@@ -105,11 +105,8 @@ fn create_object(
 ) -> Result<Definition, ReadStop>
     ensures { Reads (reads_by (grammar.create_object replace) tokens.old) result tokens.new }
 {
-    if tokens.eat(Kind::Editionable) {
-        create_stored(alloc, tokens, replace)
-    } else {
-        create_stored(alloc, tokens, replace)
-    }
+    tokens.eat(Kind::Editionable);
+    create_stored(alloc, tokens, replace)
 }
 
 /// What stands behind CREATE.

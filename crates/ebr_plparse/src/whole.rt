@@ -1,36 +1,15 @@
 //! Whole texts of units.
 
 ghost use Rattle.std.specs.Prelude.{◌≡◌, IfOk, IfSome, Some, List as Sequence};
-ghost use Rattle.ebr_lexer.specs.declared.token.Token.{Token as Piece};
-ghost use Rattle.ebr_grammar.specs.Forms.{Found};
-ghost use Rattle.ebr_grammar.specs.Outcome.{Reads};
-ghost use Rattle.ebr_grammar.specs.Reading as reading;
 ghost use Rattle.ebr_ast.specs.declared.definition.Definition.{Definition as Created};
 ghost use Rattle.ebr_plparse.specs.Units as grammar;
 
 use crate::units::{any_block, definition, text};
 use ebr_ast::{Block, Definition, UnitTree};
 use ebr_base::{NoMemory, Shared};
-use ebr_grammar::{ReadStop, Tokens};
+use ebr_grammar::{Tokens, whole};
 use ebr_lexer::Token;
 use std::alloc::Global;
-
-/// What was read, where no token is left.
-fn whole<T: Drop>(read: Result<T, ReadStop>, rest: &Tokens<'_>) -> Result<Option<T>, NoMemory>
-    ensures { (found : Found T) → Reads found read rest.now → IfOk result (λ r. r ≡ reading.whole found) }
-{
-    match read {
-        Ok(tree) => {
-            if rest.left() == 0 {
-                Ok(Some(tree))
-            } else {
-                Ok(None)
-            }
-        }
-        Err(ReadStop::NoTree) => Ok(None),
-        Err(ReadStop::NoMemory) => Err(NoMemory),
-    }
-}
 
 /// The unit, editioning view, block or CALL that the tokens spell, all of them; None where they spell none.
 ///
@@ -72,7 +51,7 @@ pub fn block(alloc: Global, tokens: &[Token]) -> Result<Option<Shared<Block>>, N
 
 /// Tokens spell one tree of a kind at most.
 pub fn one_tree()
-    ensures unit { (ts : Sequence Piece) (a b : UnitTree) → grammar.SpellsUnit ts a → grammar.SpellsUnit ts b → a ≡ b }
-    ensures created { (ts : Sequence Piece) (a b : Created) → grammar.SpellsCreation ts a → grammar.SpellsCreation ts b → a ≡ b }
-    ensures block { (ts : Sequence Piece) (a b : Block) → grammar.SpellsBlock ts a → grammar.SpellsBlock ts b → a ≡ b }
+    ensures unit { (ts : Sequence Token) (a b : UnitTree) → grammar.SpellsUnit ts a → grammar.SpellsUnit ts b → a ≡ b }
+    ensures created { (ts : Sequence Token) (a b : Created) → grammar.SpellsCreation ts a → grammar.SpellsCreation ts b → a ≡ b }
+    ensures block { (ts : Sequence Token) (a b : Block) → grammar.SpellsBlock ts a → grammar.SpellsBlock ts b → a ≡ b }
 {}

@@ -4,7 +4,7 @@ use Rattle.ebr_grammar.specs.Forms.{sees}
 use Rattle.ebr_grammar.specs.Grammar.{led}
 use Rattle.ebr_grammar.proofs.Steps.{steps}
 use Rattle.ebr_grammar.proofs.Loops.{stops, ends, goes_on, fails}
-use Rattle.ebr_stmtparse.proofs.Parts.{declaration_part}
+use Rattle.ebr_stmtparse.specs.Parts.{declaration_part}
 use Rattle.ebr_plparse.specs.Productions.{reads_by, part}
 use Rattle.ebr_plparse.specs.Packages.{declaration_begins, declarations}
 use Rattle.ebr_plparse.proofs.packages.declarations.Goals as goal

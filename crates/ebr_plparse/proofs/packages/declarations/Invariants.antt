@@ -1,7 +1,7 @@
 use Rattle.std.proofs.Common.{◌≡◌, ◌-◌, [], length}
 use Rattle.ebr_grammar.specs.Grammar.{led}
 use Rattle.ebr_grammar.specs.Reading.{repeat}
-use Rattle.ebr_stmtparse.proofs.Parts.{declaration_part}
+use Rattle.ebr_stmtparse.specs.Parts.{declaration_part}
 use Rattle.ebr_plparse.specs.Productions.{reads_by, part}
 use Rattle.ebr_plparse.specs.Packages.{declaration_begins}
 use Rattle.ebr_plparse.proofs.packages.declarations.Given as goal

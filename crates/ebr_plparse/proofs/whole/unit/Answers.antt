@@ -3,18 +3,19 @@ use Rattle.ebr_lexer.specs.declared.token.Token.{Token}
 use Rattle.ebr_grammar.specs.Outcome.{Reads}
 use Rattle.ebr_plparse.specs.Productions.{reads_by}
 use Rattle.ebr_plparse.specs.Units.{text}
-use Rattle.ebr_plparse.proofs.Clear.{text_clear, text_full}
-use Rattle.ebr_plparse.proofs.WholeTexts.{is_found, is_only}
+use Rattle.ebr_plparse.proofs.Clear.{text_is}
+use Rattle.ebr_grammar.proofs.Texts.{is_found, is_only}
+use Rattle.ebr_plparse.proofs.Reader.{reader}
 use Rattle.ebr_plparse.proofs.whole.unit.Goals as goal
 
 pub returns-clause-found : goal.returns-clause-found
 returns-clause-found c =
     let read : Reads (reads_by text c.args.tokens.now) c.text-read.result c.text-read.new.tokens =
     subst (λ (ts : List Token). Reads (reads_by text ts) c.text-read.result c.text-read.new.tokens) c.new-rest.ensures c.text-read.ensures in
-    is_found text text_clear text_full c.args.tokens.now c.whole.result (c.whole.ensures (reads_by text c.args.tokens.now) read)
+    is_found (reader text text_is) c.args.tokens.now c.whole.result (c.whole.ensures (reads_by text c.args.tokens.now) read)
 
 pub returns-clause-only : goal.returns-clause-only
 returns-clause-only c x s =
     let read : Reads (reads_by text c.args.tokens.now) c.text-read.result c.text-read.new.tokens =
     subst (λ (ts : List Token). Reads (reads_by text ts) c.text-read.result c.text-read.new.tokens) c.new-rest.ensures c.text-read.ensures in
-    is_only text text_clear text_full c.args.tokens.now c.whole.result (c.whole.ensures (reads_by text c.args.tokens.now) read) x s
+    is_only (reader text text_is) c.args.tokens.now c.whole.result (c.whole.ensures (reads_by text c.args.tokens.now) read) x s
