@@ -18,14 +18,14 @@ use Rattle.ebr_ast.specs.declared.definition.Definition.{Definition}
 use Rattle.ebr_sqlparse.specs.Productions as sql
 use Rattle.ebr_sqlparse.specs.Statements.{sql as any_sql, apply, transaction, session, SpellsSql, SpellsTransaction, SpellsSession}
 use Rattle.ebr_sqlparse.proofs.Reader.{reader}
-use Rattle.ebr_sqlparse.proofs.Clear.{sql_clear, sql_full, transaction_clear, transaction_full}
+use Rattle.ebr_sqlparse.proofs.Clear.{sql_is, transaction_is}
 use Rattle.ebr_ddlparse.specs.Definitions as definitions
 use Rattle.ebr_ddlparse.specs.Definitions.{SpellsPart, SpellsDefinition}
 use Rattle.ebr_plparse.specs.Units as units
 use Rattle.ebr_plparse.specs.Units.{SpellsBlock, SpellsCreation}
 use Rattle.ebr_plparse.specs.Productions as unit_productions
-use Rattle.ebr_plparse.proofs.WholeTexts.{reader as unit_reader}
-use Rattle.ebr_plparse.proofs.Clear.{block_clear, block_full}
+use Rattle.ebr_plparse.proofs.Reader.{reader as unit_reader}
+use Rattle.ebr_plparse.proofs.Clear.{block_is}
 use Rattle.ebr_script.specs.Statements.{begins_session}
 use Rattle.ebr_script.proofs.Marks.{first_is, behind}
 
@@ -43,11 +43,11 @@ sql_kinds = k.Select ∷ k.Insert ∷ k.Update ∷ k.Delete ∷ k.Apply ∷ []
 
 pub sql_begins : (ts : List Token) (x : SqlTree) → SpellsSql ts x → sees sql_kinds ts ≡ true
 unfolding same any_sql apply
-sql_begins ts x s = sees-among (first sql.hints any_sql) sql_kinds ts refl ((reader any_sql sql_clear sql_full).begun ts x s)
+sql_begins ts x s = sees-among (first sql.hints any_sql) sql_kinds ts refl ((reader any_sql sql_is).begun ts x s)
 
 pub transaction_begins : (ts : List Token) (x : Transaction) → SpellsTransaction ts x → sees transaction_kinds ts ≡ true
 unfolding same transaction
-transaction_begins ts x s = sees-among (first sql.hints transaction) transaction_kinds ts refl ((reader transaction transaction_clear transaction_full).begun ts x s)
+transaction_begins ts x s = sees-among (first sql.hints transaction) transaction_kinds ts refl ((reader transaction transaction_is).begun ts x s)
 
 both_true : (a b : Bool) → a ≡ true → b ≡ true → (a && b) ≡ true
 both_true a b p q = rw (p, q) refl
@@ -69,7 +69,7 @@ session_begins ts n s = both_true (sees (k.Alter ∷ []) ts) (sees (k.Session �
 
 pub block_begins : (ts : List Token) (b : Block) → SpellsBlock ts b → sees block_kinds ts ≡ true
 unfolding same units.block
-block_begins ts b s = sees-among (first unit_productions.hints units.block) block_kinds ts refl ((unit_reader units.block block_clear block_full).begun ts b s)
+block_begins ts b s = sees-among (first unit_productions.hints units.block) block_kinds ts refl ((unit_reader units.block block_is).begun ts b s)
 
 pub creation_begins : (ts : List Token) (d : Definition) → SpellsCreation ts d → sees (k.Create ∷ []) ts ≡ true
 unfolding units.definition

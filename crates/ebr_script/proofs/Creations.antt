@@ -1,22 +1,21 @@
 -- A definition whose tokens don't begin as the creation of an object creates none.
-use Rattle.std.proofs.Common.{◌≡◌, ℕ, Bool, true, false, List, [], ◌∷◌, drop, Option, Some, None, refl, subst, inl, inr}
+use Rattle.std.proofs.Common.{◌≡◌, ℕ, Bool, true, false, List, [], ◌∷◌, ◌++◌, drop, Option, Some, None, refl, sym, ap, subst, ◌∙◌, inl, inr}
 use Rattle.std.specs.Prelude.{◌&&◌}
 use Rattle.ebr_lexer.specs.declared.token.Token.{Token}
 use Rattle.ebr_grammar.specs.declared.kind.Kind.{Kind}
 use Rattle.ebr_grammar.specs.declared.kind.Kind.TheVariants as k
-use Rattle.ebr_grammar.specs.Kinds.{same}
+use Rattle.ebr_grammar.specs.Kinds.{same, names_but}
 use Rattle.ebr_grammar.specs.Forms.{sees}
 use Rattle.ebr_grammar.specs.Grammar.{both, made, named, token, Spells}
 use Rattle.ebr_grammar.specs.Outcome.{named_by}
 use Rattle.ebr_grammar.specs.Choice.{among}
-use Rattle.ebr_grammar.specs.Words.{◌▸◌, ◌◂◌, ◌∣◌, is_there}
+use Rattle.ebr_grammar.specs.Words.{◌▸◌, ◌◂◌, ◌∣◌, maybe, is_there, name}
 use Rattle.ebr_grammar.proofs.Next.{not_both, sees-among}
 use Rattle.ebr_ast.specs.declared.definition.Definition.{Definition}
 use Rattle.ebr_ast.specs.declared.definition.Definition.TheVariants as d
 use Rattle.ebr_ast.specs.declared.definition.ObjectKind.{ObjectKind}
 use Rattle.ebr_ast.specs.declared.definition.ObjectKind.TheVariants as object
-use Rattle.ebr_ddlparse.specs.Base.{name}
-use Rattle.ebr_ddlparse.specs.Definitions.{P, SpellsPart, SpellsDefinition, a_type, parent, create_edition, closed_items, create_table, create_view, create_object, create, default_edition, new_column, closed_column, added_column, alter_table, switch, alter_trigger, alter, drop_edition, drop_object, package_names, dropped_body, maybe_name, drop_package, dropped, definition}
+use Rattle.ebr_ddlparse.specs.Definitions.{P, SpellsPart, SpellsDefinition, a_type, parent, create_edition, closed_items, create_table, create_view, create_object, create, default_edition, new_column, closed_column, added_column, alter_table, switch, alter_trigger, alter, drop_edition, drop_object, dropped_body, drop_package, dropped, definition}
 use Rattle.ebr_ddlparse.proofs.Parts.{reads_views}
 use Rattle.ebr_script.specs.Statements.{creates_object}
 use Rattle.ebr_script.specs.Pieces.{CreatesObject}
@@ -114,8 +113,8 @@ body_is body (Some n) z = z
 drop_package_is : Gives NoObject drop_package
 unfolding drop_package
 drop_package_is =
-    one_of NoObject (both dropped_body (token (k.Body ∷ []) named_by) maybe_name) (made (λ n. d.DropObject object.Package n) (token package_names named_by))
-    (by_two NoObject dropped_body (token (k.Body ∷ []) named_by) maybe_name body_is) (by_one NoObject (λ n. d.DropObject object.Package n) (token package_names named_by) (λ n z. z))
+    one_of NoObject (both dropped_body (token (k.Body ∷ []) named_by) (maybe name)) (made (λ n. d.DropObject object.Package n) (token (names_but (k.Body ∷ [])) named_by))
+    (by_two NoObject dropped_body (token (k.Body ∷ []) named_by) (maybe name) body_is) (by_one NoObject (λ n. d.DropObject object.Package n) (token (names_but (k.Body ∷ [])) named_by) (λ n z. z))
 
 abbrev drop_table : P Definition
 drop_table = made d.DropTable name
@@ -180,8 +179,12 @@ view_begins replace ts x s = sees-among (k.Editioning ∷ []) object_kinds ts ed
 
 object_begins : (ts : List Token) (x : Definition) → Spells SpellsPart (create_object false) ts x → sees object_kinds ts ≡ true
 unfolding create_object
-object_begins ts x (inl s) = sees-among (k.Editionable ∷ []) object_kinds ts editionable_is_one (first_is SpellsPart k.Editionable (create_view false) ts x s)
-object_begins ts x (inr s) = view_begins false ts x s
+object_begins ts x s =
+    elim s.5 [
+      | inl word ↦
+          sees-among (k.Editionable ∷ []) object_kinds ts editionable_is_one (first_is SpellsPart k.Editionable (create_view false) ts x (s.0, s.1, tt, s.3, s.4, (word.0, word.1, word.2, refl), s.6, s.7))
+      | inr none ↦ subst (λ (z : List Token). sees object_kinds z ≡ true) (sym (s.4 ∙ ap (λ (z : List Token). z ++ s.1) none.0)) (view_begins false s.1 s.3 s.6)
+    ]
 
 create_is : (ts : List Token) (x : Definition) → Spells SpellsPart create ts x → sees object_kinds ts ≡ false → NoObject x
 unfolding create

@@ -9,7 +9,8 @@ use Rattle.ebr_grammar.specs.Reading.{whole, first, nullable}
 use Rattle.ebr_grammar.specs.Choice.{apart, among, after, is_clear}
 use Rattle.ebr_grammar.proofs.Next.{sees-apart, sees-among}
 use Rattle.ebr_grammar.proofs.Laws.{which, take_first, take_second, some_is}
-use Rattle.ebr_grammar.proofs.Depth.{whole_sound, whole_complete}
+use Rattle.ebr_grammar.proofs.Outside.{IsReadable}
+use Rattle.ebr_grammar.proofs.Texts.{whole_sound, whole_complete}
 use Rattle.ebr_ast.specs.declared.definition.Statement.{Statement}
 use Rattle.ebr_ast.specs.declared.definition.Statement.TheVariants as statement
 use Rattle.ebr_ast.specs.declared.definition.Definition.{Definition}
@@ -21,42 +22,42 @@ use Rattle.ebr_ddlparse.specs.Definitions as definitions
 use Rattle.ebr_ddlparse.proofs.Whole as ddl
 use Rattle.ebr_plparse.specs.Productions as units
 use Rattle.ebr_plparse.specs.Units as unit_grammar
-use Rattle.ebr_plparse.proofs.WholeTexts as unit_texts
+use Rattle.ebr_plparse.proofs.Reader as unit_texts
 use Rattle.ebr_plparse.proofs.Clear as unit_clear
 use Rattle.ebr_script.specs.Statements.{creates_object, SpellsOneOf, Defines, SpellsStatement, begins_session, creation_of, definition_of, a_block, a_transaction, a_session, a_definition, an_sql, statement_of}
 use Rattle.ebr_script.proofs.Begins.{block_kinds, transaction_kinds, definition_kinds, sql_kinds, sql_begins, transaction_begins, session_begins, session_is_alter, block_begins, creation_begins, definition_begins, other_kinds, definition_is_no_session}
 
 -- ---- each kind by itself
 
-module _ {C : Type 0} (g : sql.P C) (clear : is_clear sql.hints g ≡ true) (full : nullable sql.hints g ≡ false) where
+module _ {C : Type 0} (g : sql.P C) (is : IsReadable sql.hints g) where
   pub sql_sound : (ts : List Token) (c : C) → whole (sql.reads_by g ts) ≡ Some c → sql.SpelledBy g ts c
-  sql_sound ts c e = whole_sound (first sql.hints g) (after sql.hints g) (sql.SpelledBy g) (sql.reads_by g) (reader g clear full) ts c e
+  sql_sound ts c e = whole_sound (reader g is) ts c e
 
   pub sql_complete : (ts : List Token) (c : C) → sql.SpelledBy g ts c → whole (sql.reads_by g ts) ≡ Some c
-  sql_complete ts c s = whole_complete (first sql.hints g) (after sql.hints g) (sql.SpelledBy g) (sql.reads_by g) (reader g clear full) ts c s
+  sql_complete ts c s = whole_complete (reader g is) ts c s
 
-module _ {C : Type 0} (g : units.P C) (clear : is_clear units.hints g ≡ true) (full : nullable units.hints g ≡ false) where
+module _ {C : Type 0} (g : units.P C) (is : IsReadable units.hints g) where
   pub unit_sound : (ts : List Token) (c : C) → whole (units.reads_by g ts) ≡ Some c → units.SpelledBy g ts c
-  unit_sound ts c e = whole_sound (first units.hints g) (after units.hints g) (units.SpelledBy g) (units.reads_by g) (unit_texts.reader g clear full) ts c e
+  unit_sound ts c e = whole_sound (unit_texts.reader g is) ts c e
 
   pub unit_complete : (ts : List Token) (c : C) → units.SpelledBy g ts c → whole (units.reads_by g ts) ≡ Some c
-  unit_complete ts c s = whole_complete (first units.hints g) (after units.hints g) (units.SpelledBy g) (units.reads_by g) (unit_texts.reader g clear full) ts c s
+  unit_complete ts c s = whole_complete (unit_texts.reader g is) ts c s
 
 pub creation_sound : (ts : List Token) (d : Definition) → creation_of ts ≡ Some d → unit_grammar.SpellsCreation ts d
 unfolding creation_of
-creation_sound ts d e = unit_sound unit_grammar.definition unit_clear.definition_clear unit_clear.definition_full ts d e
+creation_sound ts d e = unit_sound unit_grammar.definition unit_clear.definition_is ts d e
 
 pub creation_complete : (ts : List Token) (d : Definition) → unit_grammar.SpellsCreation ts d → creation_of ts ≡ Some d
 unfolding creation_of
-creation_complete ts d s = unit_complete unit_grammar.definition unit_clear.definition_clear unit_clear.definition_full ts d s
+creation_complete ts d s = unit_complete unit_grammar.definition unit_clear.definition_is ts d s
 
 -- ---- definitions
 
 pub other_sound : (ts : List Token) (d : Definition) → whole (definitions.reads_by definitions.definition ts) ≡ Some d → definitions.SpellsDefinition ts d
-other_sound ts d e = ddl.is_found {E = Unit {0}} ts (Ok (Some d)) (sym e)
+other_sound ts d e = whole_sound ddl.reads_definitions ts d e
 
 pub other_complete : (ts : List Token) (d : Definition) → definitions.SpellsDefinition ts d → whole (definitions.reads_by definitions.definition ts) ≡ Some d
-other_complete ts d s = ddl.is_only {E = Unit {0}} ts (Ok (whole (definitions.reads_by definitions.definition ts))) refl d s
+other_complete ts d s = whole_complete ddl.reads_definitions ts d s
 
 sound_of : (b : Bool) (ts : List Token) (d : Definition) → (if b then creation_of ts else whole (definitions.reads_by definitions.definition ts)) ≡ Some d
     → SpellsOneOf b ts d
@@ -157,20 +158,20 @@ sound_fourth : (ts : List Token) (s : Statement) → fourth ts ≡ Some s → Sp
 sound_fourth ts s e =
     elim (which (sees definition_kinds ts) (a_definition ts) (an_sql ts) (Some s) e) [
       | inl it ↦ let m = mapped statement.Definition (definition_of ts) s it.1 in subst (SpellsStatement ts) m.2 (definition_sound ts m.0 m.1)
-      | inr it ↦ let m = mapped statement.Sql (whole (sql.reads_by sql_grammar.sql ts)) s it.1 in subst (SpellsStatement ts) m.2 (sql_sound sql_grammar.sql sql_clear.sql_clear sql_clear.sql_full ts m.0 m.1)
+      | inr it ↦ let m = mapped statement.Sql (whole (sql.reads_by sql_grammar.sql ts)) s it.1 in subst (SpellsStatement ts) m.2 (sql_sound sql_grammar.sql sql_clear.sql_is ts m.0 m.1)
     ]
 
 sound_third : (ts : List Token) (s : Statement) → third ts ≡ Some s → SpellsStatement ts s
 sound_third ts s e =
     elim (which (begins_session ts) (a_session ts) (fourth ts) (Some s) e) [
-      | inl it ↦ let m = mapped statement.SetEdition (whole (sql.reads_by sql_grammar.session ts)) s it.1 in subst (SpellsStatement ts) m.2 (sql_sound sql_grammar.session sql_clear.session_clear sql_clear.session_full ts m.0 m.1)
+      | inl it ↦ let m = mapped statement.SetEdition (whole (sql.reads_by sql_grammar.session ts)) s it.1 in subst (SpellsStatement ts) m.2 (sql_sound sql_grammar.session sql_clear.session_is ts m.0 m.1)
       | inr it ↦ sound_fourth ts s it.1
     ]
 
 sound_second : (ts : List Token) (s : Statement) → second ts ≡ Some s → SpellsStatement ts s
 sound_second ts s e =
     elim (which (sees transaction_kinds ts) (a_transaction ts) (third ts) (Some s) e) [
-      | inl it ↦ let m = mapped statement.Transaction (whole (sql.reads_by sql_grammar.transaction ts)) s it.1 in subst (SpellsStatement ts) m.2 (sql_sound sql_grammar.transaction sql_clear.transaction_clear sql_clear.transaction_full ts m.0 m.1)
+      | inl it ↦ let m = mapped statement.Transaction (whole (sql.reads_by sql_grammar.transaction ts)) s it.1 in subst (SpellsStatement ts) m.2 (sql_sound sql_grammar.transaction sql_clear.transaction_is ts m.0 m.1)
       | inr it ↦ sound_third ts s it.1
     ]
 
@@ -178,7 +179,7 @@ pub statement_sound : (ts : List Token) (s : Statement) → statement_of ts ≡ 
 unfolding statement_of
 statement_sound ts s e =
     elim (which (sees block_kinds ts) (a_block ts) (second ts) (Some s) e) [
-      | inl it ↦ let m = mapped statement.Block (whole (units.reads_by unit_grammar.block ts)) s it.1 in subst (SpellsStatement ts) m.2 (unit_sound unit_grammar.block unit_clear.block_clear unit_clear.block_full ts m.0 m.1)
+      | inl it ↦ let m = mapped statement.Block (whole (units.reads_by unit_grammar.block ts)) s it.1 in subst (SpellsStatement ts) m.2 (unit_sound unit_grammar.block unit_clear.block_is ts m.0 m.1)
       | inr it ↦ sound_second ts s it.1
     ]
 
@@ -188,16 +189,16 @@ complete_fourth ts d s = take_first (sees definition_kinds ts) (a_definition ts)
 pub statement_complete : (ts : List Token) (s : Statement) → SpellsStatement ts s → statement_of ts ≡ Some s
 unfolding statement_of
 statement_complete ts (statement.Block b) s =
-    take_first (sees block_kinds ts) (a_block ts) (second ts) _ (block_begins ts b s) (ap (option_map statement.Block) (unit_complete unit_grammar.block unit_clear.block_clear unit_clear.block_full ts b s))
+    take_first (sees block_kinds ts) (a_block ts) (second ts) _ (block_begins ts b s) (ap (option_map statement.Block) (unit_complete unit_grammar.block unit_clear.block_is ts b s))
 statement_complete ts (statement.Transaction x) s =
     let begun = transaction_begins ts x s in
     take_second (sees block_kinds ts) (a_block ts) (second ts) _ (sees-apart block_kinds transaction_kinds ts blocks_transactions begun)
-    (take_first (sees transaction_kinds ts) (a_transaction ts) (third ts) _ begun (ap (option_map statement.Transaction) (sql_complete sql_grammar.transaction sql_clear.transaction_clear sql_clear.transaction_full ts x s)))
+    (take_first (sees transaction_kinds ts) (a_transaction ts) (third ts) _ begun (ap (option_map statement.Transaction) (sql_complete sql_grammar.transaction sql_clear.transaction_is ts x s)))
 statement_complete ts (statement.SetEdition n) s =
     let alter = session_is_alter ts n s in
     take_second (sees block_kinds ts) (a_block ts) (second ts) _ (sees-apart block_kinds (k.Alter ∷ []) ts blocks_alter alter)
     (take_second (sees transaction_kinds ts) (a_transaction ts) (third ts) _ (sees-apart transaction_kinds (k.Alter ∷ []) ts transactions_alter alter)
-    (take_first (begins_session ts) (a_session ts) (fourth ts) _ (session_begins ts n s) (ap (option_map statement.SetEdition) (sql_complete sql_grammar.session sql_clear.session_clear sql_clear.session_full ts n s))))
+    (take_first (begins_session ts) (a_session ts) (fourth ts) _ (session_begins ts n s) (ap (option_map statement.SetEdition) (sql_complete sql_grammar.session sql_clear.session_is ts n s))))
 statement_complete ts (statement.Definition d) s =
     let begun = begins_of (creates_object ts) ts d s in
     take_second (sees block_kinds ts) (a_block ts) (second ts) _ (sees-apart block_kinds definition_kinds ts blocks_definitions begun)
@@ -209,4 +210,4 @@ statement_complete ts (statement.Sql x) s =
     (take_second (sees transaction_kinds ts) (a_transaction ts) (third ts) _ (sees-apart transaction_kinds sql_kinds ts transactions_sql begun)
     (take_second (begins_session ts) (a_session ts) (fourth ts) _ (other_kinds sql_kinds ts alter_sql begun)
     (take_second (sees definition_kinds ts) (a_definition ts) (an_sql ts) _ (sees-apart definition_kinds sql_kinds ts definitions_sql begun)
-    (ap (option_map statement.Sql) (sql_complete sql_grammar.sql sql_clear.sql_clear sql_clear.sql_full ts x s)))))
+    (ap (option_map statement.Sql) (sql_complete sql_grammar.sql sql_clear.sql_is ts x s)))))

@@ -11,10 +11,10 @@ use Rattle.ebr_script.proofs.statement.a_session.Goals as goal
 
 pub returns-in-Some : goal.returns-in-Some
 returns-in-Some c = ap (option_map statement.SetEdition) (sym c.in-Some.is ∙
-    option_valued (productions.SpelledBy sql_grammar.session c.args.tokens.now) (whole (productions.reads_by sql_grammar.session c.args.tokens.now)) (sql_sound sql_grammar.session sql_clear.session_clear sql_clear.session_full c.args.tokens.now) (sql_complete sql_grammar.session sql_clear.session_clear sql_clear.session_full c.args.tokens.now)
+    option_valued (productions.SpelledBy sql_grammar.session c.args.tokens.now) (whole (productions.reads_by sql_grammar.session c.args.tokens.now)) (sql_sound sql_grammar.session sql_clear.session_is c.args.tokens.now) (sql_complete sql_grammar.session sql_clear.session_is c.args.tokens.now)
     c.in_ok-tree.field-0 c.in_ok-tree.ensures.found c.in_ok-tree.ensures.only)
 
 pub returns-in-None : goal.returns-in-None
 returns-in-None c = ap (option_map statement.SetEdition) (sym c.in-None.is ∙
-    option_valued (productions.SpelledBy sql_grammar.session c.args.tokens.now) (whole (productions.reads_by sql_grammar.session c.args.tokens.now)) (sql_sound sql_grammar.session sql_clear.session_clear sql_clear.session_full c.args.tokens.now) (sql_complete sql_grammar.session sql_clear.session_clear sql_clear.session_full c.args.tokens.now)
+    option_valued (productions.SpelledBy sql_grammar.session c.args.tokens.now) (whole (productions.reads_by sql_grammar.session c.args.tokens.now)) (sql_sound sql_grammar.session sql_clear.session_is c.args.tokens.now) (sql_complete sql_grammar.session sql_clear.session_is c.args.tokens.now)
     c.in_ok-tree.field-0 c.in_ok-tree.ensures.found c.in_ok-tree.ensures.only)

@@ -11,10 +11,10 @@ use Rattle.ebr_script.proofs.statement.an_sql.Goals as goal
 
 pub returns-in-Some : goal.returns-in-Some
 returns-in-Some c = ap (option_map statement.Sql) (sym c.in-Some.is ∙
-    option_valued (productions.SpelledBy sql_grammar.sql c.args.tokens.now) (whole (productions.reads_by sql_grammar.sql c.args.tokens.now)) (sql_sound sql_grammar.sql sql_clear.sql_clear sql_clear.sql_full c.args.tokens.now) (sql_complete sql_grammar.sql sql_clear.sql_clear sql_clear.sql_full c.args.tokens.now)
+    option_valued (productions.SpelledBy sql_grammar.sql c.args.tokens.now) (whole (productions.reads_by sql_grammar.sql c.args.tokens.now)) (sql_sound sql_grammar.sql sql_clear.sql_is c.args.tokens.now) (sql_complete sql_grammar.sql sql_clear.sql_is c.args.tokens.now)
     c.in_ok-tree.field-0 c.in_ok-tree.ensures.found c.in_ok-tree.ensures.only)
 
 pub returns-in-None : goal.returns-in-None
 returns-in-None c = ap (option_map statement.Sql) (sym c.in-None.is ∙
-    option_valued (productions.SpelledBy sql_grammar.sql c.args.tokens.now) (whole (productions.reads_by sql_grammar.sql c.args.tokens.now)) (sql_sound sql_grammar.sql sql_clear.sql_clear sql_clear.sql_full c.args.tokens.now) (sql_complete sql_grammar.sql sql_clear.sql_clear sql_clear.sql_full c.args.tokens.now)
+    option_valued (productions.SpelledBy sql_grammar.sql c.args.tokens.now) (whole (productions.reads_by sql_grammar.sql c.args.tokens.now)) (sql_sound sql_grammar.sql sql_clear.sql_is c.args.tokens.now) (sql_complete sql_grammar.sql sql_clear.sql_is c.args.tokens.now)
     c.in_ok-tree.field-0 c.in_ok-tree.ensures.found c.in_ok-tree.ensures.only)
