@@ -1,13 +1,17 @@
 //! Definitions, and whole statements of a script.
 
+ghost use Rattle.std.specs.Prelude.{◌≡◌, IfOk};
+ghost use Rattle.ebr_ast.specs.declared.definition.Definition.TheVariants as variants;
+
+use crate::copies::three;
 use crate::sql::{SqlTree, Transaction};
 use crate::statement::{Block, DeclaredType};
 use crate::unit::UnitTree;
-use ebr_base::{CloneIn, List, Name, NoMemory, Shared};
+use ebr_base::{CloneIn, List, Name, NoMemory, Shared, both};
 use std::alloc::Global;
 
 /// A statement of a script.
-#[derive(Debug, Drop)]
+#[derive(Drop)]
 pub enum Statement {
     Sql(SqlTree),
     Transaction(Transaction),
@@ -69,7 +73,7 @@ pub struct ColumnTree {
     pub constraints: List<ColumnConstraint>,
 }
 
-#[derive(Clone, Copy, Debug, PartialEq, Eq)]
+#[derive(Clone, Copy, Debug)]
 pub enum ColumnConstraint {
     NotNull,
     PrimaryKey,
@@ -101,10 +105,7 @@ impl CloneIn for Statement {
 impl CloneIn for Definition {
     fn clone_in(&self, alloc: Global) -> Result<Definition, NoMemory> {
         match self {
-            Definition::CreateEdition { name, parent } => Ok(Definition::CreateEdition {
-                name: name.clone_in(alloc)?,
-                parent: parent.clone_in(alloc)?,
-            }),
+            Definition::CreateEdition { name, parent } => create_edition(alloc, name, parent),
             Definition::DropEdition { name, cascade } => Ok(Definition::DropEdition {
                 name: name.clone_in(alloc)?,
                 cascade: *cascade,
@@ -112,16 +113,10 @@ impl CloneIn for Definition {
             Definition::DefaultEdition(name) => {
                 Ok(Definition::DefaultEdition(name.clone_in(alloc)?))
             }
-            Definition::CreateTable { name, columns, key } => Ok(Definition::CreateTable {
-                name: name.clone_in(alloc)?,
-                columns: columns.clone_in(alloc)?,
-                key: key.clone_in(alloc)?,
-            }),
-            Definition::AddColumn { table, column, ty } => Ok(Definition::AddColumn {
-                table: table.clone_in(alloc)?,
-                column: column.clone_in(alloc)?,
-                ty: ty.clone_in(alloc)?,
-            }),
+            Definition::CreateTable { name, columns, key } => {
+                create_table(alloc, name, columns, key)
+            }
+            Definition::AddColumn { table, column, ty } => add_column(alloc, table, column, ty),
             Definition::DropTable(name) => Ok(Definition::DropTable(name.clone_in(alloc)?)),
             Definition::AlterTrigger { name, enabled } => Ok(Definition::AlterTrigger {
                 name: name.clone_in(alloc)?,
@@ -139,12 +134,44 @@ impl CloneIn for Definition {
     }
 }
 
+fn create_edition(alloc: Global, name: &Name, parent: &Option<Name>) -> Result<Definition, NoMemory>
+    ensures { IfOk result (λ copy. copy ≡ variants.CreateEdition name.now parent.now) }
+{
+    let (name, parent) = both(alloc, name, parent)?;
+    Ok(Definition::CreateEdition { name, parent })
+}
+
+fn create_table(
+    alloc: Global,
+    name: &Name,
+    columns: &List<ColumnTree>,
+    key: &List<Name>,
+) -> Result<Definition, NoMemory>
+    ensures { IfOk result (λ copy. copy ≡ variants.CreateTable name.now columns.now key.now) }
+{
+    let (name, columns, key) = three(alloc, name, columns, key)?;
+    Ok(Definition::CreateTable { name, columns, key })
+}
+
+fn add_column(
+    alloc: Global,
+    table: &Name,
+    column: &Name,
+    ty: &DeclaredType,
+) -> Result<Definition, NoMemory>
+    ensures { IfOk result (λ copy. copy ≡ variants.AddColumn table.now column.now ty.now) }
+{
+    let (table, column, ty) = three(alloc, table, column, ty)?;
+    Ok(Definition::AddColumn { table, column, ty })
+}
+
 impl CloneIn for ColumnTree {
     fn clone_in(&self, alloc: Global) -> Result<ColumnTree, NoMemory> {
+        let (name, ty, constraints) = three(alloc, &self.name, &self.ty, &self.constraints)?;
         Ok(ColumnTree {
-            name: self.name.clone_in(alloc)?,
-            ty: self.ty.clone_in(alloc)?,
-            constraints: self.constraints.clone_in(alloc)?,
+            name,
+            ty,
+            constraints,
         })
     }
 }

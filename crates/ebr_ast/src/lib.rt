@@ -1,8 +1,8 @@
 //! Syntax trees of SQL and PL/SQL, and what an edition sees of the catalogue.
 #![tactic(auto)]
 
+mod copies;
 mod definition;
-mod expression;
 mod kinds;
 mod query;
 mod sql;
@@ -11,8 +11,8 @@ mod unit;
 mod view;
 
 pub use definition::{ColumnConstraint, ColumnTree, Definition, ObjectKind, Statement};
-pub use expression::{Addend, AdditiveOperator, Attribute, Comparison, Expr, Path, RowImage};
-pub use kinds::{Op, Origin, Timing};
+pub use ebr_exprtree::{Addend, AdditiveOperator, Attribute, Comparison, Expr, Op, Path, RowImage};
+pub use kinds::{Origin, Timing};
 pub use query::{Aggregate, Item, ItemKind, Query, SelectList, SortKey, Source};
 pub use sql::{Assignment, Delete, Insert, SqlTree, Transaction, Update};
 pub use statement::{

@@ -1,7 +1,7 @@
 //! Queries.
 
-use crate::expression::Expr;
 use ebr_base::{List, Name, Shared};
+use ebr_exprtree::Expr;
 
 /// A query: `SELECT list FROM sources WHERE filter ORDER BY order FOR UPDATE`.
 #[derive(Debug, Drop)]

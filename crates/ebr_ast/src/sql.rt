@@ -1,8 +1,8 @@
 //! SQL statements.
 
-use crate::expression::Expr;
 use crate::query::Query;
 use ebr_base::{CloneIn, List, Name, NoMemory, Shared};
+use ebr_exprtree::Expr;
 use std::alloc::Global;
 
 /// A statement that reads or changes rows.

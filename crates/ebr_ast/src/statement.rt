@@ -1,9 +1,9 @@
 //! Blocks, declarations and statements of PL/SQL.
 
-use crate::expression::{Expr, Path};
 use crate::query::Query;
 use crate::sql::{Delete, Insert, Transaction, Update};
-use ebr_base::{CloneIn, List, Name, NoMemory, Shared};
+use ebr_base::{CloneIn, List, Name, NoMemory, Shared, both};
+use ebr_exprtree::{Expr, Path};
 use std::alloc::Global;
 
 /// A block: its declarations, its statements, and the handlers of their exceptions.
@@ -151,8 +151,8 @@ impl CloneIn for DeclaredType {
             DeclaredType::Varchar2(bytes) => Ok(DeclaredType::Varchar2(*bytes)),
             DeclaredType::Boolean => Ok(DeclaredType::Boolean),
             DeclaredType::OfColumn(table, column) => {
-                let table = table.clone_in(alloc)?;
-                Ok(DeclaredType::OfColumn(table, column.clone_in(alloc)?))
+                let (table, column) = both(alloc, table, column)?;
+                Ok(DeclaredType::OfColumn(table, column))
             }
         }
     }

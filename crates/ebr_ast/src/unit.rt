@@ -1,8 +1,9 @@
 //! Stored units: procedures, functions, packages, triggers and editioning views.
 
-use crate::kinds::{Op, Timing};
+use crate::kinds::Timing;
 use crate::statement::{Block, Decl, Handler, Stmt};
-use ebr_base::{CloneIn, List, Name, NoMemory, Shared};
+use ebr_base::{CloneIn, List, Name, NoMemory, Shared, both};
+use ebr_exprtree::Op;
 use std::alloc::Global;
 
 /// A unit.
@@ -122,8 +123,8 @@ impl CloneIn for UnitTree {
         match self {
             UnitTree::Subprogram(unit) => Ok(UnitTree::Subprogram(unit.clone_in(alloc)?)),
             UnitTree::Package(name, items) => {
-                let items = items.clone_in(alloc)?;
-                Ok(UnitTree::Package(name.clone_in(alloc)?, items))
+                let (name, items) = both(alloc, name, items)?;
+                Ok(UnitTree::Package(name, items))
             }
             UnitTree::PackageBody(body) => Ok(UnitTree::PackageBody(body.clone_in(alloc)?)),
             UnitTree::Trigger(trigger) => Ok(UnitTree::Trigger(trigger.clone_in(alloc)?)),

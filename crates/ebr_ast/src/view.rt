@@ -1,11 +1,14 @@
 //! What an edition sees of the catalogue.
 
+use crate::copies::three;
 use crate::unit::UnitTree;
-use ebr_base::{Bytes, CloneIn, EditionNo, List, NoMemory, ObjectKey, Stamp, TableDef};
+use ebr_base::{
+    Bytes, CloneIn, EditionNo, List, NoMemory, ObjectKey, Shared, Stamp, TableDef, both,
+};
 use std::alloc::Global;
 
 /// A stored object.
-#[derive(Debug, Drop)]
+#[derive(Drop)]
 pub struct Object {
     pub key: ObjectKey,
     /// The text that created it, from the first token to the last.
@@ -19,21 +22,22 @@ pub struct Object {
 }
 
 /// All that an edition sees.
-#[derive(Debug, Drop)]
+#[derive(Drop)]
 pub struct EditionView {
     pub edition: EditionNo,
-    /// The visible objects in order of class and then of name.
-    pub objects: List<Object>,
+    /// The visible objects in order of class and then of name, shared with the catalogue.
+    pub objects: List<Shared<Object>>,
     /// The living tables in order of id.
     pub tables: List<TableDef>,
 }
 
 impl CloneIn for Object {
     fn clone_in(&self, alloc: Global) -> Result<Object, NoMemory> {
+        let (key, text, tree) = three(alloc, &self.key, &self.text, &self.tree)?;
         Ok(Object {
-            key: self.key.clone_in(alloc)?,
-            text: self.text.clone_in(alloc)?,
-            tree: self.tree.clone_in(alloc)?,
+            key,
+            text,
+            tree,
             stamp: self.stamp,
             enabled: self.enabled,
         })
@@ -42,10 +46,11 @@ impl CloneIn for Object {
 
 impl CloneIn for EditionView {
     fn clone_in(&self, alloc: Global) -> Result<EditionView, NoMemory> {
+        let (objects, tables) = both(alloc, &self.objects, &self.tables)?;
         Ok(EditionView {
             edition: self.edition,
-            objects: self.objects.clone_in(alloc)?,
-            tables: self.tables.clone_in(alloc)?,
+            objects,
+            tables,
         })
     }
 }

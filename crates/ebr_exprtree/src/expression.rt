@@ -1,7 +1,7 @@
 //! Expressions.
 
-use crate::kinds::Op;
-use ebr_base::{Bytes, CloneIn, List, Name, NoMemory, Shared};
+use crate::op::Op;
+use ebr_base::{Bytes, CloneIn, List, Name, NoMemory, Shared, both};
 use std::alloc::Global;
 
 /// `n` or `n.m`.
@@ -13,10 +13,8 @@ pub struct Path {
 
 impl CloneIn for Path {
     fn clone_in(&self, alloc: Global) -> Result<Path, NoMemory> {
-        Ok(Path {
-            name: self.name.clone_in(alloc)?,
-            member: self.member.clone_in(alloc)?,
-        })
+        let (name, member) = both(alloc, &self.name, &self.member)?;
+        Ok(Path { name, member })
     }
 }
 
