@@ -8,7 +8,7 @@ use ebr_lexer::{Symbol, Token, TokenKind};
 /// What a token is to the grammar.
 ///
 /// A word of the grammar has a kind of its own, whether it is reserved or not.
-#[derive(Clone, Copy, Debug, PartialEq, Eq)]
+#[derive(Clone, Copy)]
 pub enum Kind {
     /// A word that the grammar doesn't use.
     Name,
