@@ -7,7 +7,7 @@ use Rattle.ebr_grammar.proofs.Right.{IsReader}
 use Rattle.ebr_grammar.proofs.Laws.{bind_some, some_is}
 use Rattle.ebr_grammar.proofs.Depth.{reader}
 use Rattle.ebr_grammar.proofs.Places.{found_at, agree_at, none_at}
-use Rattle.ebr_ast.specs.declared.expression.Expr.{Expr}
+use Rattle.ebr_exprtree.specs.declared.expression.Expr.{Expr}
 use Rattle.ebr_exprparse.specs.declared.level.Level.TheVariants.{Whole}
 use Rattle.ebr_exprparse.specs.Expressions.{Read, grammar, hints, begins, goes_on, read_within, read_expression, tree_of, SpellsExpr, IsAt, goes_on_at}
 use Rattle.ebr_exprparse.proofs.Clear.{clear}

@@ -12,19 +12,19 @@ use Rattle.ebr_grammar.specs.Grammar.{Production, token, word, nothing, both, ma
 use Rattle.ebr_grammar.specs.Reading.{and_then, before, Hints, reads, reads_within}
 use Rattle.ebr_grammar.specs.Outcome.{number_of, content_of, named_by}
 use Rattle.ebr_grammar.specs.Words.{mark, ◌▸◌, ◌◂◌, ◌∣◌, maybe, name, is_there, all}
-use Rattle.ebr_ast.specs.declared.expression.Expr.{Expr}
-use Rattle.ebr_ast.specs.declared.expression.Expr.TheVariants as e
-use Rattle.ebr_ast.specs.declared.expression.Addend.{Addend, roll-Addend}
-use Rattle.ebr_ast.specs.declared.expression.Path.{Path}
-use Rattle.ebr_ast.specs.declared.expression.Comparison.{Comparison}
-use Rattle.ebr_ast.specs.declared.expression.Comparison.TheVariants as compared
-use Rattle.ebr_ast.specs.declared.expression.AdditiveOperator.{AdditiveOperator}
-use Rattle.ebr_ast.specs.declared.expression.AdditiveOperator.TheVariants as additive
-use Rattle.ebr_ast.specs.declared.expression.RowImage.{RowImage}
-use Rattle.ebr_ast.specs.declared.expression.RowImage.TheVariants as image
-use Rattle.ebr_ast.specs.declared.expression.Attribute.{Attribute}
-use Rattle.ebr_ast.specs.declared.expression.Attribute.TheVariants as attribute_of
-use Rattle.ebr_ast.specs.declared.kinds.Op.TheVariants as op
+use Rattle.ebr_exprtree.specs.declared.expression.Expr.{Expr}
+use Rattle.ebr_exprtree.specs.declared.expression.Expr.TheVariants as e
+use Rattle.ebr_exprtree.specs.declared.expression.Addend.{Addend, roll-Addend}
+use Rattle.ebr_exprtree.specs.declared.expression.Path.{Path}
+use Rattle.ebr_exprtree.specs.declared.expression.Comparison.{Comparison}
+use Rattle.ebr_exprtree.specs.declared.expression.Comparison.TheVariants as compared
+use Rattle.ebr_exprtree.specs.declared.expression.AdditiveOperator.{AdditiveOperator}
+use Rattle.ebr_exprtree.specs.declared.expression.AdditiveOperator.TheVariants as additive
+use Rattle.ebr_exprtree.specs.declared.expression.RowImage.{RowImage}
+use Rattle.ebr_exprtree.specs.declared.expression.RowImage.TheVariants as image
+use Rattle.ebr_exprtree.specs.declared.expression.Attribute.{Attribute}
+use Rattle.ebr_exprtree.specs.declared.expression.Attribute.TheVariants as attribute_of
+use Rattle.ebr_exprtree.specs.declared.op.Op.TheVariants as op
 use Rattle.ebr_exprparse.specs.declared.level.Level.{Level}
 use Rattle.ebr_exprparse.specs.declared.level.Level.TheVariants.{Whole, Sum}
 

@@ -1,7 +1,7 @@
 -- Expressions, as a form of another grammar.
 use Rattle.ebr_grammar.specs.Forms.{Outer}
 use Rattle.ebr_grammar.specs.Grammar.{Production, outer}
-use Rattle.ebr_ast.specs.declared.expression.Expr.{Expr}
+use Rattle.ebr_exprtree.specs.declared.expression.Expr.{Expr}
 use Rattle.ebr_exprparse.specs.declared.level.Level.TheVariants.{Whole}
 use Rattle.ebr_exprparse.specs.Expressions.{begins, goes_on, SpellsExpr, read_expression}
 

@@ -11,8 +11,8 @@ use crate::trees::{
     Read, Tree, between, compared, conjoined, disjoined, like, name_or_call, negated, path,
     product, quotient, summed,
 };
-use ebr_ast::{Addend, AdditiveOperator, Attribute, Comparison, Expr, Op, RowImage};
 use ebr_base::{List, Name, Shared};
+use ebr_exprtree::{Addend, AdditiveOperator, Attribute, Comparison, Expr, Op, RowImage};
 use ebr_grammar::{Kind, ReadStop, Tokens, ended, shared};
 use std::alloc::Global;
 

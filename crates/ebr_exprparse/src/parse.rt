@@ -2,7 +2,7 @@
 
 ghost use Rattle.std.specs.Prelude.{◌≡◌, ◌≤◌, ◌<◌, length, false, ℕ, IfOk, IfSome, Some};
 ghost use Rattle.ebr_grammar.specs.Outcome.{Reads};
-ghost use Rattle.ebr_ast.specs.declared.expression.Expr.{Expr as Expression};
+ghost use Rattle.ebr_exprtree.specs.declared.expression.Expr.{Expr as Expression};
 ghost use Rattle.ebr_exprparse.specs.Expressions as spec;
 
 use crate::expression::Grammar;

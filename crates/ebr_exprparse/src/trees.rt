@@ -5,8 +5,8 @@ ghost use Rattle.ebr_lexer.specs.declared.token.Token.{Token};
 ghost use Rattle.ebr_grammar.specs.Outcome.{Reads};
 ghost use Rattle.ebr_exprparse.specs.Expressions as spec;
 
-use ebr_ast::{Addend, Comparison, Expr, Path};
 use ebr_base::{List, Name, NoMemory, Shared};
+use ebr_exprtree::{Addend, Comparison, Expr, Path};
 use ebr_grammar::{ReadStop, shared};
 use std::alloc::Global;
 

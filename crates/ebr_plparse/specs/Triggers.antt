@@ -6,8 +6,8 @@ use Rattle.std.specs.Prelude.{ℕ, Bool, true, false, List, ◌∷◌, Option, S
 use Rattle.ebr_grammar.specs.declared.kind.Kind.TheVariants as k
 use Rattle.ebr_grammar.specs.Grammar.{word, nothing, both, many}
 use Rattle.ebr_grammar.specs.Words.{mark, ◌▸◌, ◌∣◌, name}
-use Rattle.ebr_ast.specs.declared.kinds.Op.{Op}
-use Rattle.ebr_ast.specs.declared.kinds.Op.TheVariants as op
+use Rattle.ebr_exprtree.specs.declared.op.Op.{Op}
+use Rattle.ebr_exprtree.specs.declared.op.Op.TheVariants as op
 use Rattle.ebr_ast.specs.declared.kinds.Timing.{Timing}
 use Rattle.ebr_ast.specs.declared.kinds.Timing.TheVariants as timing_of
 use Rattle.ebr_ast.specs.declared.statement.Block.{Block}

@@ -8,8 +8,8 @@ use Rattle.ebr_grammar.specs.declared.kind.Kind.TheVariants as k
 use Rattle.ebr_grammar.specs.Forms.{Form}
 use Rattle.ebr_grammar.specs.Grammar.{made, tested, led}
 use Rattle.ebr_grammar.specs.Words.{◌▸◌, ◌∣◌, past}
-use Rattle.ebr_ast.specs.declared.expression.Expr.{Expr}
-use Rattle.ebr_ast.specs.declared.expression.Path.{Path}
+use Rattle.ebr_exprtree.specs.declared.expression.Expr.{Expr}
+use Rattle.ebr_exprtree.specs.declared.expression.Path.{Path}
 use Rattle.ebr_ast.specs.declared.statement.Block.{Block, roll-Block}
 use Rattle.ebr_ast.specs.declared.statement.Stmt.TheVariants as s
 use Rattle.ebr_ast.specs.declared.definition.Definition.{Definition}

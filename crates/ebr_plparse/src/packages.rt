@@ -16,7 +16,7 @@ use ebr_stmtparse::{Initial, read_body, read_declaration, read_initial};
 use std::alloc::Global;
 
 /// What a package's body holds.
-#[derive(Debug, Drop)]
+#[derive(Drop)]
 pub struct BodyMembers {
     pub declarations: List<Decl>,
     pub subprograms: List<Subprogram>,

@@ -13,7 +13,7 @@ use ebr_stmtparse::read_block;
 use std::alloc::Global;
 
 /// When a trigger fires, and on what table or editioning view.
-#[derive(Debug, Drop)]
+#[derive(Drop)]
 pub struct EventClause {
     pub timing: Timing,
     pub events: List<Op>,
@@ -21,7 +21,7 @@ pub struct EventClause {
 }
 
 /// Whether a trigger is a crossedition trigger, and whether it is enabled.
-#[derive(Clone, Copy, Debug)]
+#[derive(Clone, Copy)]
 pub struct TriggerOptions {
     pub crossedition: Option<Direction>,
     pub enabled: bool,

@@ -11,7 +11,7 @@ use Rattle.ebr_grammar.specs.Grammar.{Production, token, word, nothing, both, or
 use Rattle.ebr_grammar.specs.Choice.{apart}
 use Rattle.ebr_grammar.proofs.Next.{or_false, same_is, member-apart}
 use Rattle.ebr_grammar.proofs.Laws.{which, if_some}
-use Rattle.ebr_ast.specs.declared.expression.Expr.{Expr}
+use Rattle.ebr_exprtree.specs.declared.expression.Expr.{Expr}
 use Rattle.ebr_exprparse.specs.declared.level.Level.{Level}
 use Rattle.ebr_exprparse.specs.declared.level.Level.TheVariants.{Whole, Sum}
 use Rattle.ebr_exprparse.specs.Expressions.{grammar, sum_alone, disjunction, more_conjunctions, conjoined_tree, conjunction, more_negations, negated_tree, negation, comparison, comparison_tail, signed, sign, test, membership, null_test, pattern, range, range_end, in_list, closed_list, sum, more_terms, addend, operator, term, more_factors, factor, primary, reference, constant, row_column, row_image, closed, name_tail, trunc_tail, trunc_arguments, trunc_end, trunc_call, divisor, inner, inner_sum, sql_attribute, statement_attribute, attribute, member as member_tail, given, arguments, list, more_items, SpellsExpr}

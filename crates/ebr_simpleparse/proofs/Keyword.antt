@@ -15,11 +15,11 @@ use Rattle.ebr_grammar.specs.Choice.{apart, among, is_clear}
 use Rattle.ebr_grammar.proofs.Next.{and_true, not_true, not_both, member-apart, member-among, sees-append, sees-apart, sees-among}
 use Rattle.ebr_grammar.proofs.Right.{foreign, AreRight}
 use Rattle.ebr_grammar.proofs.Laws.{begun, begun_first}
-use Rattle.ebr_ast.specs.declared.expression.Addend.{Addend}
-use Rattle.ebr_ast.specs.declared.expression.AdditiveOperator.{AdditiveOperator}
-use Rattle.ebr_ast.specs.declared.expression.Comparison.{Comparison}
-use Rattle.ebr_ast.specs.declared.expression.Expr.{Expr}
-use Rattle.ebr_ast.specs.declared.expression.Expr.TheVariants as e
+use Rattle.ebr_exprtree.specs.declared.expression.Addend.{Addend}
+use Rattle.ebr_exprtree.specs.declared.expression.AdditiveOperator.{AdditiveOperator}
+use Rattle.ebr_exprtree.specs.declared.expression.Comparison.{Comparison}
+use Rattle.ebr_exprtree.specs.declared.expression.Expr.{Expr}
+use Rattle.ebr_exprtree.specs.declared.expression.Expr.TheVariants as e
 use Rattle.ebr_exprparse.specs.declared.level.Level.TheVariants.{Whole}
 use Rattle.ebr_exprparse.specs.Expressions.{P, Read, signs as comparison_signs, begins, goes_on, grammar, hints, disjunction, more_conjunctions, conjoined_tree, conjunction, more_negations, negated_tree, negation, comparison, comparison_tail, signed, sign, test, membership, null_test, pattern, range, range_end, in_list, closed_list, sum, more_terms, operators, addend, operator, term, more_factors, factor, primary, reference, constant, constants, row_column, row_image, closed, name_tail, trunc_tail, trunc_arguments, trunc_end, trunc_call, divisor, inner, inner_sum, sql_attribute, statement_attribute, attribute, member as member_tail, given, arguments, list, more_items, SpellsExpr}
 use Rattle.ebr_exprparse.proofs.Whole.{reads_expressions}

@@ -7,7 +7,7 @@ use Rattle.ebr_grammar.specs.Kinds.{kind_of, member}
 use Rattle.ebr_grammar.specs.Forms.{sees}
 use Rattle.ebr_grammar.specs.Grammar.{both, Spells, SpellsAny}
 use Rattle.ebr_grammar.proofs.Outside as outside
-use Rattle.ebr_ast.specs.declared.expression.Expr.TheVariants as e
+use Rattle.ebr_exprtree.specs.declared.expression.Expr.TheVariants as e
 use Rattle.ebr_exprparse.specs.declared.level.Level.{Level}
 use Rattle.ebr_exprparse.specs.declared.level.Level.TheVariants.{Whole}
 use Rattle.ebr_exprparse.specs.Expressions.{P, Read, joined, summed, combined, hints, grammar, disjunction, more_conjunctions, conjunction, more_negations, negation, comparison, comparison_tail, sum, more_terms, term, more_factors, factor}

@@ -11,7 +11,7 @@ use Rattle.ebr_grammar.proofs.Next.{and_true, cases_bool, not_both, member-apart
 use Rattle.ebr_grammar.proofs.Right.{IsReader, widened}
 use Rattle.ebr_grammar.proofs.Laws.{which, take_first, take_second}
 use Rattle.ebr_exprparse.specs.declared.level.Level.TheVariants.{Whole}
-use Rattle.ebr_ast.specs.declared.expression.Expr.{Expr}
+use Rattle.ebr_exprtree.specs.declared.expression.Expr.{Expr}
 use Rattle.ebr_exprparse.specs.Expressions.{begins, goes_on, SpellsExpr}
 use Rattle.ebr_exprparse.proofs.Whole.{reads_expressions}
 use Rattle.ebr_simpleparse.specs.Types.{SpelledPlainly, reads_plainly}

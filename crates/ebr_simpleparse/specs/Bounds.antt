@@ -5,7 +5,7 @@ use Rattle.ebr_grammar.specs.declared.kind.Kind.TheVariants as k
 use Rattle.ebr_grammar.specs.Forms.{Form}
 use Rattle.ebr_grammar.specs.Grammar.{outer}
 use Rattle.ebr_grammar.specs.Words.{◌▸◌, ◌◂◌}
-use Rattle.ebr_ast.specs.declared.expression.Expr.{Expr}
+use Rattle.ebr_exprtree.specs.declared.expression.Expr.{Expr}
 use Rattle.ebr_exprparse.specs.Parts.{expression}
 use Rattle.ebr_simpleparse.specs.Types.{Plain, SpelledPlainly}
 

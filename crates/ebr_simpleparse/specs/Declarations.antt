@@ -10,7 +10,7 @@ use Rattle.ebr_grammar.specs.Kinds.{name_kinds}
 use Rattle.ebr_grammar.specs.Grammar.{token, word, nothing, both, made, named, outer}
 use Rattle.ebr_grammar.specs.Outcome.{number_of}
 use Rattle.ebr_grammar.specs.Words.{◌▸◌, ◌◂◌, ◌∣◌, name}
-use Rattle.ebr_ast.specs.declared.expression.Expr.{Expr}
+use Rattle.ebr_exprtree.specs.declared.expression.Expr.{Expr}
 use Rattle.ebr_ast.specs.declared.query.Query.{Query}
 use Rattle.ebr_ast.specs.declared.statement.Decl.{Decl}
 use Rattle.ebr_ast.specs.declared.statement.Decl.TheVariants as decl

@@ -8,7 +8,7 @@ use Rattle.ebr_grammar.specs.Kinds.{name_kinds}
 use Rattle.ebr_grammar.specs.Forms.{Form, Reader, sees, either, by_test}
 use Rattle.ebr_grammar.specs.Grammar.{both, made, named, outer}
 use Rattle.ebr_grammar.specs.Words.{◌▸◌, ◌◂◌, ◌∣◌, name}
-use Rattle.ebr_ast.specs.declared.expression.Expr.{Expr}
+use Rattle.ebr_exprtree.specs.declared.expression.Expr.{Expr}
 use Rattle.ebr_ast.specs.declared.statement.RowsFrom.{RowsFrom}
 use Rattle.ebr_ast.specs.declared.statement.RowsFrom.TheVariants as rows_of
 use Rattle.ebr_sqlparse.specs.Parts.{query_part}

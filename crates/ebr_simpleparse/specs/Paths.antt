@@ -6,8 +6,8 @@ use Rattle.std.specs.Str.{bytes_eq}
 use Rattle.ebr_grammar.specs.declared.kind.Kind.TheVariants as k
 use Rattle.ebr_grammar.specs.Grammar.{word, both, many, made}
 use Rattle.ebr_grammar.specs.Words.{◌▸◌, ◌◂◌, ◌∣◌, maybe, name}
-use Rattle.ebr_ast.specs.declared.expression.Expr.{Expr}
-use Rattle.ebr_ast.specs.declared.expression.Path.{Path}
+use Rattle.ebr_exprtree.specs.declared.expression.Expr.{Expr}
+use Rattle.ebr_exprtree.specs.declared.expression.Path.{Path}
 use Rattle.ebr_ast.specs.declared.statement.Caught.{Caught}
 use Rattle.ebr_ast.specs.declared.statement.Caught.TheVariants as caught_of
 use Rattle.ebr_ast.specs.declared.statement.Target.{Target}

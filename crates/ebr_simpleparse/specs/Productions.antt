@@ -6,7 +6,7 @@ use Rattle.ebr_grammar.specs.Kinds.{name_kinds}
 use Rattle.ebr_grammar.specs.Forms.{Form, Reader}
 use Rattle.ebr_grammar.specs.Grammar.{Production, Spells}
 use Rattle.ebr_grammar.specs.Reading.{Hints, reads}
-use Rattle.ebr_ast.specs.declared.expression.Expr.{Expr}
+use Rattle.ebr_exprtree.specs.declared.expression.Expr.{Expr}
 use Rattle.ebr_exprparse.specs.declared.level.Level.TheVariants.{Whole}
 use Rattle.ebr_exprparse.specs.Expressions as expressions
 use Rattle.ebr_exprparse.specs.Parts as parts

@@ -12,8 +12,8 @@ use Rattle.ebr_grammar.specs.Kinds.{name_kinds}
 use Rattle.ebr_grammar.specs.Grammar.{token, word, both, made, led, outer}
 use Rattle.ebr_grammar.specs.Outcome.{number_of}
 use Rattle.ebr_grammar.specs.Words.{◌▸◌, ◌◂◌, ◌∣◌, maybe, name}
-use Rattle.ebr_ast.specs.declared.expression.Expr.{Expr}
-use Rattle.ebr_ast.specs.declared.expression.Path.{Path}
+use Rattle.ebr_exprtree.specs.declared.expression.Expr.{Expr}
+use Rattle.ebr_exprtree.specs.declared.expression.Path.{Path}
 use Rattle.ebr_ast.specs.declared.query.Query.{Query}
 use Rattle.ebr_ast.specs.declared.query.SelectList.{SelectList}
 use Rattle.ebr_ast.specs.declared.statement.Stmt.{Stmt}

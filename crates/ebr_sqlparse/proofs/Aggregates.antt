@@ -11,11 +11,11 @@ use Rattle.ebr_grammar.specs.Choice.{apart, among}
 use Rattle.ebr_grammar.specs.Outcome.{named_by}
 use Rattle.ebr_grammar.specs.Words.{◌▸◌, all}
 use Rattle.ebr_grammar.proofs.Next.{member-among, sees-append, sees-apart}
-use Rattle.ebr_ast.specs.declared.expression.Expr.{Expr}
-use Rattle.ebr_ast.specs.declared.expression.Expr.TheVariants as e
-use Rattle.ebr_ast.specs.declared.expression.Expr.TheOpen as form
-use Rattle.ebr_ast.specs.declared.expression.Expr.TheViews.{out-roll-Expr}
-use Rattle.ebr_ast.specs.declared.expression.Expr as rolled
+use Rattle.ebr_exprtree.specs.declared.expression.Expr.{Expr}
+use Rattle.ebr_exprtree.specs.declared.expression.Expr.TheVariants as e
+use Rattle.ebr_exprtree.specs.declared.expression.Expr.TheOpen as form
+use Rattle.ebr_exprtree.specs.declared.expression.Expr.TheViews.{out-roll-Expr}
+use Rattle.ebr_exprtree.specs.declared.expression.Expr as rolled
 use denote.Hole.Carrier as carrier
 use Rattle.ebr_ast.specs.declared.query.ItemKind.TheVariants as item
 use Rattle.ebr_exprparse.specs.declared.level.Level.{Level}

@@ -11,7 +11,7 @@ use Rattle.ebr_grammar.proofs.Next.{sees_left, sees_right, unseen-among}
 use Rattle.ebr_grammar.proofs.Right.{IsReader}
 use Rattle.ebr_grammar.proofs.Outside.{IsReadable, reader_over}
 use Rattle.ebr_grammar.proofs.Laws.{bind_some, some_is, which, take_first, take_second}
-use Rattle.ebr_ast.specs.declared.expression.Expr.{Expr}
+use Rattle.ebr_exprtree.specs.declared.expression.Expr.{Expr}
 use Rattle.ebr_ast.specs.declared.query.ItemKind.{ItemKind}
 use Rattle.ebr_exprparse.specs.declared.level.Level.TheVariants.{Whole}
 use Rattle.ebr_exprparse.specs.Expressions.{begins, goes_on, read_expression}

@@ -7,10 +7,10 @@ use Rattle.ebr_grammar.specs.Forms.{Form, Reader, sees}
 use Rattle.ebr_grammar.specs.Grammar.{Production, word, Spells}
 use Rattle.ebr_grammar.specs.Reading.{and_then, Hints, reads}
 use Rattle.ebr_grammar.specs.Words.{◌▸◌}
-use Rattle.ebr_ast.specs.declared.expression.Expr.{Expr, out-Expr}
-use Rattle.ebr_ast.specs.declared.expression.Expr.TheOpen.{Expr-F}
-use Rattle.ebr_ast.specs.declared.expression.Expr.TheOpen as form
-use Rattle.ebr_ast.specs.declared.expression.Addend.{Addend}
+use Rattle.ebr_exprtree.specs.declared.expression.Expr.{Expr, out-Expr}
+use Rattle.ebr_exprtree.specs.declared.expression.Expr.TheOpen.{Expr-F}
+use Rattle.ebr_exprtree.specs.declared.expression.Expr.TheOpen as form
+use Rattle.ebr_exprtree.specs.declared.expression.Addend.{Addend}
 use Rattle.ebr_ast.specs.declared.query.ItemKind.{ItemKind}
 use Rattle.ebr_ast.specs.declared.query.ItemKind.TheVariants as item
 use Rattle.ebr_ast.specs.declared.query.Aggregate.{Aggregate}

@@ -6,7 +6,7 @@ use Rattle.ebr_grammar.specs.Forms.{Form, Reader}
 use Rattle.ebr_grammar.specs.Grammar.{Production, named, Spells}
 use Rattle.ebr_grammar.specs.Reading.{Hints, reads}
 use Rattle.ebr_grammar.specs.Words as words
-use Rattle.ebr_ast.specs.declared.expression.Expr.{Expr}
+use Rattle.ebr_exprtree.specs.declared.expression.Expr.{Expr}
 use Rattle.ebr_ast.specs.declared.query.ItemKind.{ItemKind}
 use Rattle.ebr_exprparse.specs.declared.level.Level.TheVariants.{Whole}
 use Rattle.ebr_exprparse.specs.Expressions as expressions

@@ -6,7 +6,7 @@ use Rattle.ebr_grammar.specs.Forms.{Form, Found}
 use Rattle.ebr_grammar.specs.Grammar.{word, nothing, both, many, made, led}
 use Rattle.ebr_grammar.specs.Reading.{and_then}
 use Rattle.ebr_grammar.specs.Words.{◌▸◌, ◌◂◌, ◌∣◌, maybe, is_there, past}
-use Rattle.ebr_ast.specs.declared.expression.Expr.{Expr}
+use Rattle.ebr_exprtree.specs.declared.expression.Expr.{Expr}
 use Rattle.ebr_ast.specs.declared.query.Query.{Query}
 use Rattle.ebr_ast.specs.declared.query.SelectList.{SelectList}
 use Rattle.ebr_ast.specs.declared.query.SelectList.TheVariants as select

@@ -14,7 +14,7 @@ use ebr_grammar::{Kind, ReadStop, Tokens, ended, shared};
 use std::alloc::Global;
 
 /// The table that a statement changes, with its alias.
-#[derive(Debug, Drop)]
+#[derive(Drop)]
 pub struct Changed {
     pub table: Name,
     pub alias: Option<Name>,

@@ -8,13 +8,13 @@ ghost use Rattle.ebr_sqlparse.specs.Statements as grammar;
 
 use crate::items::read_select_list;
 use ebr_ast::{Expr, Query, SelectList, SortKey, Source};
-use ebr_base::{List, Name, Shared};
+use ebr_base::{List, Shared};
 use ebr_exprparse::read_expression;
 use ebr_grammar::{Kind, ReadStop, Tokens, shared};
 use std::alloc::Global;
 
 /// What stands behind a query's sources.
-#[derive(Debug, Drop)]
+#[derive(Drop)]
 pub struct Tail {
     pub filter: Option<Shared<Expr>>,
     pub order: List<SortKey>,

@@ -4,7 +4,7 @@ ghost use Rattle.std.specs.Prelude.{◌≡◌, ℕ, true, [], ◌∷◌, ◌++�
 ghost use Rattle.ebr_grammar.specs.declared.kind.Kind.TheVariants as kinds;
 ghost use Rattle.ebr_grammar.specs.Kinds.{kind_of, member};
 ghost use Rattle.ebr_grammar.specs.Outcome.{named_by};
-ghost use Rattle.ebr_ast.specs.declared.expression.Expr.{Expr as Tree};
+ghost use Rattle.ebr_exprtree.specs.declared.expression.Expr.{Expr as Tree};
 ghost use Rattle.ebr_ast.specs.declared.query.ItemKind.TheVariants as item;
 ghost use Rattle.ebr_exprparse.specs.Expressions.{SpellsExpr};
 ghost use Rattle.ebr_sqlparse.specs.declared.items.Function.{Function};

@@ -14,7 +14,7 @@ use Rattle.ebr_grammar.specs.Forms.{Form, Reader}
 use Rattle.ebr_grammar.specs.Grammar.{Production, nothing, both, many, made, led, named, outer, Spells, SpellsAny}
 use Rattle.ebr_grammar.specs.Reading.{Hints, reads, reads_within}
 use Rattle.ebr_grammar.specs.Words.{mark, ◌▸◌, ◌∣◌, maybe, all, name}
-use Rattle.ebr_ast.specs.declared.expression.Expr.{Expr}
+use Rattle.ebr_exprtree.specs.declared.expression.Expr.{Expr}
 use Rattle.ebr_ast.specs.declared.statement.Block.{Block, roll-Block}
 use Rattle.ebr_ast.specs.declared.statement.Branch.{Branch, roll-Branch}
 use Rattle.ebr_ast.specs.declared.statement.Caught.{Caught}
