@@ -1,7 +1,6 @@
 -- Where the tokens of a text begin and end.
-use Rattle.std.proofs.Common.{ℕ, suc, ◌≡◌, ◌<◌, ◌≤◌, ◌-◌, List, [], ◌∷◌, length, get_or, refl, ap, arith, All, AllPairs, slice_range, take, ◌∙◌, sym}
+use Rattle.std.proofs.Common.{ℕ, suc, ◌≡◌, ◌<◌, ◌-◌, List, [], ◌∷◌, length, get_or, refl, ap, arith, slice_range, take, ◌∙◌, sym}
 use Rattle.ebr_lexer.specs.declared.token.Token.{Token}
-use Rattle.ebr_lexer.specs.Lexis.{LiesWithin, Precedes}
 use Rattle.ebr_cut.specs.Scans.{end_of, stored, StandsInFront}
 
 -- the end of the last token, if there is one
@@ -11,22 +10,6 @@ end_of-last (t ∷ []) at d l = refl
 end_of-last (t ∷ u ∷ ts) at d l =
     let one : length (t ∷ u ∷ ts) - 1 ≡ suc (length (u ∷ ts) - 1) = omega arith in
     rw one (end_of-last (u ∷ ts) t.to d (omega arith))
-
-pub stored-is : (text : List ℕ) (ts : List Token) (d : Token) → 0 < length ts → stored text ts ≡ slice_range text (get_or ts 0 d).from (get_or ts (length ts - 1) d).to
-stored-is text [] d l = absurd (omega (arith, l))
-stored-is text (t ∷ ts) d l = ap (slice_range text t.from) (end_of-last (t ∷ ts) 0 d (omega arith))
-
--- the first token begins before the last one ends
-pub stored_ordered : (text : List ℕ) (ts : List Token) (d : Token) → 0 < length ts → All (LiesWithin text) ts → AllPairs Precedes ts → (get_or ts 0 d).from ≤ (get_or ts (length ts - 1) d).to
-stored_ordered text [] d l a o = absurd (omega (arith, l))
-stored_ordered text (t ∷ []) d l a o = let first = a 0 d (omega arith) in omega (arith, first)
-stored_ordered text (t ∷ u ∷ ts) d l a o =
-    let n = length ts in
-    let one : length (t ∷ u ∷ ts) - 1 ≡ suc n = omega arith in
-    let first = a 0 d (omega arith) in
-    let last = a (suc n) d (omega arith) in
-    let before = o 0 (suc n) d (omega arith) (omega arith) in
-    rw one (omega (arith, first, last, before))
 
 -- the stored text stands before the end of the last token
 pub stored_front : (text : List ℕ) (ts : List Token) → StandsInFront ts → take (end_of 0 ts) text ≡ stored text ts

@@ -5,7 +5,7 @@
 //! bytes is accounted for. Of a piece's text `scan` tells what it has, and `end_of` where its stored text
 //! ends.
 //!
-//! Tests alone show that scripts are cut where memory is ample, and long ones in a short time.
+//! Tests alone show that scripts are cut where memory is ample, and that hostile ones end. Nothing is said of their time.
 #![tactic(auto)]
 
 mod blank;
@@ -21,5 +21,5 @@ mod statement;
 
 pub use laws::one_cut;
 pub use pieces::{cut, text_of};
-pub use scanned::{Scanned, end_of, scan, stored_text};
+pub use scanned::{Scanned, end_of, scan};
 pub use span::{Lead, Span};

@@ -79,14 +79,5 @@ pub fn text_of<'a>(script: &'a [u8], span: &Span) -> &'a [u8]
     requires { LiesWithin script.now span.now }
     ensures { result.now ≡ slice_range script.now span.now.from span.now.to }
 {
-    between(script, span.from, span.to)
-}
-
-/// The bytes from one place to before another.
-pub fn between(bytes: &[u8], from: u32, to: u32) -> &[u8]
-    requires ordered { from ≤ to }
-    requires within { to ≤ length bytes.now }
-    ensures { result.now ≡ slice_range bytes.now from to }
-{
-    &bytes[from as usize..to as usize]
+    &script[span.from as usize..span.to as usize]
 }

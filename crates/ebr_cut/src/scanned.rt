@@ -1,4 +1,4 @@
-//! The tokens of a piece, its fault, and its stored text.
+//! The tokens of a piece, its fault, and where its stored text ends.
 
 ghost use Rattle.std.specs.Prelude.{◌≡◌, ◌≤◌, ◌<◌, ℕ, List as Sequence, length, take, false, IfOk, All, AllPairs};
 ghost use Rattle.std.specs.Str.{bytes_eq};
@@ -6,7 +6,6 @@ ghost use Rattle.ebr_lexer.specs.Lexis.{LiesWithin, Precedes};
 ghost use Rattle.ebr_cut.specs.declared.scanned.Scanned.{Scanned};
 ghost use Rattle.ebr_cut.specs.Scans.{Scans, IfTokens, KeepsTokens, StandsInFront, end_of, is_word, opens, closes, count_behind, is_too_deep, with_depth, stored};
 
-use crate::pieces::between;
 use ebr_base::{Code, List, MAX_COUNT, NoMemory};
 use ebr_lexer::{LexStop, Symbol, Token, TokenKind, lex};
 use std::alloc::Global;
@@ -115,20 +114,6 @@ fn is_word(word: &[u8], token: &TokenKind) -> bool
     match token {
         TokenKind::Word(spelled) => spelled.as_slice() == word,
         _ => false,
-    }
-}
-
-/// The stored text of an object: the bytes from the first token of its piece's text to the last.
-pub fn stored_text<'a>(text: &'a [u8], tokens: &[Token]) -> &'a [u8]
-    requires within { All (LiesWithin text.now) tokens.now }
-    requires ordered { AllPairs Precedes tokens.now }
-    ensures value { result.now ≡ stored text.now tokens.now }
-    // It has the same tokens, where the first stands in front, as in a piece's text.
-    ensures tokens { KeepsTokens text.now tokens.now result.now }
-{
-    match (tokens.first(), tokens.last()) {
-        (Some(first), Some(last)) => between(text, first.from, last.to),
-        _ => &text[..0],
     }
 }
 

@@ -1,20 +1,25 @@
 -- The pieces that a script is cut into.
-use Rattle.std.proofs.Common.{◌≡◌, ℕ, List, [], ◌∷◌, map, slice_range, Result, Ok, Err, refl, sym, ap, subst, ◌∙◌}
+use Rattle.std.proofs.Common.{◌≡◌, ℕ, ◌+◌, List, [], ◌∷◌, map, slice_range, Result, Ok, Err, refl, sym, ap, subst, ◌∙◌}
 use Rattle.std.specs.Prelude.{IfOk}
 use Rattle.ebr_cut.specs.declared.span.Span.{Span}
 use Rattle.ebr_cut.specs.Reading.{cut}
 use Rattle.ebr_cut.proofs.Agreement.{cut_is, cut_only}
 use Rattle.ebr_script.specs.declared.piece.Piece.{Piece}
-use Rattle.ebr_script.specs.Pieces.{IsPiece, Pieces, Cut, piece_at, pieces_of, EachIsCut, OneCut}
+use Rattle.ebr_script.specs.Pieces.{IsPiece, Pieces, Cut, scanned_of, end_in, piece_at, pieces_of, EachIsCut, OneCut}
+use Rattle.ebr_script.proofs.Scanned.{scans_so, scans_only}
 use Rattle.ebr_script.proofs.Meanings.{means_so, means_only}
 
 piece_is : (script : List ℕ) (s : Span) → IsPiece script s (piece_at script s)
-piece_is script s = record { from = refl; to = refl; means = means_so s.lead (slice_range script s.from s.to) }
+piece_is script s =
+    let text = slice_range script s.from s.to in
+    record { from = refl; text_end = (scanned_of text, scans_so text, refl); to = refl; means = means_so s.lead text }
 
 piece_only : (script : List ℕ) (s : Span) (p : Piece) → IsPiece script s p → piece_at script s ≡ p
 piece_only script s p h =
-    let kind = means_only s.lead (slice_range script s.from s.to) p.what h.means in
-    λ i. record { from = sym h.from i; to = sym h.to i; what = kind i }
+    let text = slice_range script s.from s.to in
+    let kind = means_only s.lead text p.what h.means in
+    let end : s.from + end_in (scanned_of text) ≡ p.text_end = ap (λ k. s.from + end_in k) (scans_only text h.text_end.0 h.text_end.1) ∙ sym h.text_end.2 in
+    λ i. record { from = sym h.from i; text_end = end i; to = sym h.to i; what = kind i }
 
 each_is : (script : List ℕ) (spans : List Span) → Pieces script spans (map (piece_at script) spans)
 each_is script [] = tt

@@ -1,5 +1,5 @@
 -- The pieces of a script: what each spells, or the code of its first fault (own).
-use Rattle.std.specs.Prelude.{◌≡◌, ◌↔◌, ℕ, ◌≤◌, List, [], ◌∷◌, length, map, slice_range, Option, Some, None, Result, Ok, Err}
+use Rattle.std.specs.Prelude.{◌≡◌, ◌↔◌, ℕ, ◌+◌, ◌≤◌, All, List, [], ◌∷◌, length, map, slice_range, Option, Some, None, Result, Ok, Err}
 use Rattle.ebr_base.specs.declared.code.Code.{Code}
 use Rattle.ebr_base.specs.declared.code.Code.TheVariants.{Ora}
 use Rattle.ebr_lexer.specs.declared.token.Token.{Token}
@@ -16,7 +16,7 @@ use Rattle.ebr_cut.specs.declared.scanned.Scanned.{Scanned}
 use Rattle.ebr_cut.specs.declared.scanned.Scanned.TheVariants as scanned
 use Rattle.ebr_cut.specs.Sections as sections
 use Rattle.ebr_cut.specs.Reading.{cut}
-use Rattle.ebr_cut.specs.Scans.{Scans, with_depth, stored}
+use Rattle.ebr_cut.specs.Scans.{Scans, with_depth, end_of, stored}
 use Rattle.ebr_plparse.specs.Units.{SpellsCreation}
 use Rattle.ebr_script.specs.declared.piece.Piece.{Piece}
 use Rattle.ebr_script.specs.declared.piece.PieceKind.{PieceKind}
@@ -49,9 +49,20 @@ abbrev pub Means : Lead → List ℕ → PieceKind → Type 0
 Means l text (piece.Tree s) = (tokens : List Token) × Scans text (scanned.Tokens tokens) × SpellsStatement tokens s
 Means l text (piece.Refused code) = (cause : Cause) × IsRefused cause l text code
 
--- The piece stands where the span does, and is what its text means.
+-- where the last token of a text ends, counted from its beginning; 0 where it has none, or a fault
+abbrev pub end_in : Scanned → ℕ
+end_in (scanned.Fault code) = 0
+end_in (scanned.Tokens tokens) = end_of 0 tokens
+
+-- The text begins at the place `from`, and its last token ends at the place `end`: where it begins, if it has no token or
+-- a fault.
+abbrev pub EndsAt : ℕ → List ℕ → ℕ → Type 0
+EndsAt from text end = (s : Scanned) × Scans text s × (end ≡ from + end_in s)
+
+-- The piece stands where the span does, its stored text ends with its last token, and it is what its text means.
 pub record IsPiece (script : List ℕ) (s : Span) (p : Piece) : Type 0 where
   pub from : p.from ≡ s.from
+  pub text_end : EndsAt s.from (slice_range script s.from s.to) p.text_end
   pub to : p.to ≡ s.to
   pub means : Means s.lead (slice_range script s.from s.to) p.what
 
@@ -67,9 +78,9 @@ pub record Cut (script : List ℕ) (pieces : List Piece) : Type 0 where
   pub cut : sections.Cut script spans
   pub each : Pieces script spans pieces
 
--- a piece that stands within the script
+-- a piece that stands within the script, and its stored text within it
 abbrev pub LiesWithin : List ℕ → Piece → Type 0
-LiesWithin script p = (p.from ≤ p.to) × (p.to ≤ length script)
+LiesWithin script p = (p.from ≤ p.text_end) × (p.text_end ≤ p.to) × (p.to ≤ length script)
 
 abbrev pub Precedes : Piece → Piece → Type 0
 Precedes p q = p.to ≤ q.from
@@ -105,7 +116,9 @@ unfoldable pub kind_of_text : Lead → List ℕ → PieceKind
 kind_of_text l text = kind_of_scan l (scanned_of text)
 
 abbrev pub piece_at : List ℕ → Span → Piece
-piece_at script s = record { from = s.from; to = s.to; what = kind_of_text s.lead (slice_range script s.from s.to) }
+piece_at script s =
+    let text = slice_range script s.from s.to in
+    record { from = s.from; text_end = s.from + end_in (scanned_of text); to = s.to; what = kind_of_text s.lead text }
 
 -- the pieces of a script
 unfoldable pub pieces_of : List ℕ → List Piece
@@ -119,14 +132,9 @@ creation_in (scanned.Tokens tokens) = creation_of tokens
 unfoldable pub stored_definition : List ℕ → Option Definition
 stored_definition text = creation_in (scanned_of text)
 
--- the stored text of a text that is scanned so: the bytes from its first token to its last
-abbrev pub stored_of : List ℕ → Scanned → List ℕ
-stored_of text (scanned.Fault code) = []
-stored_of text (scanned.Tokens tokens) = stored text tokens
-
--- the stored text of a piece; none where its bytes have a fault
+-- the stored text of a piece, which begins where the piece does
 unfoldable pub text_of : List ℕ → Piece → List ℕ
-text_of script p = let text = slice_range script p.from p.to in stored_of text (scanned_of text)
+text_of script p = slice_range script p.from p.text_end
 
 -- The definition creates an object.
 abbrev pub CreatesObject : Definition → Type 0
@@ -154,11 +162,15 @@ StoresComputed = (text : List ℕ) (d : Definition) → Stores text d ↔ (store
 abbrev pub OneDefinition : Type 0
 OneDefinition = (text : List ℕ) (d e : Definition) → Stores text d → Stores text e → d ≡ e
 
--- The stored text of a piece goes from its first token to its last, ..
-abbrev pub TextOfTokens : Type 0
-TextOfTokens = (script : List ℕ) (p : Piece) (tokens : List Token) → Scans (slice_range script p.from p.to) (scanned.Tokens tokens)
-    → text_of script p ≡ stored (slice_range script p.from p.to) tokens
+-- the bytes of a text from its first token to its last; none where it has a fault
+abbrev pub stored_of : List ℕ → Scanned → List ℕ
+stored_of text (scanned.Fault code) = []
+stored_of text (scanned.Tokens tokens) = stored text tokens
 
--- .. and a piece that has a fault has none.
-abbrev pub NoTextOfFaults : Type 0
-NoTextOfFaults = (script : List ℕ) (p : Piece) (code : Code) → Scans (slice_range script p.from p.to) (scanned.Fault code) → text_of script p ≡ []
+-- The stored text of the piece goes from the first token of its bytes to the last, and is empty where they have a fault.
+abbrev pub HasText : List ℕ → Piece → Type 0
+HasText script p = (s : Scanned) → Scans (slice_range script p.from p.to) s → text_of script p ≡ stored_of (slice_range script p.from p.to) s
+
+-- So it is for each piece of a script.
+abbrev pub TextsOfTokens : Type 0
+TextsOfTokens = (script : List ℕ) (pieces : List Piece) → Cut script pieces → All (HasText script) pieces

@@ -4,7 +4,7 @@ use ebr_ast::Statement;
 use ebr_base::Code;
 
 /// What a piece is.
-#[derive(Debug, Drop)]
+#[derive(Drop)]
 pub enum PieceKind {
     /// The statement that it spells.
     Tree(Statement),
@@ -12,10 +12,14 @@ pub enum PieceKind {
     Refused(Code),
 }
 
-/// A piece of a script: the bytes from the place `from` to before the place `to`, counted from 0.
-#[derive(Debug, Drop)]
+/// A piece of a script: the bytes from the place `from` to before the place `to`. Places are counted in bytes from the
+/// script's beginning, from 0.
+#[derive(Drop)]
 pub struct Piece {
     pub from: u32,
+    /// Where its stored text ends, which begins at `from`: the place behind its last token. It is `from` where the piece
+    /// has no token, a lexical fault, or too deep a nesting.
+    pub text_end: u32,
     pub to: u32,
     pub what: PieceKind,
 }

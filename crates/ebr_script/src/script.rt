@@ -1,6 +1,6 @@
 //! The pieces of a script, and the stored texts of objects.
 
-ghost use Rattle.std.specs.Prelude.{◌≡◌, ◌<◌, ◌≤◌, length, map, slice_range, List as Sequence, Some, IfOk, IfSome, All, AllPairs};
+ghost use Rattle.std.specs.Prelude.{◌≡◌, ◌<◌, ◌≤◌, ℕ, length, List as Sequence, Some, IfOk, IfSome, All, AllPairs};
 ghost use Rattle.ebr_ast.specs.declared.definition.Definition.{Definition as Created};
 ghost use Rattle.ebr_lexer.specs.Lexis as lexis;
 ghost use Rattle.ebr_cut.specs.Reading.{cut};
@@ -13,7 +13,7 @@ use crate::piece::{Piece, PieceKind};
 use crate::statement::{creation, statement};
 use ebr_ast::{Definition, Statement};
 use ebr_base::{Code, List, NoMemory};
-use ebr_cut::{Lead, Scanned, Span, cut, scan, stored_text};
+use ebr_cut::{Lead, Scanned, Span, cut, end_of, scan};
 use std::alloc::Global;
 
 /// The code of tokens that spell nothing, by what the piece begins with.
@@ -47,27 +47,40 @@ fn spelled_or(lead: Lead, found: Option<Statement>) -> PieceKind
     }
 }
 
-/// What the text of a piece is that begins so.
-#[tactic(auto, unfolding(crate::specs::Pieces::kind_of_text))]
-fn kind_of_text(alloc: Global, lead: Lead, text: &[u8]) -> Result<PieceKind, NoMemory>
-    requires { length text.now < 4294967295 }
-    ensures { IfOk result (λ kind. kind ≡ spec.kind_of_text lead text.now) }
+/// What a piece is that begins so, by what its text has.
+fn kind_of_scan(alloc: Global, lead: Lead, scanned: &Scanned) -> Result<PieceKind, NoMemory>
+    ensures { IfOk result (λ kind. kind ≡ spec.kind_of_scan lead scanned.now) }
 {
-    match scanned(alloc, text)? {
-        Scanned::Fault(code) => Ok(PieceKind::Refused(code)),
+    match scanned {
+        Scanned::Fault(code) => Ok(PieceKind::Refused(*code)),
         Scanned::Tokens(tokens) => Ok(spelled_or(lead, statement(alloc, tokens.as_slice())?)),
     }
 }
 
+/// Where the last token of a text ends, counted from its beginning; 0 where it has none, or a fault.
+fn end_in(scanned: &Scanned) -> u32
+    ensures value { result ≡ spec.end_in scanned.now }
+    ensures within { (text : Sequence ℕ) → IfTokens (All (lexis.LiesWithin text)) scanned.now → result ≤ length text }
+{
+    match scanned {
+        Scanned::Fault(_) => 0,
+        Scanned::Tokens(tokens) => end_of(tokens.as_slice()),
+    }
+}
+
 /// The piece of a span.
+#[tactic(auto, unfolding(crate::specs::Pieces::kind_of_text))]
 fn piece(alloc: Global, script: &[u8], span: &Span) -> Result<Piece, NoMemory>
     requires within { sections.LiesWithin script.now span.now }
     requires small { length script.now < 4294967295 }
     ensures { IfOk result (λ p. p ≡ spec.piece_at script.now span.now) }
 {
-    let what = kind_of_text(alloc, span.lead, ebr_cut::text_of(script, span))?;
+    let scanned = scanned(alloc, ebr_cut::text_of(script, span))?;
+    let text_end = span.from + end_in(&scanned);
+    let what = kind_of_scan(alloc, span.lead, &scanned)?;
     Ok(Piece {
         from: span.from,
+        text_end,
         to: span.to,
         what,
     })
@@ -119,28 +132,14 @@ fn read(alloc: Global, script: &[u8]) -> Result<List<Piece>, NoMemory>
     Ok(pieces)
 }
 
-/// The bytes of a piece.
-fn bytes_of<'a>(script: &'a [u8], piece: &Piece) -> &'a [u8]
+/// The stored text of a piece that `pieces` gives: the bytes from its first token to its last; none
+/// where it has a lexical fault or is nested too deep.
+#[tactic(auto, unfolding(crate::specs::Pieces::text_of))]
+pub fn text_of<'a>(script: &'a [u8], piece: &Piece) -> &'a [u8]
     requires { spec.LiesWithin script.now piece.now }
-    ensures { result.now ≡ slice_range script.now piece.now.from piece.now.to }
+    ensures { result.now ≡ spec.text_of script.now piece.now }
 {
-    &script[piece.from as usize..piece.to as usize]
-}
-
-/// The stored text of a piece: the bytes from its first token to its last; none where it has a
-/// lexical fault or is nested too deep.
-///
-/// It scans the bytes of the piece again, so its work is linear in the piece.
-pub fn text_of<'a>(alloc: Global, script: &'a [u8], piece: &Piece) -> Result<&'a [u8], NoMemory>
-    requires within { spec.LiesWithin script.now piece.now }
-    requires small { length script.now < 4294967295 }
-    ensures { IfOk result (λ text. text.now ≡ spec.text_of script.now piece.now) }
-{
-    let text = bytes_of(script, piece);
-    match scanned(alloc, text)? {
-        Scanned::Fault(_) => Ok(&text[..0]),
-        Scanned::Tokens(tokens) => Ok(stored_text(text, tokens.as_slice())),
-    }
+    &script[piece.from as usize..piece.text_end as usize]
 }
 
 /// The definition that creates an object, by its stored text; None where the text is none of an object, or has a fault.
@@ -178,8 +177,8 @@ pub fn one_definition()
     ensures one { spec.OneDefinition }
 {}
 
-/// The stored text of a piece is told by the tokens of its bytes.
+/// The stored text of each piece of a script goes from the first token of its bytes to the last, and
+/// is empty where they have a fault.
 pub fn texts_of_tokens()
-    ensures tokens { spec.TextOfTokens }
-    ensures faults { spec.NoTextOfFaults }
+    ensures { spec.TextsOfTokens }
 {}
