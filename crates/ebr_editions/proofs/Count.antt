@@ -1,5 +1,5 @@
 -- How many objects an edition sees after one more definition: those under other keys, and the new one.
-use Rattle.std.proofs.Common.{◌≡◌, ℕ, suc, ◌+◌, ◌<◌, Bool, true, false, cond, not, ◌&&◌, ◌||◌, List, [], ◌∷◌, ◌++◌, Option, Some, is_some, Ok, Err, fold, count_by, nat_lt, nat_le, refl, sym, ap, subst, ◌∙◌, arith}
+use Rattle.std.proofs.Common.{◌≡◌, ℕ, suc, ◌+◌, ◌<◌, Bool, true, false, cond, not, ◌&&◌, ◌||◌, List, [], ◌∷◌, ◌++◌, Option, Some, None, is_some, Ok, Err, fold, count_by, nat_lt, nat_le, refl, sym, ap, subst, ◌∙◌, arith}
 use Rattle.std.specs.List.{list_any}
 use Rattle.std.proofs.lemmas.Bool.Decides.{nat_tests}
 use Rattle.std.proofs.lemmas.List.Sums.{sum_by-append}
@@ -10,11 +10,11 @@ use Rattle.ebr_base.specs.declared.object.ObjectKey.{ObjectKey}
 use Rattle.ebr_base.specs.declared.code.Code.TheVariants.{Ora, Ebr}
 use Rattle.ebr_editions.specs.declared.entry.EditionEntry.{EditionEntry}
 use Rattle.ebr_editions.specs.Editions.{is_edition, line_of, line_up, parent_of}
-use Rattle.ebr_editions.specs.Objects.{ObjectEntry, same_key, with_key, entry_or, nearest, is_in, entries_in, next_stamp, with_entry, last_object, Visible, keys_of, visible_count, put_answer, hide_answer}
+use Rattle.ebr_editions.specs.Objects.{ObjectEntry, same_key, with_key, entry_or, nearest, is_in, entries_in, next_stamp, with_entry, last_object, Visible, keys_of, visible_count, put_answer, hide_answer, without_both}
 use Rattle.ebr_editions.specs.Held.{Held, HasEntries, hold, held, defined_in}
 use Rattle.ebr_editions.specs.inside.Held.{held_object, held_visible, held_stamp, held_others}
 use Rattle.ebr_editions.proofs.Lists.{by_test, same_edition, cond-true, cond-false, count-true, count-false, count-same, false_true}
-use Rattle.ebr_editions.proofs.Entries.{fold-push, key-same, key-itself, edition_itself, held-with_entry, object-after, object-held, keys-held, count-held, visible-held, nearest-same}
+use Rattle.ebr_editions.proofs.Entries.{fold-push, key-same, key-itself, edition_itself, held-with_entry, object-after, object-held, keys-held, count-held, count-more, visible-held, nearest-same}
 
 or-left : (a b : Bool) → (a || b) ≡ false → a ≡ false
 or-left true b h = h
@@ -160,9 +160,12 @@ put-clear made now entries e key o h clear =
     cond-false (nat_lt 4096 (visible_count made (with_entry entries e key (Some o)) e)) _ _ (ap (nat_lt 4096) (count-after made entries e key o) ∙ free)
     ∙ ap Ok (sym (stamp-held now entries e h))
 
+pub seen-is : {O : Type 0} (made : List EditionEntry) (now : Held O) (entries : List (ObjectEntry O)) (e : EditionNo) (key : ObjectKey) (b : Bool) → now ≡ held entries → is_some (held_visible made now e key) ≡ b → is_some (Visible made entries e key) ≡ b
+seen-is made now entries e key b h seen = ap is_some (sym (visible-held made entries e key)) ∙ (sym (ap (λ k. is_some (held_visible made k e key)) h) ∙ seen)
+
 pub hide-seen : {O : Type 0} (made : List EditionEntry) (now : Held O) (entries : List (ObjectEntry O)) (e : EditionNo) (key : ObjectKey) (b : Bool) → now ≡ held entries → is_some (held_visible made now e key) ≡ b → hide_answer made entries e key ≡ cond b (Ok (held_stamp now e)) (Err (Ora 4043))
 hide-seen made now entries e key b h seen =
-    let is : is_some (Visible made entries e key) ≡ b = ap is_some (sym (visible-held made entries e key)) ∙ (sym (ap (λ k. is_some (held_visible made k e key)) h) ∙ seen) in
+    let is = seen-is made now entries e key b h seen in
     ap (λ t. cond t (Ok (next_stamp entries e)) (Err (Ora 4043))) is ∙ ap (λ s. cond b (Ok s) (Err (Ora 4043))) (sym (stamp-held now entries e h))
 
 pub held-after : {O : Type 0} (now : Held O) (entries : List (ObjectEntry O)) (e : EditionNo) (key : ObjectKey) (object : Option O) → now ≡ held entries → hold now e key object ≡ held (with_entry entries e key object)
@@ -194,3 +197,21 @@ pub few-held : {O : Type 0} (now : Held O) (e : EditionNo) → HasEntries now �
 few-held now e has =
     let count : (defined_in now.editions e).count ≡ entries_in has.entries e = ap (λ (k : Held _). (defined_in k.editions e).count) has.is ∙ count-held has.entries e in
     omega (arith, count, has.few e)
+
+-- one more drop, or two, where the second key is visible
+pub one-hidden : {O : Type 0} (made : List EditionEntry) (entries : List (ObjectEntry O)) (e : EditionNo) (key other : ObjectKey) → is_some (Visible made entries e other) ≡ false
+    → with_entry entries e key None ≡ without_both made entries e key other
+one-hidden made entries e key other f =
+    sym (cond-false (is_some (Visible made entries e other)) (with_entry (with_entry entries e key None) e other None) (with_entry entries e key None) f)
+
+pub both-hidden : {O : Type 0} (made : List EditionEntry) (now : Held O) (entries : List (ObjectEntry O)) (e : EditionNo) (key other : ObjectKey) → now ≡ held entries → is_some (Visible made entries e other) ≡ true
+    → hold (hold now e key None) e other None ≡ held (without_both made entries e key other)
+both-hidden made now entries e key other h t =
+    held-after _ (with_entry entries e key None) e other None (held-after now entries e key None h)
+    ∙ ap held (sym (cond-true (is_some (Visible made entries e other)) (with_entry (with_entry entries e key None) e other None) (with_entry entries e key None) t))
+
+pub has-after-two : {O : Type 0} (now after : Held O) (e : EditionNo) (k1 k2 : ObjectKey) → HasEntries now → suc (suc (defined_in now.editions e).count) < MAX_COUNT → after ≡ hold (hold now e k1 None) e k2 None → HasEntries after
+has-after-two now after e k1 k2 has room made =
+    let mid = hold now e k1 None in
+    let counted : (defined_in mid.editions e).count ≡ suc (defined_in now.editions e).count = count-more now e k1 None in
+    has-after mid after e k2 None (has-after now mid e k1 None has (omega arith) refl) (omega (arith, counted, room)) made

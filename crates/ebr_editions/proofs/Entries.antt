@@ -84,7 +84,7 @@ module _ {O : Type 0} where
   held-with_entry entries e key object = fold-push (λ h (x : ObjectEntry O). hold h x.edition x.key x.object) nothing_held entries (record { edition = e; key = key; object = object; stamp = next_stamp entries e })
 
   -- what is defined in an edition after one more definition
-  defined-after : (es : List (EditionNo × Defined O)) (d e : EditionNo) (key : ObjectKey) (object : Option O) → defined_in (with_definition es d key object) e ≡ cond (is_edition e d) (with_object (defined_in es e) key object) (defined_in es e)
+  pub defined-after : (es : List (EditionNo × Defined O)) (d e : EditionNo) (key : ObjectKey) (object : Option O) → defined_in (with_definition es d key object) e ≡ cond (is_edition e d) (with_object (defined_in es e) key object) (defined_in es e)
   defined-after es d e key object =
       ap (λ r. unwrap_or r nothing_defined) (lookup-insert is_edition same_edition edition_itself es d (with_object (defined_in es d) key object) e)
       ∙ by_test (is_edition e d)
@@ -259,3 +259,36 @@ if_ok (Err y) x P e h = absurd cc
 pub is_some-copied : {O : Type 0} (o : Option (Bor O)) → is_some (option_copied o) ≡ is_some o
 is_some-copied None = refl
 is_some-copied (Some x) = refl
+
+-- of two insertions of one key the second counts
+pub insert-twice : {K V : Type 0} (eq : K → K → Bool) (itself : (a : K) → eq a a ≡ true) (es : List (K × V)) (k : K) (v w : V) → insert_entry eq (insert_entry eq es k v) k w ≡ insert_entry eq es k w
+insert-twice eq itself [] k v w = cond-true (eq k k) ((k, w) ∷ []) ((k, v) ∷ (k, w) ∷ []) (itself k)
+insert-twice eq itself (a ∷ es) k v w =
+    by_test (eq k a.0)
+    (λ t.
+    ap (λ xs. insert_entry eq xs k w) (cond-true (eq k a.0) ((a.0, v) ∷ es) (a ∷ insert_entry eq es k v) t)
+    ∙ (cond-true (eq k a.0) ((a.0, w) ∷ es) ((a.0, v) ∷ insert_entry eq es k w) t
+    ∙ sym (cond-true (eq k a.0) ((a.0, w) ∷ es) (a ∷ insert_entry eq es k w) t)))
+    (λ f.
+    ap (λ xs. insert_entry eq xs k w) (cond-false (eq k a.0) ((a.0, v) ∷ es) (a ∷ insert_entry eq es k v) f)
+    ∙ (cond-false (eq k a.0) ((a.0, w) ∷ insert_entry eq es k v) (a ∷ insert_entry eq (insert_entry eq es k v) k w) f
+    ∙ (ap (λ xs. a ∷ xs) (insert-twice eq itself es k v w)
+    ∙ sym (cond-false (eq k a.0) ((a.0, w) ∷ es) (a ∷ insert_entry eq es k w) f))))
+
+module _ {O : Type 0} where
+  own-defined : (es : List (EditionNo × Defined O)) (e : EditionNo) (key : ObjectKey) (object : Option O) → defined_in (with_definition es e key object) e ≡ with_object (defined_in es e) key object
+  own-defined es e key object = defined-after es e e key object ∙ cond-true (is_edition e e) (with_object (defined_in es e) key object) (defined_in es e) (edition_itself e)
+
+  -- two definitions in one edition
+  pub defined-twice : (es : List (EditionNo × Defined O)) (e : EditionNo) (k1 k2 : ObjectKey) (o1 o2 : Option O)
+      → with_definition (with_definition es e k1 o1) e k2 o2 ≡ insert_entry is_edition es e (with_object (with_object (defined_in es e) k1 o1) k2 o2)
+  defined-twice es e k1 k2 o1 o2 =
+      ap (λ d. insert_entry is_edition (with_definition es e k1 o1) e (with_object d k2 o2)) (own-defined es e k1 o1)
+      ∙ insert-twice is_edition edition_itself es e (with_object (defined_in es e) k1 o1) (with_object (with_object (defined_in es e) k1 o1) k2 o2)
+
+  pub count-more : (h : Held O) (e : EditionNo) (key : ObjectKey) (object : Option O) → (defined_in (hold h e key object).editions e).count ≡ suc (defined_in h.editions e).count
+  count-more h e key object = ap (λ (d : Defined O). d.count) (own-defined h.editions e key object)
+
+pub ok_on : {T E : Type 0} {P : Type 0} (r : Result T E) (x : T) → r ≡ Ok x → OnOk r P → P
+ok_on (Ok y) x e h = h
+ok_on (Err y) x e h = absurd cc

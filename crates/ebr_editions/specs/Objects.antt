@@ -104,3 +104,9 @@ module _ {O : Type 0} where
   -- What the drop of an object answers: ORA-04043 where the key isn't visible, else its stamp.
   abbrev pub hide_answer : List EditionEntry → List (ObjectEntry O) → EditionNo → ObjectKey → Result Stamp Code
   hide_answer made entries e key = if is_some (Visible made entries e key) then Ok (next_stamp entries e) else Err (Ora 4043)
+
+  -- the entries after the drop of a key and, where another one is visible, of that one too
+  abbrev pub without_both : List EditionEntry → List (ObjectEntry O) → EditionNo → ObjectKey → ObjectKey → List (ObjectEntry O)
+  without_both made entries e key other =
+      let hidden = with_entry entries e key None in
+      if is_some (Visible made entries e other) then with_entry hidden e other None else hidden

@@ -1,16 +1,16 @@
 //! The objects that are actual in each edition.
 
-ghost use Rattle.std.specs.Prelude.{◌≡◌, ◌<◌, [], Some, None, nat_le, IfOk, IfSome, OnOk, OnErr, option_map};
+ghost use Rattle.std.specs.Prelude.{◌≡◌, ◌+◌, ◌<◌, [], Some, None, nat_le, IfOk, IfSome, OnOk, OnErr, option_map};
 ghost use Rattle.std.specs.Option.{option_copied};
 ghost use Rattle.ebr_base.specs.Answers.{Answers};
 ghost use Rattle.ebr_base.specs.declared.numbers.TheConstants.{MAX_COUNT};
-ghost use Rattle.ebr_editions.specs.Objects.{next_stamp, with_entry, Visible, actual_object, actual_at, put_answer, hide_answer};
+ghost use Rattle.ebr_editions.specs.Objects.{next_stamp, with_entry, without_both, Visible, actual_object, actual_at, keys_of, put_answer, hide_answer};
 ghost use Rattle.ebr_editions.specs.Held.{HasEntries, ForEntries, held, hold, deref_object, defined_in, with_definition};
 ghost use Rattle.ebr_editions.specs.inside.Held.{held_object, held_visible, held_stamp, held_at, held_others};
 
 use crate::chain::Chain;
 use crate::defined::Definitions;
-use ebr_base::{CloneIn, Code, EditionNo, MAX_COUNT, NoMemory, ObjectKey, Stamp, Stop};
+use ebr_base::{CloneIn, Code, EditionNo, MAX_COUNT, NoMemory, ObjectKey, Stamp, Stop, both};
 use indexmap::{IndexMap, IndexSet};
 use std::alloc::Global;
 use std::marker::Model;
@@ -69,6 +69,19 @@ impl<O: Drop> Actuals<O> {
         ensures entries { HasEntries self.now }
     {
         self.entry(e, key)?.as_ref()
+    }
+
+    /// The keys that were ever defined, in any edition, in the order of their first definitions.
+    pub fn keys(&self) -> &[ObjectKey]
+        ensures { ForEntries self.now (λ entries. result.now ≡ keys_of entries) }
+    {
+        self.all_keys()
+    }
+
+    fn all_keys(&self) -> &[ObjectKey]
+        ensures { result.now ≡ self.now.keys }
+    {
+        self.keys.as_slice()
     }
 
     /// The stamp that the next definition or drop in an edition gets.
@@ -170,6 +183,31 @@ impl<O: Drop> Actuals<O> {
         Ok(self.add(e, copy, None)?)
     }
 
+    /// Hides a key in an edition, and after it another one where that is visible, in one step.
+    ///
+    /// Refusal: ORA-04043 where the first key isn't visible in the edition. It finds no memory where the edition has had
+    /// 4,294,967,293 definitions and drops. An `Err` changes nothing.
+    pub fn hide_both(
+        &mut self,
+        chain: &Chain,
+        e: EditionNo,
+        first: &ObjectKey,
+        second: &ObjectKey,
+    ) -> Result<Stamp, Stop>
+        ensures answer { ForEntries self.old (λ entries. Answers result (hide_answer chain.now.made entries e first.now)) }
+        ensures hidden { OnOk result (ForEntries self.old (λ entries. self.new ≡ held (without_both chain.now.made entries e first.now second.now))) }
+        ensures unchanged { OnErr result (self.new ≡ self.old) }
+    {
+        if self.seen(chain, e, second).is_none() {
+            return self.hide(chain, e, first);
+        }
+        if self.seen(chain, e, first).is_none() {
+            return Err(Stop::Raised(Code::Ora(4043)));
+        }
+        let copies = both(self.alloc, first, second)?;
+        Ok(self.hide_two(e, copies.0, copies.1)?)
+    }
+
     /// Whether no other object than one under this key may become visible in an edition.
     fn is_full(&self, chain: &Chain, e: EditionNo, key: &ObjectKey) -> bool
         ensures { result ≡ nat_le 4096 (held_others chain.now.made self.now e key.now) }
@@ -205,6 +243,51 @@ impl<O: Drop> Actuals<O> {
         define(self.alloc, &mut self.editions, e, key, object)?;
         self.keys.insert(copy).unwrap();
         Ok(stamp)
+    }
+
+    fn hide_two(
+        &mut self,
+        e: EditionNo,
+        first: ObjectKey,
+        second: ObjectKey,
+    ) -> Result<Stamp, NoMemory>
+        ensures stamp { IfOk result (λ stamp. stamp ≡ held_stamp self.old e) }
+        ensures held { OnOk result (self.new ≡ hold (hold self.old e first None) e second None) }
+        ensures unchanged { OnErr result (self.new ≡ self.old) }
+    {
+        let stamp = self.stamp(e);
+        if stamp.count as usize >= MAX_COUNT - 1 {
+            return Err(NoMemory);
+        }
+        self.keys.reserve(2)?;
+        let copies = both(self.alloc, &first, &second)?;
+        hide_two(self.alloc, &mut self.editions, e, first, second)?;
+        self.keys.insert(copies.0).unwrap();
+        self.keys.insert(copies.1).unwrap();
+        Ok(stamp)
+    }
+}
+
+/// Notes two drops in one edition: both, or where there is no memory none.
+fn hide_two<O: Drop>(
+    alloc: Global,
+    editions: &mut IndexMap<EditionNo, Definitions<O>>,
+    e: EditionNo,
+    first: ObjectKey,
+    second: ObjectKey,
+) -> Result<(), NoMemory>
+    requires { (defined_in editions.old.entries e).count + 1 < MAX_COUNT }
+    ensures ok { OnOk result (editions.new.entries ≡ with_definition (with_definition editions.old.entries e first None) e second None) }
+    ensures err { OnErr result (editions.new.entries ≡ editions.old.entries) }
+{
+    match editions.get_mut(&e) {
+        Some(definitions) => definitions.hide_two(first, second),
+        None => {
+            let mut definitions = Definitions::new(alloc);
+            definitions.hide_two(first, second)?;
+            editions.insert(e, definitions)?;
+            Ok(())
+        }
     }
 }
 

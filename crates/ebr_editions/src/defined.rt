@@ -1,6 +1,6 @@
 //! What one edition has had defined.
 
-ghost use Rattle.std.specs.Prelude.{◌≡◌, ◌<◌, Some, IfSome, OnOk, OnErr, slice_get, option_map};
+ghost use Rattle.std.specs.Prelude.{◌≡◌, ◌+◌, ◌<◌, None, Some, IfSome, OnOk, OnErr, slice_get, option_map};
 ghost use Rattle.std.specs.Option.{option_copied};
 ghost use Rattle.std.specs.Map.{lookup};
 ghost use Rattle.ebr_base.specs.declared.numbers.TheConstants.{MAX_COUNT};
@@ -46,6 +46,19 @@ impl<O: Drop> Definitions<O> {
     {
         self.objects.insert(key, object)?;
         self.count += 1;
+        Ok(())
+    }
+
+    /// Notes two drops: both, or where there is no memory none.
+    pub fn hide_two(&mut self, first: ObjectKey, second: ObjectKey) -> Result<(), NoMemory>
+        requires { self.old.count + 1 < MAX_COUNT }
+        ensures ok { OnOk result (self.new ≡ with_object (with_object self.old first None) second None) }
+        ensures err { OnErr result (self.new ≡ self.old) }
+    {
+        self.objects.reserve(2)?;
+        self.objects.insert(first, None).unwrap();
+        self.objects.insert(second, None).unwrap();
+        self.count += 2;
         Ok(())
     }
 

@@ -11,4 +11,5 @@ mod definition;
 mod keyed;
 mod tables;
 
+pub use definition::with_key_not_null;
 pub use tables::Tables;
