@@ -1,0 +1,51 @@
+-- Calls that carry out definitions, by what their steps answer.
+use Rattle.std.proofs.Common.{◌≡◌, Bool, true, false, cond, List, [], ◌∷◌, ◌++◌, Some, None, Result, Ok, Err, IfOk, refl, sym, ap, ◌∙◌}
+use Rattle.ebr_base.specs.Answers.{Answers}
+use Rattle.ebr_base.specs.declared.code.Code.{Code}
+use Rattle.ebr_base.specs.declared.code.Stop.{Stop}
+use Rattle.ebr_base.specs.declared.code.Stop.TheVariants.{Raised, NoMemory}
+use Rattle.ebr_tables.specs.Tables.{first_refusal}
+use Rattle.ebr_cross.specs.declared.catalogue.Catalogue.{Catalogue}
+use Rattle.ebr_cross.specs.declared.record.CatalogueRecord.{CatalogueRecord}
+use Rattle.ebr_cross.specs.Catalogue.{Lists, kept}
+use Rattle.ebr_cross.specs.Definitions.{recording, Applies}
+
+module _ (old new : Catalogue) where
+  -- a definition that answers the same is applied by the same call
+  pub applies-same : (d d' : Lists → Result CatalogueRecord Code) (r : Result CatalogueRecord Stop) → ((c : Lists) → old ≡ kept c → d c ≡ d' c) → Applies old new d r → Applies old new d' r
+  applies-same d d' (Ok x) same h = λ c k. let p = h c k in (sym (same c k) ∙ p.0, p.1)
+  applies-same d d' (Err (Raised code)) same h = (λ c k. sym (same c k) ∙ h.0 c k, h.1)
+  applies-same d d' (Err NoMemory) same h = h
+
+  -- a step's refusal is the call's
+  pub refuses : {T : Type 0} (answer : Lists → Result T Code) (d : Lists → Result CatalogueRecord Code) (stop : Stop) → ((c : Lists) → old ≡ kept c → Answers {T = T} (Err stop) (answer c))
+      → ((c : Lists) (code : Code) → old ≡ kept c → answer c ≡ Err code → d c ≡ Err code) → new ≡ old → Applies old new d (Err stop)
+  refuses answer d (Raised code) answers gives same = (λ c k. gives c code k (answers c k), same)
+  refuses answer d NoMemory answers gives same = same
+
+pub recording-err : {T : Type 0} (record_of : T → CatalogueRecord) (answer : Result T Code) (code : Code) → answer ≡ Err code → recording record_of answer ≡ Err code
+recording-err record_of answer code h = ap (recording record_of) h
+
+pub recording-ok : {T : Type 0} (record_of : T → CatalogueRecord) (answer : Result T Code) (x : T) → answer ≡ Ok x → recording record_of answer ≡ Ok (record_of x)
+recording-ok record_of answer x h = ap (recording record_of) h
+
+-- lists of refusals one after the other
+pub first-of-two : (xs ys : List (Bool × Code)) (code : Code) → first_refusal xs ≡ Some code → first_refusal (xs ++ ys) ≡ Some code
+first-of-two [] ys code h = absurd cc
+first-of-two (x ∷ xs) ys code h = by x.0 (first-of-two xs ys code) h
+  where
+    by : (b : Bool) → (first_refusal xs ≡ Some code → first_refusal (xs ++ ys) ≡ Some code) → cond b (Some x.1) (first_refusal xs) ≡ Some code → cond b (Some x.1) (first_refusal (xs ++ ys)) ≡ Some code
+    by true f h = h
+    by false f h = f h
+
+pub none-of-first : (xs ys : List (Bool × Code)) → first_refusal xs ≡ None → first_refusal (xs ++ ys) ≡ first_refusal ys
+none-of-first [] ys h = refl
+none-of-first (x ∷ xs) ys h = by x.0 (none-of-first xs ys) h
+  where
+    by : (b : Bool) → (first_refusal xs ≡ None → first_refusal (xs ++ ys) ≡ first_refusal ys) → cond b (Some x.1) (first_refusal xs) ≡ None → cond b (Some x.1) (first_refusal (xs ++ ys)) ≡ first_refusal ys
+    by true f h = absurd cc
+    by false f h = f h
+
+pub if_ok-map : {T E : Type 0} {P Q : T → Type 0} (r : Result T E) → ((x : T) → P x → Q x) → IfOk r P → IfOk r Q
+if_ok-map (Ok x) f h = f x h
+if_ok-map (Err e) f h = tt

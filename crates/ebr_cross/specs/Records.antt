@@ -1,0 +1,48 @@
+-- What each record leaves in the catalogue. A record is what a definition leaves for ever, so the catalogue of a database
+-- is read off its records in order, from the first lists on.
+use Rattle.std.specs.Prelude.{◌==◌, suc, ℕ, Bool, List, [], ◌∷◌, ◌++◌, Option, Some, None, option_map, find}
+use Rattle.std.specs.Option.{unwrap_or}
+use Rattle.ebr_base.specs.declared.numbers.EditionNo.{EditionNo}
+use Rattle.ebr_base.specs.declared.numbers.TableId.{TableId}
+use Rattle.ebr_base.specs.declared.object.ObjectKey.{ObjectKey}
+use Rattle.ebr_base.specs.declared.table.TableDef.{TableDef}
+use Rattle.ebr_ast.specs.declared.definition.ObjectKind.TheVariants as kind
+use Rattle.ebr_ast.specs.declared.view.Object.{Object}
+use Rattle.ebr_editions.specs.Editions.{Editions, new_edition, without_edition}
+use Rattle.ebr_editions.specs.Objects.{with_entry, without_both}
+use Rattle.ebr_tables.specs.Tables.{AllTables, with_column, without_table}
+use Rattle.ebr_cross.specs.declared.record.CatalogueRecord.{CatalogueRecord}
+use Rattle.ebr_cross.specs.declared.record.CatalogueRecord.TheVariants as made
+use Rattle.ebr_cross.specs.Catalogue.{Lists}
+use Rattle.ebr_cross.specs.Kinds.{key_of}
+
+-- one more edition, below its parent
+abbrev pub with_child : Editions → List ℕ → EditionNo → Editions
+with_child c name parent = record c { made = c.made ++ new_edition c.made name (Some parent) ∷ [] }
+
+-- one more definition of an object, or one more drop
+abbrev pub with_object : Lists → EditionNo → ObjectKey → Option Object → Lists
+with_object c e key object = record c { entries = with_entry c.entries e key object }
+
+-- one more table
+abbrev pub with_definition : AllTables → TableDef → AllTables
+with_definition s d = record { made = suc s.made; living = s.living ++ d ∷ [] }
+
+abbrev pub has_id : TableId → TableDef → Bool
+has_id id t = id.0 == t.id.0
+
+-- the name of the living table of an id
+abbrev pub table_name : AllTables → TableId → List ℕ
+table_name s id = unwrap_or (option_map (λ (t : TableDef). t.name) (find (has_id id) s.living)) []
+
+-- The lists after a record. A package goes with its body, where that is visible.
+abbrev pub with_record : Lists → CatalogueRecord → Lists
+with_record c (made.Edition name parent) = record c { editions = with_child c.editions name parent }
+with_record c (made.EditionGone e) = record c { editions = without_edition c.editions e }
+with_record c (made.Default e) = record c { editions = record c.editions { default = e } }
+with_record c (made.Object o) = with_object c o.stamp.edition o.key (Some o)
+with_record c (made.ObjectGone e key) = with_object c e key None
+with_record c (made.PackageGone e name) = record c { entries = without_both c.editions.made c.entries e (key_of kind.Package name) (key_of kind.PackageBody name) }
+with_record c (made.Table d) = record c { tables = with_definition c.tables d }
+with_record c (made.Column id column) = record c { tables = with_column c.tables (table_name c.tables id) column }
+with_record c (made.TableGone id) = record c { tables = without_table c.tables (table_name c.tables id) }

@@ -1,0 +1,56 @@
+-- What the steps of definitions answer.
+use Rattle.std.specs.Prelude.{◌≡◌, ℕ, Bool, true, false, not, is_some, nat_lt, List, [], ◌∷◌, length, Option, Some, None, option_map, Result, Ok, Err}
+use Rattle.std.specs.Str.{bytes_eq}
+use Rattle.ebr_base.specs.declared.code.Code.{Code}
+use Rattle.ebr_base.specs.declared.code.Code.TheVariants.{Ora, Ebr}
+use Rattle.ebr_base.specs.declared.code.Stop.{Stop}
+use Rattle.ebr_base.specs.declared.code.Stop.TheVariants.{Raised, NoMemory}
+use Rattle.ebr_base.specs.declared.numbers.EditionNo.{EditionNo}
+use Rattle.ebr_base.specs.declared.numbers.TableId.{TableId}
+use Rattle.ebr_base.specs.declared.table.TableDef.{TableDef}
+use Rattle.ebr_ast.specs.declared.definition.ColumnTree.{ColumnTree}
+use Rattle.ebr_base.specs.declared.object.ObjectKey.{ObjectKey}
+use Rattle.ebr_editions.specs.Objects.{hide_answer}
+use Rattle.ebr_ast.specs.declared.unit.EditioningView.{EditioningView}
+use Rattle.ebr_tables.specs.Definitions.{has_repetition}
+use Rattle.ebr_tables.specs.Tables.{first_refusal, create_answer, table_named, kept_as}
+use Rattle.ebr_cross.specs.declared.catalogue.Catalogue.{Catalogue}
+use Rattle.ebr_cross.specs.declared.record.CatalogueRecord.{CatalogueRecord}
+use Rattle.ebr_cross.specs.declared.record.CatalogueRecord.TheVariants as made
+use Rattle.ebr_cross.specs.Catalogue.{Lists, table_in}
+use Rattle.ebr_cross.specs.Columns.{is_bad_table}
+use Rattle.ebr_cross.specs.Definitions.{recording, is_taken, has_columns}
+
+-- the refusals of CREATE TABLE before the number of tables is tested
+abbrev pub first_table_refusal : Lists → EditionNo → List ℕ → List ColumnTree → List (List ℕ) → Option Code
+first_table_refusal c e name columns key = first_refusal (
+    (is_taken c e name, Ora 955)
+    ∷ (is_bad_table columns key, Ebr 29)
+    ∷ (nat_lt 64 (length columns), Ebr 36) ∷ [])
+
+-- a value where nothing refuses, the refusal, or want of memory
+abbrev pub Creates : {T : Type 0} → Option Code → T → Result T Stop → Type 0
+Creates refusal x (Ok y) = (refusal ≡ None) × (y ≡ x)
+Creates refusal x (Err (Raised code)) = refusal ≡ Some code
+Creates refusal x (Err NoMemory) = Unit {0}
+
+abbrev pub made_table : Lists → TableDef → Result CatalogueRecord Code
+made_table c d = recording (λ id. made.Table (kept_as id d)) (create_answer c.tables d)
+
+abbrev pub id_in : Catalogue → List ℕ → Option TableId
+id_in c name = option_map (λ (t : TableDef). t.id) (table_named name c.tables.living)
+
+-- the record of a drop of a visible key
+abbrev pub hidden : Lists → EditionNo → ObjectKey → CatalogueRecord → Result CatalogueRecord Code
+hidden c e key r = recording (λ stamp. r) (hide_answer c.editions.made c.entries e key)
+
+-- the names as they are, where none stands twice
+abbrev pub IsDistinct : List (List ℕ) → Option (List (List ℕ)) → Type 0
+IsDistinct names None = has_repetition bytes_eq names ≡ true
+IsDistinct names (Some keys) = (keys ≡ names) × (has_repetition bytes_eq names ≡ false)
+
+-- the refusals of CREATE EDITIONING VIEW by its table
+abbrev pub base_refusals : Lists → EditioningView → List (Bool × Code)
+base_refusals c v =
+    (not (is_some (table_in c v.table)), Ora 942)
+    ∷ (not (has_columns (table_in c v.table) v.items), Ora 904) ∷ []

@@ -1,0 +1,23 @@
+//! The catalogue: the line of editions, the objects that are actual in each of them, and the tables.
+//!
+//! What is used above: `Catalogue::apply` carries out a definition, and answers its record or its refusal, as `outcome` of
+//! `specs/Definitions.antt` defines it; the catalogue is then as `with_record` of `specs/Records.antt` says, or as it was.
+//! `view_of` gives `View` of `specs/Catalogue.antt`, and `edition_named` the edition that ALTER SESSION names. All of them
+//! speak of the plain lists that the catalogue keeps (`ForLists`).
+//!
+//! That calls succeed with ample memory is tested alone.
+#![tactic(auto)]
+
+mod catalogue;
+mod columns;
+mod create;
+mod editions;
+mod kinds;
+mod objects;
+mod record;
+mod tables;
+mod view;
+
+pub use catalogue::Catalogue;
+pub use record::CatalogueRecord;
+pub use view::view_of;

@@ -1,0 +1,211 @@
+//! Definitions of objects.
+
+ghost use Rattle.std.specs.Prelude.{◌≡◌, Some, IfOk};
+ghost use Rattle.ebr_cross.specs.Catalogue.{ForLists, visible};
+ghost use Rattle.ebr_cross.specs.Definitions.{Applies};
+ghost use Rattle.ebr_cross.specs.Definitions as spec;
+ghost use Rattle.ebr_cross.specs.Kinds as kinds_spec;
+ghost use Rattle.ebr_ast.specs.declared.definition.ObjectKind.TheVariants as kind;
+ghost use Rattle.ebr_cross.specs.declared.record.CatalogueRecord.TheVariants as made;
+ghost use Rattle.ebr_cross.specs.inside.Steps.{hidden};
+
+use crate::catalogue::Catalogue;
+use crate::kinds::{is_of_kind, key_of, kind_of, name_of};
+use crate::record::CatalogueRecord;
+use ebr_ast::{Object, ObjectKind, UnitTree};
+use ebr_base::{Bytes, CloneIn, Code, EditionNo, Name, NoMemory, ObjectKey, Shared, Stop};
+use std::alloc::Global;
+
+impl Catalogue {
+    /// CREATE of a unit or an editioning view. Refusals: those of `creation_refusal`, and EBR-0034 where the edition would see
+    /// more than 4,096 objects.
+    pub fn create_object(
+        &mut self,
+        alloc: Global,
+        e: EditionNo,
+        replace: bool,
+        unit: &UnitTree,
+        text: &Bytes,
+    ) -> Result<CatalogueRecord, Stop>
+        ensures { Applies self.old self.new (λ c. spec.create_object c e replace unit.now text.now) result }
+    {
+        match (kind_of(unit), name_of(unit)) {
+            (Some(kind), Some(name)) => {
+                self.create_named(alloc, e, replace, kind, name, unit, text)
+            }
+            _ => Err(Stop::Raised(Code::Ora(900))),
+        }
+    }
+
+    /// CREATE of an object of a kind, under a name.
+    fn create_named(
+        &mut self,
+        alloc: Global,
+        e: EditionNo,
+        replace: bool,
+        kind: ObjectKind,
+        name: &Name,
+        unit: &UnitTree,
+        text: &Bytes,
+    ) -> Result<CatalogueRecord, Stop>
+        ensures { Applies self.old self.new (λ c. spec.object_named c e replace unit.now text.now (Some kind) (Some name.now)) result }
+    {
+        let key = key_of(alloc, kind, name)?;
+        if let Some(code) = self.creation_refusal(alloc, e, replace, kind, &key, unit)? {
+            return Err(Stop::Raised(code));
+        }
+        self.make_object(alloc, e, key, text, unit, is_enabled(unit))
+    }
+
+    /// ALTER TRIGGER. Refusals: ORA-04080 where the edition sees no such trigger, EBR-0034 where it would see more than 4,096
+    /// objects.
+    pub fn alter_trigger(
+        &mut self,
+        alloc: Global,
+        e: EditionNo,
+        name: &Name,
+        enabled: bool,
+    ) -> Result<CatalogueRecord, Stop>
+        ensures { Applies self.old self.new (λ c. spec.alter_trigger c e name.now enabled) result }
+    {
+        let key = key_of(alloc, ObjectKind::Trigger, name)?;
+        let Some(trigger) = self.visible(e, &key) else {
+            return Err(Stop::Raised(Code::Ora(4080)));
+        };
+        let trigger = trigger.clone_in(alloc)?;
+        let found = trigger.get();
+        self.make_object(alloc, e, key, &found.text, &found.tree, enabled)
+    }
+
+    /// Makes an object actual in an edition. Refusal: EBR-0034 where the edition would see more than 4,096 objects.
+    fn make_object(
+        &mut self,
+        alloc: Global,
+        e: EditionNo,
+        key: ObjectKey,
+        text: &Bytes,
+        tree: &UnitTree,
+        enabled: bool,
+    ) -> Result<CatalogueRecord, Stop>
+        ensures { Applies self.old self.new (λ c. spec.put_object c e key (spec.object_of c e key text.now tree.now enabled)) result }
+    {
+        let object = self.object_of(alloc, e, &key, text, tree, enabled)?;
+        let shared = object.clone_in(alloc)?;
+        match self.actuals.put(&self.chain, e, key, shared) {
+            Ok(_) => Ok(CatalogueRecord::Object(object)),
+            Err(stop) => Err(stop),
+        }
+    }
+
+    /// An object as it is made now.
+    fn object_of(
+        &self,
+        alloc: Global,
+        e: EditionNo,
+        key: &ObjectKey,
+        text: &Bytes,
+        tree: &UnitTree,
+        enabled: bool,
+    ) -> Result<Shared<Object>, NoMemory>
+        ensures { ForLists self.now (λ c. IfOk result (λ o. o ≡ spec.object_of c e key.now text.now tree.now enabled)) }
+    {
+        let stamp = self.actuals.next_stamp(e);
+        let key = key.clone_in(alloc)?;
+        let text = text.clone_in(alloc)?;
+        let object = Object {
+            key,
+            text,
+            tree: tree.clone_in(alloc)?,
+            stamp,
+            enabled,
+        };
+        Ok(Shared::new(alloc, object)?)
+    }
+
+    /// DROP of an object. Refusal where the edition sees none of that kind and name: ORA-04080 for a trigger, ORA-00942 for a
+    /// view, ORA-04043 for every other. DROP PACKAGE takes the body along, where it is visible.
+    pub fn drop_object(
+        &mut self,
+        alloc: Global,
+        e: EditionNo,
+        kind: ObjectKind,
+        name: &Name,
+    ) -> Result<CatalogueRecord, Stop>
+        ensures { Applies self.old self.new (λ c. spec.drop_object c e kind name.now) result }
+    {
+        let key = key_of(alloc, kind, name)?;
+        if !self.has_object(e, &key, kind) {
+            return Err(Stop::Raised(missing_code(kind)));
+        }
+        match kind {
+            ObjectKind::Package => self.hide_package(alloc, e, &key, name),
+            _ => self.hide_object(e, key),
+        }
+    }
+
+    /// Hides a key that is visible.
+    fn hide_object(&mut self, e: EditionNo, key: ObjectKey) -> Result<CatalogueRecord, Stop>
+        ensures { Applies self.old self.new (λ c. hidden c e key (made.ObjectGone e key)) result }
+    {
+        match self.actuals.hide(&self.chain, e, &key) {
+            Ok(_) => Ok(CatalogueRecord::ObjectGone { edition: e, key }),
+            Err(stop) => Err(stop),
+        }
+    }
+
+    /// Hides a package that is visible, and its body, where that is visible.
+    fn hide_package(
+        &mut self,
+        alloc: Global,
+        e: EditionNo,
+        key: &ObjectKey,
+        name: &Name,
+    ) -> Result<CatalogueRecord, Stop>
+        requires { key.now ≡ kinds_spec.key_of kind.Package name.now }
+        ensures { Applies self.old self.new (λ c. hidden c e key.now (made.PackageGone e name.now)) result }
+    {
+        let body = key_of(alloc, ObjectKind::PackageBody, name)?;
+        let copy = name.clone_in(alloc)?;
+        match self.actuals.hide_both(&self.chain, e, key, &body) {
+            Ok(_) => Ok(CatalogueRecord::PackageGone {
+                edition: e,
+                name: copy,
+            }),
+            Err(stop) => Err(stop),
+        }
+    }
+
+    /// Whether the edition sees an object of a kind under a key.
+    fn has_object(&self, e: EditionNo, key: &ObjectKey, kind: ObjectKind) -> bool
+        ensures { ForLists self.now (λ c. result ≡ spec.is_object_of kind (visible c e key.now)) }
+    {
+        match self.visible(e, key) {
+            Some(object) => is_of_kind(kind, &object.get().tree),
+            None => false,
+        }
+    }
+}
+
+/// Whether a new object is enabled.
+fn is_enabled(unit: &UnitTree) -> bool
+    ensures { result ≡ spec.is_enabled unit.now }
+{
+    match unit {
+        UnitTree::Trigger(trigger) => trigger.get().enabled,
+        _ => true,
+    }
+}
+
+/// The code where an object of a kind isn't there.
+fn missing_code(kind: ObjectKind) -> Code
+    ensures { result ≡ spec.missing_code kind }
+{
+    match kind {
+        ObjectKind::Trigger => Code::Ora(4080),
+        ObjectKind::View => Code::Ora(942),
+        ObjectKind::Procedure
+        | ObjectKind::Function
+        | ObjectKind::Package
+        | ObjectKind::PackageBody => Code::Ora(4043),
+    }
+}

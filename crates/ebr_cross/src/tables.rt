@@ -1,0 +1,198 @@
+//! Definitions of tables.
+
+ghost use Rattle.std.specs.Prelude.{◌≡◌, Some, IfOk, IfSome};
+ghost use Rattle.ebr_tables.specs.Tables.{kept_as};
+ghost use Rattle.ebr_cross.specs.Catalogue.{ForLists, table_in};
+ghost use Rattle.ebr_cross.specs.Columns as columns_spec;
+ghost use Rattle.ebr_cross.specs.Definitions.{Applies};
+ghost use Rattle.ebr_cross.specs.Definitions as spec;
+ghost use Rattle.ebr_cross.specs.Records.{table_name};
+ghost use Rattle.ebr_cross.specs.inside.Steps.{first_table_refusal, Creates, made_table, id_in};
+
+use crate::catalogue::Catalogue;
+use crate::columns::{column_names, column_type, is_bad_table, key_names, table_of};
+use crate::kinds::unit_key;
+use crate::record::CatalogueRecord;
+use ebr_ast::{ColumnTree, DeclaredType};
+use ebr_base::{
+    CloneIn, Code, ColType, Column, EditionNo, Name, NoMemory, Stop, TableDef, TableId,
+};
+use ebr_tables::with_key_not_null;
+use std::alloc::Global;
+
+/// The most columns that a table has.
+const MAX_COLUMNS: usize = 64;
+
+impl Catalogue {
+    /// CREATE TABLE. Refusals, in this order: ORA-00955 where a table, or an object of class Unit that the edition sees, has
+    /// the name; EBR-0029 of a bad table; EBR-0036 where there are more than 64 columns; EBR-0037 where 1,000 tables live.
+    pub fn create_table(
+        &mut self,
+        alloc: Global,
+        e: EditionNo,
+        name: &Name,
+        columns: &[ColumnTree],
+        key: &[Name],
+    ) -> Result<CatalogueRecord, Stop>
+        ensures { Applies self.old self.new (λ c. spec.create_table c e name.now columns.now key.now) result }
+    {
+        match self.table_of(alloc, e, name, columns, key) {
+            Ok(def) => self.add_table(alloc, def),
+            Err(stop) => Err(stop),
+        }
+    }
+
+    /// The table that CREATE TABLE defines, where it isn't refused before the number of tables is tested.
+    fn table_of(
+        &self,
+        alloc: Global,
+        e: EditionNo,
+        name: &Name,
+        columns: &[ColumnTree],
+        key: &[Name],
+    ) -> Result<TableDef, Stop>
+        ensures { ForLists self.now (λ c. Creates (first_table_refusal c e name.now columns.now key.now) (columns_spec.table_of name.now columns.now key.now) result) }
+    {
+        let names = column_names(alloc, columns)?;
+        let key_names = key_names(alloc, columns, key)?;
+        if self.is_taken(alloc, e, name)? {
+            return Err(Stop::Raised(Code::Ora(955)));
+        }
+        if is_bad_table(alloc, columns, key, names.as_slice(), key_names.as_slice())? {
+            return Err(Stop::Raised(Code::Ebr(29)));
+        }
+        if columns.len() > MAX_COLUMNS {
+            return Err(Stop::Raised(Code::Ebr(36)));
+        }
+        Ok(table_of(
+            alloc,
+            name,
+            columns,
+            key,
+            names.as_slice(),
+            key_names.as_slice(),
+        )?)
+    }
+
+    /// Whether a table has the name, or an object of class Unit that the edition sees.
+    fn is_taken(&self, alloc: Global, e: EditionNo, name: &Name) -> Result<bool, NoMemory>
+        ensures { ForLists self.now (λ c. IfOk result (λ taken. taken ≡ spec.is_taken c e name.now)) }
+    {
+        let key = unit_key(alloc, name)?;
+        Ok(self.table(name).is_some() || self.visible(e, &key).is_some())
+    }
+
+    /// Makes a table, whose name no object has.
+    fn add_table(&mut self, alloc: Global, def: TableDef) -> Result<CatalogueRecord, Stop>
+        ensures { Applies self.old self.new (λ c. made_table c def) result }
+    {
+        let mut kept = kept_copy(alloc, &def)?;
+        match self.tables.create(def) {
+            Ok(id) => {
+                kept.id = id;
+                Ok(CatalogueRecord::Table(kept))
+            }
+            Err(stop) => Err(stop),
+        }
+    }
+
+    /// ALTER TABLE ADD. Refusals: ORA-00942 where no table has the name, EBR-0029 of a bad column, EBR-0036 where the table
+    /// has 64 columns.
+    pub fn add_column(
+        &mut self,
+        alloc: Global,
+        table: &Name,
+        name: &Name,
+        ty: &DeclaredType,
+    ) -> Result<CatalogueRecord, Stop>
+        ensures { Applies self.old self.new (λ c. spec.add_column c table.now name.now ty.now) result }
+    {
+        let Some(id) = self.table_id(table) else {
+            return Err(Stop::Raised(Code::Ora(942)));
+        };
+        match column_type(ty) {
+            Some(ty) => self.widen(alloc, table, id, name, ty),
+            None => Err(Stop::Raised(Code::Ebr(29))),
+        }
+    }
+
+    /// The id of the living table of a name.
+    fn table_id(&self, name: &Name) -> Option<TableId>
+        ensures id { result ≡ id_in self.now name.now }
+        ensures named { IfSome result (λ id. table_name self.now.tables id ≡ name.now) }
+    {
+        match self.tables.find(name) {
+            Some(table) => Some(table.id),
+            None => None,
+        }
+    }
+
+    /// Adds a column to a table.
+    fn widen(
+        &mut self,
+        alloc: Global,
+        table: &Name,
+        id: TableId,
+        name: &Name,
+        ty: ColType,
+    ) -> Result<CatalogueRecord, Stop>
+        requires there { id_in self.old table.now ≡ Some id }
+        requires named { table_name self.old.tables id ≡ table.now }
+        ensures { Applies self.old self.new (λ c. spec.added_column (table_in c table.now) name.now (Some ty)) result }
+    {
+        let column = new_column(alloc, name, ty)?;
+        let copy = column.clone_in(alloc)?;
+        match self.tables.add_column(table, column) {
+            Ok(()) => Ok(CatalogueRecord::Column {
+                table: id,
+                column: copy,
+            }),
+            Err(stop) => Err(stop),
+        }
+    }
+
+    /// DROP TABLE. Refusal: ORA-00942 where no table has the name.
+    pub fn drop_table(&mut self, name: &Name) -> Result<CatalogueRecord, Stop>
+        ensures { Applies self.old self.new (λ c. spec.drop_table c name.now) result }
+    {
+        let Some(id) = self.table_id(name) else {
+            return Err(Stop::Raised(Code::Ora(942)));
+        };
+        self.remove_table(name, id)
+    }
+
+    fn remove_table(&mut self, name: &Name, id: TableId) -> Result<CatalogueRecord, Stop>
+        requires there { id_in self.old name.now ≡ Some id }
+        requires named { table_name self.old.tables id ≡ name.now }
+        ensures { Applies self.old self.new (λ c. spec.drop_table c name.now) result }
+    {
+        match self.tables.remove(name) {
+            Ok(_) => Ok(CatalogueRecord::TableGone(id)),
+            Err(code) => Err(Stop::Raised(code)),
+        }
+    }
+}
+
+/// A copy of the definition as it is kept, before it has its id.
+fn kept_copy(alloc: Global, def: &TableDef) -> Result<TableDef, NoMemory>
+    ensures { IfOk result (λ copy. copy ≡ kept_as def.now.id def.now) }
+{
+    let columns = with_key_not_null(alloc, def.columns.as_slice(), def.key.as_slice())?;
+    let key = def.key.clone_in(alloc)?;
+    Ok(TableDef {
+        id: def.id,
+        name: def.name.clone_in(alloc)?,
+        columns,
+        key,
+    })
+}
+
+fn new_column(alloc: Global, name: &Name, ty: ColType) -> Result<Column, NoMemory>
+    ensures { IfOk result (λ column. column ≡ spec.new_column name.now ty) }
+{
+    Ok(Column {
+        name: name.clone_in(alloc)?,
+        ty,
+        not_null: false,
+    })
+}
