@@ -3,6 +3,7 @@ use Rattle.std.proofs.Common.{ℕ, ◌≡◌, ◌≤◌, List, [], ◌∷◌, �
 use Rattle.std.specs.Prelude.{IfErr, OnErr}
 use Rattle.ebr_outside.specs.Faults.{Rises}
 use Rattle.ebr_server.specs.declared.ask.Ask.TheVariants.{Leave}
+use Rattle.ebr_server.specs.declared.ask.Answer.{Answer}
 use Rattle.ebr_server.specs.declared.ask.Answer.TheVariants.{Done}
 use Rattle.ebr_server.specs.declared.engine.Engine.{Engine}
 use Rattle.ebr_server.specs.declared.worker.Halt.{Halt}
@@ -17,16 +18,16 @@ use Rattle.ebr_server.specs.inside.Worker.{RunsOn, Quits, RanPieces}
 use Rattle.ebr_server.proofs.Runs.{entry, RunsOn-writes, RanToEnd-left, Quit-left, Quits-writes, CanQuit-run_pieces}
 
 -- the entry of Leave
-left_entry : (old new : Engine) → Answers old new Leave → entries new ≡ entries old ++ entry Leave Done ∷ []
-left_entry old new left = left.entry ∙ ap (λ x. entries old ++ entry Leave x ∷ []) (left.leaves refl)
+left_entry : (old new : Engine) (x : Answer) → Answers old new Leave x → entries new ≡ entries old ++ entry Leave Done ∷ []
+left_entry old new x left = left.entry ∙ ap (λ x. entries old ++ entry Leave x ∷ []) (left.leaves refl)
 
-pub ran_to_end : (script : List ℕ) (old new : Engine) (o : Output) → Answers old new Leave → o.pending ≡ [] → RunsOn script (run_pieces script []) (entries old) o
+pub ran_to_end : (script : List ℕ) (old new : Engine) (x : Answer) (o : Output) → Answers old new Leave x → o.pending ≡ [] → RunsOn script (run_pieces script []) (entries old) o
     → RanToEnd script (Mine (entries new) the_session) o.written
-ran_to_end script old new o left none was =
-    subst (λ h. RanToEnd script (Mine h the_session) o.written) (sym (left_entry old new left)) (RanToEnd-left script (entries old) o none was)
+ran_to_end script old new x o left none was =
+    subst (λ h. RanToEnd script (Mine h the_session) o.written) (sym (left_entry old new x left)) (RanToEnd-left script (entries old) o none was)
 
-pub quit : (script : List ℕ) (old new : Engine) (o : Output) → Answers old new Leave → Quits script (entries old) o → Quit script (Mine (entries new) the_session) o.written
-quit script old new o left was = subst (λ h. Quit script (Mine h the_session) o.written) (sym (left_entry old new left)) (Quit-left script (entries old) o was)
+pub quit : (script : List ℕ) (old new : Engine) (x : Answer) (o : Output) → Answers old new Leave x → Quits script (entries old) o → Quit script (Mine (entries new) the_session) o.written
+quit script old new x o left was = subst (λ h. Quit script (Mine h the_session) o.written) (sym (left_entry old new x left)) (Quit-left script (entries old) o was)
 
 rises_since : (old mid new : ℕ) → old ≤ mid → Rises mid new → Rises old new
 rises_since old mid new grown rises = omega arith

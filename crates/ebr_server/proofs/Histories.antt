@@ -1,21 +1,19 @@
 -- Histories with one more entry.
-use Rattle.std.proofs.Common.{ℕ, Bool, true, false, ◌≡◌, ◌≢◌, List, [], ◌∷◌, ◌++◌, refl, sym, ap, ◌∙◌, subst, subst₂, append_assoc, append-nil, ◌<◌}
+use Rattle.std.proofs.Common.{◌≡◌, ◌≢◌, List, [], ◌∷◌, ◌++◌, refl, sym, ap, ◌∙◌, subst, append_assoc, append-nil, ◌<◌}
 use Rattle.std.specs.Prelude.{Option, Some, None, IsSome, vec_len, vec_capacity}
+use Rattle.ebr_base.specs.declared.numbers.EditionNo.{EditionNo}
+use Rattle.ebr_cross.specs.Catalogue.{Lists}
 use Rattle.ebr_server.specs.declared.ask.Ask.{Ask}
 use Rattle.ebr_server.specs.declared.ask.Ask.TheVariants.{Begin, Ddl, SetEdition, EndCall, Leave}
-use Rattle.ebr_server.specs.declared.ask.Procedure.{Procedure}
-use Rattle.ebr_server.specs.Forms.{Effect, MakesProcedure, MakesEdition, MakesNothing, effect_of}
-use Rattle.ebr_server.specs.Sessions.{look_up}
-use Rattle.ebr_server.specs.inside.Procedures.{number_of}
 use Rattle.ebr_server.specs.declared.ask.Answer.{Answer}
 use Rattle.ebr_server.specs.declared.ask.Answer.TheVariants.{Done, NoMemory}
 use Rattle.ebr_server.specs.declared.ask.Entry.{Entry}
 use Rattle.ebr_server.specs.declared.engine.Engine.{Engine}
-use Rattle.ebr_server.specs.declared.engine.Editions.{Editions}
-use Rattle.ebr_server.specs.Machine.{Database, Reply, the_session, start}
+use Rattle.ebr_server.specs.Records.{catalogue_of}
+use Rattle.ebr_server.specs.Machine.{Database, Session, Replied, Reply, the_session, start}
 use Rattle.ebr_server.specs.History.{After, Legal, Answered, IsLive, next}
-use Rattle.ebr_server.specs.inside.Engine.{IsOpen, Answers, IsSpelled, entries, entry_of, answer_in, answer_to_definition, Keeps, answer_to_create, answer_to_create_edition, answer_to_set_edition, editions_after}
-use Rattle.ebr_server.proofs.Replies.{answer-Reply, Keeps-Reply}
+use Rattle.ebr_server.specs.inside.Engine.{IsOpen, Answers, IsSpelled, Keeps, LeavesReply, ForHeld, entries, entry_of}
+use Rattle.ebr_server.proofs.Replies.{IsReply, is_reply, in_edition}
 
 pub After-append : (db : Database) (h : List Entry) (x : Entry) → After db (h ++ x ∷ []) ≡ next (After db h) x
 After-append db [] x = refl
@@ -35,71 +33,75 @@ GoesOnWith-append h x legal live memory same more goes =
     let later : Legal (next (After start h) x) more = subst (λ db. Legal db more) (After-append start h x) goes in
     subst (Legal start) (sym (append_assoc h (x ∷ []) more)) (legal (x ∷ more) (live, answered x.answer _ _ _ memory same later))
 
-answer_to_create-memory : (replace : Bool) (o : Option Procedure) → answer_to_create replace o ≢ NoMemory
-answer_to_create-memory false (Some p) e = cc
-answer_to_create-memory false None e = cc
-answer_to_create-memory true (Some p) e = cc
-answer_to_create-memory true None e = cc
-
-answer_to_create_edition-memory : (o : Option ℕ) → answer_to_create_edition o ≢ NoMemory
-answer_to_create_edition-memory (Some n) e = cc
-answer_to_create_edition-memory None e = cc
-
-answer_to_set_edition-memory : (o : Option ℕ) → answer_to_set_edition o ≢ NoMemory
-answer_to_set_edition-memory (Some n) e = cc
-answer_to_set_edition-memory None e = cc
-
-answer_to_definition-memory : (editions : Editions) (makes : Effect) → answer_to_definition editions makes ≢ NoMemory
-answer_to_definition-memory editions (MakesProcedure replace name line) e = answer_to_create-memory replace (look_up name editions.procedures) e
-answer_to_definition-memory editions (MakesEdition name) e = answer_to_create_edition-memory (number_of name editions.names) e
-answer_to_definition-memory editions MakesNothing e = cc
-
--- the engine's own answers take no memory
-answer_in-memory : (editions : Editions) (ask : Ask) → answer_in editions ask ≢ NoMemory
-answer_in-memory editions Begin e = cc
-answer_in-memory editions (Ddl what text) e = answer_to_definition-memory editions (effect_of what) e
-answer_in-memory editions (SetEdition name) e = answer_to_set_edition-memory (number_of name editions.names) e
-answer_in-memory editions (EndCall failed) e = cc
-answer_in-memory editions Leave e = cc
+-- the history with one entry more, which holds a copy of the answer
+pub one_entry : (old mid new : List Entry) (ask : Ask) (answer copy : Answer) → new ≡ mid ++ entry_of ask copy ∷ [] → mid ≡ old → copy ≡ answer → new ≡ old ++ entry_of ask answer ∷ []
+one_entry old mid new ask answer copy added same is =
+    added ∙ ap (λ h. h ++ entry_of ask copy ∷ []) same ∙ ap (λ x. old ++ entry_of ask x ∷ []) is
 
 -- What the engine has done where it answered without want of memory.
 pub record HasReplied (old new : Engine) (ask : Ask) (answer : Answer) : Type 0 where
   pub entry : entries new ≡ entries old ++ entry_of ask answer ∷ []
-  pub reply : answer ≡ answer_in old.editions ask
-  pub after : new.editions ≡ editions_after old.editions ask
+  pub reply : ForHeld old.current (λ c e. LeavesReply ask new.current answer c e)
   pub room : ask ≢ Leave → vec_len new.history < vec_capacity new.history
 
-module _ (old new : Engine) (ask : Ask) (answer : Answer) (h : IsOpen old) (spelled : IsSpelled ask) (r : HasReplied old new ask answer) where
+module _ (old new : Engine) (ask : Ask) (answer : Answer) (h : IsOpen old) (r : HasReplied old new ask answer) where
   abbrev db : Database
   db = After start (entries old)
 
-  memory : answer ≢ NoMemory
-  memory e = answer_in-memory old.editions ask (sym r.reply ∙ e)
+  abbrev e : EditionNo
+  e = old.current.edition
 
-  same : answer ≡ (Reply db the_session ask).answer
-  same = r.reply ∙ sym (answer-Reply db old.editions h.keeps ask)
+  is_db : db ≡ in_edition db.records e
+  is_db = ap (λ (ss : List Session). record { records = db.records; sessions = ss }) h.keeps.sessions
 
-  goes_on : GoesOnWith (entries new)
-  goes_on = subst GoesOnWith (sym r.entry) (GoesOnWith-append (entries old) (entry_of ask answer) h.legal (subst IsSome (sym h.keeps.current) refl) memory same)
+  live : IsLive db the_session
+  live = subst (λ d. IsLive d the_session) (sym is_db) refl
 
-  leaves : ask ≡ Leave → answer ≡ Done
-  leaves e = r.reply ∙ ap (answer_in old.editions) e
+  left : LeavesReply ask new.current answer (catalogue_of db.records) e
+  left = r.reply (catalogue_of db.records) e h.keeps.holds
+
+  goes_on : answer ≢ NoMemory → answer ≡ (Reply db the_session ask).answer → GoesOnWith (entries new)
+  goes_on memory same = subst GoesOnWith (sym r.entry) (GoesOnWith-append (entries old) (entry_of ask answer) h.legal live memory same)
 
   after : After start (entries new) ≡ (Reply db the_session ask).database
   after = ap (After start) r.entry ∙ After-append start (entries old) (entry_of ask answer)
 
-  stays_open : ask ≢ Leave → IsOpen new
-  stays_open stays = record {
-    legal = goes_on;
-    keeps = subst₂ Keeps (sym r.after) (sym after) (Keeps-Reply db old.editions h.keeps ask stays spelled);
-    room = r.room stays;
+  legal_by : answer ≢ NoMemory → answer ≡ (Reply db the_session ask).answer → Legal start (entries new)
+  legal_by memory same = subst (Legal start) (append-nil (entries new)) (goes_on memory same [] tt)
+
+  replied : ask ≢ Leave → IsSpelled ask → IsReply new.current answer (Reply db the_session ask)
+  replied stays spells = subst (λ d. IsReply new.current answer (Reply d the_session ask)) (sym is_db) (is_reply new.current answer db.records e ask stays spells left)
+
+  answers_stays : ask ≢ Leave → IsSpelled ask → Answers old new ask answer
+  answers_stays stays spells = let is = replied stays spells in record {
+    entry = r.entry;
+    legal = legal_by is.goes_on is.answer_is;
+    leaves = λ same. absurd (stays same);
+    stays_open = λ memory stays. record {
+      legal = goes_on is.goes_on is.answer_is;
+      keeps = subst (Keeps new.current) (sym after) is.keeps;
+      room = r.room stays;
+    };
   }
 
-  pub answers : Answers old new ask
-  answers = record {
-    answer = answer;
-    entry = r.entry;
-    legal = subst (Legal start) (append-nil (entries new)) (goes_on [] tt);
-    leaves = leaves;
-    stays_open = λ memory stays. stays_open stays;
-  }
+answers_leave : (old new : Engine) (answer : Answer) (h : IsOpen old) (r : HasReplied old new Leave answer) → Answers old new Leave answer
+answers_leave old new answer h r =
+    let done : answer ≡ Done = (left old new Leave answer h r).answer_is in
+    let same : answer ≡ (Reply (After start (entries old)) the_session Leave).answer =
+    done ∙ ap (λ d. (Reply d the_session Leave).answer) (sym (is_db old new Leave answer h r)) in
+    record {
+      entry = r.entry;
+      legal = legal_by old new Leave answer h r (λ is. by_done (sym done ∙ is)) same;
+      leaves = λ is. done;
+      stays_open = λ memory stays. absurd (stays refl);
+    }
+  where
+    by_done : Done ≡ NoMemory → ⊥
+    by_done is = cc
+
+pub answers : (old new : Engine) (ask : Ask) (answer : Answer) → IsOpen old → IsSpelled ask → HasReplied old new ask answer → Answers old new ask answer
+answers old new Leave answer h spells r = answers_leave old new answer h r
+answers old new Begin answer h spells r = answers_stays old new Begin answer h r (λ is. cc) spells
+answers old new (Ddl what text) answer h spells r = answers_stays old new (Ddl what text) answer h r (λ is. cc) spells
+answers old new (SetEdition name) answer h spells r = answers_stays old new (SetEdition name) answer h r (λ is. cc) spells
+answers old new (EndCall failed) answer h spells r = answers_stays old new (EndCall failed) answer h r (λ is. cc) spells

@@ -1,11 +1,4 @@
-pub mod InOrder
-pub mod Placing
-pub mod Lookups
-pub mod Entries
-pub mod Lines
-pub mod Views
 pub mod Records
-pub mod Creations
 pub mod Replies
 pub mod Histories
 pub mod ReadBytes

@@ -9,7 +9,7 @@ use Rattle.ebr_script.specs.Pieces.{pieces_of, text_of}
 use Rattle.ebr_script.specs.declared.piece.Piece.{Piece}
 use Rattle.ebr_script.specs.declared.piece.PieceKind.{PieceKind}
 use Rattle.ebr_script.specs.declared.piece.PieceKind.TheVariants as piece
-use Rattle.ebr_server.specs.Forms.{Effect, MakesProcedure, MakesEdition, MakesNothing, effect_of, called_name}
+use Rattle.ebr_server.specs.Forms.{called_name}
 use Rattle.ebr_server.specs.declared.ask.Ask.{Ask}
 use Rattle.ebr_server.specs.declared.ask.Ask.TheVariants.{Leave}
 use Rattle.ebr_server.specs.declared.ask.Answer.{Answer}
@@ -20,7 +20,7 @@ use Rattle.std.proofs.lemmas.List.Elements.{filter-append}
 use Rattle.std.proofs.lemmas.List.{map-append}
 use Rattle.ebr_server.specs.Machine.{the_session}
 use Rattle.ebr_server.specs.History.{Mine, asks, answers, exchange, is_of, GoesOn, EndsRun, AllGoOn}
-use Rattle.ebr_server.specs.Sessions.{State, Step, Ended, ended, leaving, asked, on_answer, then_run, printing, run_pieces, run_piece, run_statement, run_definition, run_block, SessionRun, Printed}
+use Rattle.ebr_server.specs.Sessions.{State, Step, Ended, ended, leaving, asked, on_answer, then_run, printing, run_pieces, run_piece, run_statement, run_block, SessionRun, Printed}
 use Rattle.ebr_server.specs.Program.{IsPrefix, RanToEnd, RanOut, Quit, printed_before, printed_before_last}
 use Rattle.ebr_server.specs.inside.Output.{Output, printed, WritesOn}
 use Rattle.ebr_server.specs.inside.Worker.{answered, state_behind, later, after, RunsOn, Quits, CanQuit}
@@ -180,18 +180,13 @@ CanQuit-printing t rest q made p =
     let o = q made (p ++ t) in
     record { whole = o.whole; part = IsPrefix-trans p (p ++ t) o.whole (record { rest = t; whole = refl }) o.part; leaves = o.leaves; waits = o.waits }
 
-CanQuit-definition : (makes : Effect) (what : Definition) (text : List ℕ) (rest : Step) → CanQuit rest → CanQuit (λ σ. then_run (run_definition makes what text σ) rest)
-CanQuit-definition (MakesProcedure replace name line) what text rest q = CanQuit-asked _ _ rest
-CanQuit-definition (MakesEdition name) what text rest q = CanQuit-asked _ _ rest
-CanQuit-definition MakesNothing what text rest q = CanQuit-printing _ rest q
-
 CanQuit-block : (called : Option (List ℕ)) (rest : Step) → CanQuit rest → CanQuit (λ σ. then_run (run_block called σ) rest)
 CanQuit-block None rest q = CanQuit-printing _ rest q
 CanQuit-block (Some name) rest q = CanQuit-asked _ _ rest
 
 CanQuit-statement : (s : Statement) (text : List ℕ) (rest : Step) → CanQuit rest → CanQuit (λ σ. then_run (run_statement s text σ) rest)
 CanQuit-statement (statement.SetEdition name) text rest q = CanQuit-asked _ _ rest
-CanQuit-statement (statement.Definition what) text rest q = CanQuit-definition (effect_of what) what text rest q
+CanQuit-statement (statement.Definition what) text rest q = CanQuit-asked _ _ rest
 CanQuit-statement (statement.Block block) text rest q = CanQuit-block (called_name block) rest q
 CanQuit-statement s text rest q = CanQuit-printing _ rest q
 

@@ -2,6 +2,8 @@
 use Rattle.std.specs.Prelude.{◌⊎◌}
 use Rattle.std.proofs.Common.{inl, inr, ℕ, ◌≡◌, ◌≢◌, ◌≤◌, List, [], ◌++◌, Result, Ok, Err, arith, refl, sym, ◌∙◌, ap, subst, append-nil, append_assoc}
 use Rattle.ebr_outside.specs.Faults.{Rises}
+use Rattle.ebr_base.specs.declared.code.Code.{Code}
+use Rattle.ebr_ast.specs.declared.view.EditionView.{EditionView}
 use Rattle.ebr_server.specs.declared.ask.Ask.{Ask}
 use Rattle.ebr_server.specs.declared.ask.Ask.TheVariants.{Begin}
 use Rattle.ebr_server.specs.declared.ask.Answer.{Answer}
@@ -12,7 +14,8 @@ use Rattle.ebr_server.specs.declared.worker.Halt.TheVariants.{SinkFault, NoMemor
 use Rattle.ebr_server.specs.Machine.{the_session}
 use Rattle.ebr_server.specs.declared.ask.Answer.TheVariants as answer
 use Rattle.ebr_server.specs.History.{Mine, GoesOn, EndsRun}
-use Rattle.ebr_server.specs.Sessions.{Step, call_after, asked, then_run, printing, printing_result, result_line}
+use Rattle.ebr_server.specs.Forms.{Called, called_object}
+use Rattle.ebr_server.specs.Sessions.{Step, call_after, run_call, unit_named, asked, then_run, printing, printing_result, result_line}
 use Rattle.ebr_server.specs.Program.{IsPrefix, RanOut}
 use Rattle.ebr_server.specs.inside.Engine.{IsOpen, Answers, entries}
 use Rattle.ebr_server.specs.inside.Output.{Output, WritesOn, Prints, PrintsPart}
@@ -24,27 +27,27 @@ at_history : (P : List Entry → Type 0) (new grown : List Entry) → new ≡ gr
 at_history P new grown e fact = subst P (sym e) fact
 
 -- The run goes on behind an ask.
-goes_on : (script : List ℕ) (a : Ask) (k : Answer → Step) (rest : Step) (e e' : Engine) (o o' : Output) (was : WasAnswered a e o e' o')
-    → RunsOn script (λ σ. then_run (asked a k σ) rest) (entries e) o → RunsOn script (λ σ. then_run (k was.asks.answer σ) rest) (entries e') o'
-goes_on script a k rest e e' o o' was runs =
-    at_history (λ h. RunsOn script (λ σ. then_run (k was.asks.answer σ) rest) h o') (entries e') _ was.asks.entry
-    (RunsOn-asked script a k rest (entries e) o' (RunsOn-writes script _ (entries e) o o' was.asks.writes runs) was.asks.answer was.asks.all_written was.goes_on)
+goes_on : (script : List ℕ) (a : Ask) (x : Answer) (k : Answer → Step) (rest : Step) (e e' : Engine) (o o' : Output) (was : WasAnswered a x e o e' o')
+    → RunsOn script (λ σ. then_run (asked a k σ) rest) (entries e) o → RunsOn script (λ σ. then_run (k x σ) rest) (entries e') o'
+goes_on script a x k rest e e' o o' was runs =
+    at_history (λ h. RunsOn script (λ σ. then_run (k x σ) rest) h o') (entries e') _ was.asks.entry
+    (RunsOn-asked script a k rest (entries e) o' (RunsOn-writes script _ (entries e) o o' was.asks.writes runs) x was.asks.all_written was.goes_on)
 
 rises_since : (old mid new : ℕ) → old ≤ mid → Rises mid new → Rises old new
 rises_since old mid new grown rises = omega arith
 
 -- A step goes on from what its ask was answered.
-pub Does-asked : (r : Result (Unit {0}) Halt) (a : Ask) (k : Answer → Step) (e e' last : Engine) (o o' new : Output) (was : WasAnswered a e o e' o')
-    → Does r (k was.asks.answer) e' o' last new → Does r (asked a k) e o last new
-Does-asked r a k e e' last o o' new was did = by_case r did
+pub Does-asked : (r : Result (Unit {0}) Halt) (a : Ask) (x : Answer) (k : Answer → Step) (e e' last : Engine) (o o' new : Output) (was : WasAnswered a x e o e' o')
+    → Does r (k x) e' o' last new → Does r (asked a k) e o last new
+Does-asked r a x k e e' last o o' new was did = by_case r did
   where
-    on : (script : List ℕ) (rest : Step) → RunsOn script (λ σ. then_run (asked a k σ) rest) (entries e) o → RunsOn script (λ σ. then_run (k was.asks.answer σ) rest) (entries e') o'
-    on script rest runs = goes_on script a k rest e e' o o' was runs
+    on : (script : List ℕ) (rest : Step) → RunsOn script (λ σ. then_run (asked a k σ) rest) (entries e) o → RunsOn script (λ σ. then_run (k x σ) rest) (entries e') o'
+    on script rest runs = goes_on script a x k rest e e' o o' was runs
 
-    quit : QuitStep (k was.asks.answer) e' o' last new → QuitStep (asked a k) e o last new
+    quit : QuitStep (k x) e' o' last new → QuitStep (asked a k) e o last new
     quit did = record { by = λ script rest can runs. did.by script rest can (on script rest runs); is_open = did.is_open; counted = omega (arith, was.asks.writes.counted, did.counted) }
 
-    by_case : (r : Result (Unit {0}) Halt) → Does r (k was.asks.answer) e' o' last new → Does r (asked a k) e o last new
+    by_case : (r : Result (Unit {0}) Halt) → Does r (k x) e' o' last new → Does r (asked a k) e o last new
     by_case (Ok u) did = record { by = λ script rest runs. did.by script rest (on script rest runs); is_open = did.is_open; counted = omega (arith, was.asks.writes.counted, did.counted) }
     by_case (Err SinkFault) did = (quit did.0, rises_since o.faults o'.faults new.faults was.asks.writes.counted did.1)
     by_case (Err NoMemory) did = quit did
@@ -131,24 +134,35 @@ Does-not-asked NoMemory a k e e' o new is_open was = absurd was
 Does-not-asked Answered a k e e' o new is_open was = record {
   by = λ script rest runs.
       at_history (λ h. RanOut script (Mine h the_session) new.written) (entries e') _ was.asks.entry
-      (RanOut-asked script a k rest (entries e) new (RunsOn-writes script _ (entries e) o new was.asks.writes runs) was.asks.answer was.asks.all_written was.ends);
+      (RanOut-asked script a k rest (entries e) new (RunsOn-writes script _ (entries e) o new was.asks.writes runs) was.answer was.asks.all_written was.ends);
   legal = was.asks.legal;
   counted = was.asks.writes.counted;
 }
 
 -- An ask with the line that tells how it ended.
-pub Does-request : (r : Result (Unit {0}) Halt) (a : Ask) (text : List ℕ) (x : Answer) (e e' : Engine) (o o' new : Output) (was : WasAnswered a e o e' o') → IsOpen e' → x ≡ was.asks.answer
+pub Does-request : (r : Result (Unit {0}) Halt) (a : Ask) (text : List ℕ) (x : Answer) (e e' : Engine) (o o' new : Output) → WasAnswered a x e o e' o' → IsOpen e'
     → Prints r (result_line text x) o' new → Does r (asked a (printing_result text)) e o e' new
-Does-request r a text x e e' o o' new was is_open is_answer prints =
-    Does-asked r a (printing_result text) e e' e' o o' new was
-    (subst (λ y. Does r (printing_result text y) e' o' e' new) is_answer (Does-prints r (result_line text x) e' o' new is_open prints))
+Does-request r a text x e e' o o' new was is_open prints =
+    Does-asked r a x (printing_result text) e e' e' o o' new was (Does-prints r (result_line text x) e' o' new is_open prints)
 
 -- A call goes on from what the answer to Begin makes of it.
-pub Does-call : (r : Result (Unit {0}) Halt) (name : List ℕ) (x : Answer) (step : Step) (e e' last : Engine) (o o' new : Output) (was : WasAnswered Begin e o e' o') → x ≡ was.asks.answer
+pub Does-call : (r : Result (Unit {0}) Halt) (name : List ℕ) (x : Answer) (step : Step) (e e' last : Engine) (o o' new : Output) → WasAnswered Begin x e o e' o'
     → call_after name x ≡ step → Does r step e' o' last new → Does r (asked Begin (call_after name)) e o last new
-Does-call r name x step e e' last o o' new was is_answer is_step did =
-    let by_answer : Does r (call_after name x) e' o' last new = subst (λ f. Does r f e' o' last new) (sym is_step) did in
-    Does-asked r Begin (call_after name) e e' last o o' new was (subst (λ y. Does r (call_after name y) e' o' last new) is_answer by_answer)
+Does-call r name x step e e' last o o' new was is_step did =
+    Does-asked r Begin x (call_after name) e e' last o o' new was (subst (λ f. Does r f e' o' last new) (sym is_step) did)
+
+-- what is done with a view, by what the name stands for there
+pub call-View : (name : List ℕ) (x : Answer) (v w : EditionView) (called : Called) → x ≡ answer.View v → called ≡ called_object (unit_named name w.objects) → w ≡ v → call_after name x ≡ run_call called
+call-View name x v w called is told same =
+    ap (call_after name) is ∙ ap (λ (u : EditionView). run_call (called_object (unit_named name u.objects))) (sym same) ∙ ap run_call (sym told)
+
+-- an answer that is neither a view nor a refusal
+pub call-otherwise : (name : List ℕ) (x : Answer) → ((v : EditionView) → x ≢ answer.View v) → ((c : Code) (s : ℕ) (l : List (List ℕ)) → x ≢ answer.Refused c s l) → call_after name x ≡ printing []
+call-otherwise name (answer.View v) no_view no_refusal = absurd (no_view v refl)
+call-otherwise name (answer.Refused c s l) no_view no_refusal = absurd (no_refusal c s l refl)
+call-otherwise name answer.Done no_view no_refusal = refl
+call-otherwise name answer.NoMemory no_view no_refusal = refl
+call-otherwise name answer.Stopped no_view no_refusal = refl
 
 nothing_more : (o : Output) → o ≡ record o { pending = o.pending ++ [] }
 nothing_more o = ap (λ bytes. record o { pending = bytes }) (sym (append-nil o.pending))
@@ -157,19 +171,20 @@ pub Does-nothing : (e : Engine) (o : Output) → IsOpen e → Does (Ok tt) (prin
 Does-nothing e o is_open = Does-prints (Ok tt) [] e o o is_open (nothing_more o)
 
 -- The engine answered, and the session goes on.
-pub was_answered : (a : Ask) (e e' : Engine) (o o' : Output) (w : WritesOn o o') (r : Answers e e' a) → o'.pending ≡ [] → GoesOn r.answer → WasAnswered a e o e' o'
-was_answered a e e' o o' w r none on = record {
-  asks = record { answer = r.answer; entry = r.entry; writes = w; all_written = none; legal = r.legal };
+pub was_answered : (a : Ask) (x : Answer) (e e' : Engine) (o o' : Output) → WritesOn o o' → Answers e e' a x → o'.pending ≡ [] → GoesOn x → WasAnswered a x e o e' o'
+was_answered a x e e' o o' w r none on = record {
+  asks = record { entry = r.entry; writes = w; all_written = none; legal = r.legal };
   goes_on = on;
-  is_open = r.stays_open (not_memory r.answer on);
+  is_open = r.stays_open (not_memory x on);
 }
   where
     not_memory : (x : Answer) → GoesOn x → x ≢ answer.NoMemory
     not_memory x on e = subst GoesOn e on
 
-pub was_ended : (a : Ask) (e e' : Engine) (o o' : Output) (w : WritesOn o o') (r : Answers e e' a) → o'.pending ≡ [] → EndsRun r.answer → WasEnded a e o e' o'
-was_ended a e e' o o' w r none ends = record {
-  asks = record { answer = r.answer; entry = r.entry; writes = w; all_written = none; legal = r.legal };
+pub was_ended : (a : Ask) (x : Answer) (e e' : Engine) (o o' : Output) → WritesOn o o' → Answers e e' a x → o'.pending ≡ [] → EndsRun x → WasEnded a e o e' o'
+was_ended a x e e' o o' w r none ends = record {
+  answer = x;
+  asks = record { entry = r.entry; writes = w; all_written = none; legal = r.legal };
   ends = ends;
 }
 

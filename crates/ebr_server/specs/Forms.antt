@@ -1,8 +1,6 @@
--- The forms that run until PL/SQL is interpreted, told off the trees: the definition of a procedure that prints one line,
--- the definition of an edition, and the call of a procedure without arguments. ALTER SESSION is a variant of its own.
-use Rattle.std.specs.Prelude.{ℕ, Bool, List, [], ◌∷◌, Option, Some, None}
-use Rattle.ebr_ast.specs.declared.definition.Definition.{Definition}
-use Rattle.ebr_ast.specs.declared.definition.Definition.TheVariants.{CreateEdition, CreateObject}
+-- The forms that run until PL/SQL is interpreted, told off the trees: the call of a procedure without arguments, and the
+-- procedure that prints one line.
+use Rattle.std.specs.Prelude.{ℕ, List, [], ◌∷◌, Option, Some, None}
 use Rattle.ebr_ast.specs.declared.unit.UnitTree.{UnitTree}
 use Rattle.ebr_ast.specs.declared.unit.UnitTree.TheVariants as unit
 use Rattle.ebr_ast.specs.declared.unit.Parameter.{Parameter}
@@ -14,10 +12,11 @@ use Rattle.ebr_ast.specs.declared.statement.Handler.{Handler}
 use Rattle.ebr_ast.specs.declared.statement.Stmt.{Stmt, out-Stmt}
 use Rattle.ebr_ast.specs.declared.statement.Stmt.TheOpen.{Stmt-F}
 use Rattle.ebr_ast.specs.declared.statement.Stmt.TheOpen as statement
-use Rattle.ebr_ast.specs.declared.expression.Addend.{Addend}
-use Rattle.ebr_ast.specs.declared.expression.Expr.{Expr, out-Expr}
-use Rattle.ebr_ast.specs.declared.expression.Expr.TheOpen.{Expr-F}
-use Rattle.ebr_ast.specs.declared.expression.Expr.TheOpen as expression
+use Rattle.ebr_ast.specs.declared.view.Object.{Object}
+use Rattle.ebr_exprtree.specs.declared.expression.Addend.{Addend}
+use Rattle.ebr_exprtree.specs.declared.expression.Expr.{Expr, out-Expr}
+use Rattle.ebr_exprtree.specs.declared.expression.Expr.TheOpen.{Expr-F}
+use Rattle.ebr_exprtree.specs.declared.expression.Expr.TheOpen as expression
 
 -- the one statement of a block without declarations and handlers
 abbrev pub single : List Decl → List Stmt → List Handler → Option Stmt
@@ -61,23 +60,23 @@ called_by (Some s) = name_in_call (out-Stmt s)
 unfoldable pub called_name : Block → Option (List ℕ)
 called_name b = called_by (only_statement b)
 
--- What a definition makes: a procedure, by OR REPLACE or not, with its name and the line that it prints; an edition; or
--- nothing yet.
-pub data Effect : Type 0 where
-  MakesProcedure : Bool → List ℕ → List ℕ → Effect
-  MakesEdition : List ℕ → Effect
-  MakesNothing : Effect
+-- What a call of a unit is until PL/SQL is interpreted: the unit is no procedure, or one of another form, or it prints this
+-- line.
+pub data Called : Type 0 where
+  Missing : Called
+  NotRun : Called
+  Prints : List ℕ → Called
 
--- A procedure has no result, and this one has no parameters.
-abbrev pub makes_procedure : Bool → List ℕ → List Parameter → Option ParameterType → Option (List ℕ) → Effect
-makes_procedure replace name [] None (Some line) = MakesProcedure replace name line
-makes_procedure replace name parameters result line = MakesNothing
+-- A procedure has no result. One without parameters may have the form that prints one line.
+abbrev pub called_subprogram : List Parameter → Option ParameterType → Option (List ℕ) → Called
+called_subprogram [] None (Some line) = Prints line
+called_subprogram parameters None line = NotRun
+called_subprogram parameters (Some ty) line = Missing
 
-abbrev pub effect_of_unit : Bool → UnitTree → Effect
-effect_of_unit replace (unit.Subprogram s) = makes_procedure replace s.head.name s.head.parameters s.head.result (printed_line s.body)
-effect_of_unit replace u = MakesNothing
+abbrev pub called_unit : UnitTree → Called
+called_unit (unit.Subprogram s) = called_subprogram s.head.parameters s.head.result (printed_line s.body)
+called_unit u = Missing
 
-unfoldable pub effect_of : Definition → Effect
-effect_of (CreateEdition name None) = MakesEdition name
-effect_of (CreateObject replace u) = effect_of_unit replace u
-effect_of d = MakesNothing
+abbrev pub called_object : Option Object → Called
+called_object None = Missing
+called_object (Some o) = called_unit o.tree

@@ -1,5 +1,5 @@
 pub mod Forms
-pub mod Catalogue
+pub mod Records
 pub mod Machine
 pub mod History
 pub mod Sessions

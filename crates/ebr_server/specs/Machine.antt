@@ -1,17 +1,18 @@
 -- The edition machine: what the database is, and what it replies to each ask.
-use Rattle.std.specs.Prelude.{ℕ, zero, suc, ◌-◌, Bool, false, List, [], ◌∷◌, ◌++◌, Option, Some, None, slice_get, slice_set, replicate}
+use Rattle.std.specs.Prelude.{ℕ, zero, suc, ◌-◌, List, [], ◌∷◌, ◌++◌, Option, Some, None, Result, Ok, Err, slice_get, slice_set, replicate}
+use Rattle.std.specs.List.{filter_map}
 use Rattle.ebr_base.specs.declared.numbers.EditionNo.{EditionNo}
 use Rattle.ebr_base.specs.declared.numbers.SessionId.{SessionId}
 use Rattle.ebr_base.specs.declared.code.Code.{Code}
-use Rattle.ebr_base.specs.declared.code.Code.TheVariants.{Ora, Ebr}
+use Rattle.ebr_base.specs.declared.code.Code.TheVariants.{Ebr}
+use Rattle.ebr_cross.specs.declared.record.CatalogueRecord.{CatalogueRecord}
+use Rattle.ebr_cross.specs.Catalogue as catalogue
+use Rattle.ebr_cross.specs.Definitions.{outcome, set_edition}
 use Rattle.ebr_server.specs.declared.ask.Ask.{Ask}
 use Rattle.ebr_server.specs.declared.ask.Ask.TheVariants.{Begin, Ddl, SetEdition, EndCall, Leave}
 use Rattle.ebr_server.specs.declared.ask.Answer.{Answer}
 use Rattle.ebr_server.specs.declared.ask.Answer.TheVariants.{View, Done, Refused}
-use Rattle.ebr_server.specs.declared.ask.Procedure.{Procedure}
-use Rattle.ebr_server.specs.Forms.{Effect, MakesProcedure, MakesEdition, MakesNothing, effect_of}
-use Rattle.ebr_server.specs.Catalogue.{Record, Edition, Object, catalogue_of, Visible, unit_key, edition_named, leaf}
-use Rattle.ebr_server.specs.Catalogue as catalogue
+use Rattle.ebr_server.specs.Records.{Record, record_of, catalogue_of}
 
 -- A session that has left has no edition.
 pub record Session : Type 0 where
@@ -24,7 +25,7 @@ pub record Database : Type 0 where
 
 -- the database of these records with n sessions in the default edition
 abbrev pub Build : List Record → ℕ → Database
-Build records n = record { records = records; sessions = replicate n (record { edition = Some (catalogue_of records).default }) }
+Build records n = record { records = records; sessions = replicate n (record { edition = Some (catalogue_of records).editions.default }) }
 
 -- The new database, the answer, and the records that were made.
 pub record Replied : Type 0 where
@@ -45,6 +46,10 @@ session_at sessions (suc n) = slice_get sessions n
 abbrev pub session_edition : Database → SessionId → Option EditionNo
 session_edition db s = edition_of (session_at db.sessions s.0)
 
+-- the editions in which sessions are
+abbrev pub editions_in_use : List Session → List EditionNo
+editions_in_use sessions = filter_map (λ (x : Session). x.edition) sessions
+
 abbrev pub unchanged : Database → Answer → Replied
 unchanged db a = record { database = db; answer = a; records = [] }
 
@@ -54,28 +59,18 @@ refused db code = unchanged db (Refused code 0 [])
 abbrev pub recorded : Database → Record → Replied
 recorded db r = record { database = record db { records = db.records ++ r ∷ [] }; answer = Done; records = r ∷ [] }
 
-abbrev pub created : Bool → Option Procedure → Database → EditionNo → List ℕ → Replied
-created false (Some p) db e text = refused db (Ora 955)
-created replace found db e text = recorded db (Object e text)
-
-abbrev pub edition_created : Option EditionNo → Database → List ℕ → Replied
-edition_created (Some e) db name = refused db (Ebr 31)
-edition_created None db name = recorded db (Edition name (leaf (catalogue_of db.records)))
-
--- A procedure is made in the session's edition where none of its name is visible there, or in its place. An edition is
--- made where none has its name; it is the child of the leaf. No other definition is carried out yet.
-abbrev pub defined : Database → EditionNo → Effect → List ℕ → Replied
-defined db e (MakesProcedure replace name line) text = created replace (Visible (catalogue_of db.records) e (unit_key name)) db e text
-defined db e (MakesEdition name) text = edition_created (edition_named (catalogue_of db.records) name) db name
-defined db e MakesNothing text = refused db (Ebr 1)
+-- a definition's outcome is recorded, or it is refused
+abbrev pub defined : Database → Result CatalogueRecord Code → Replied
+defined db (Ok r) = recorded db (record_of r)
+defined db (Err code) = refused db code
 
 abbrev pub with_session : Database → SessionId → Session → Database
 with_session db s x = record db { sessions = slice_set db.sessions (s.0 - 1) x }
 
 -- The session's edition is another one from now on.
-abbrev pub edition_set : Option EditionNo → Database → SessionId → Session → Replied
-edition_set None db s x = refused db (Ora 38802)
-edition_set (Some e) db s x = unchanged (with_session db s (record x { edition = Some e })) Done
+abbrev pub edition_set : Result EditionNo Code → Database → SessionId → Session → Replied
+edition_set (Ok e) db s x = unchanged (with_session db s (record x { edition = Some e })) Done
+edition_set (Err code) db s x = refused db code
 
 abbrev pub left : Database → SessionId → Session → Replied
 left db s x = unchanged (with_session db s (record x { edition = None })) Done
@@ -83,8 +78,8 @@ left db s x = unchanged (with_session db s (record x { edition = None })) Done
 -- the reply to a session in its edition
 abbrev pub reply_in : EditionNo → Database → SessionId → Session → Ask → Replied
 reply_in e db s x Begin = unchanged db (View (catalogue.View (catalogue_of db.records) e))
-reply_in e db s x (Ddl what text) = defined db e (effect_of what) text
-reply_in e db s x (SetEdition name) = edition_set (edition_named (catalogue_of db.records) name) db s x
+reply_in e db s x (Ddl what text) = defined db (outcome (catalogue_of db.records) e (editions_in_use db.sessions) what text)
+reply_in e db s x (SetEdition name) = edition_set (set_edition (catalogue_of db.records).editions.made name) db s x
 reply_in e db s x (EndCall failed) = unchanged db Done
 reply_in e db s x Leave = left db s x
 

@@ -1,11 +1,14 @@
 -- What a session asks and prints, by its script and the answers that it is given.
-use Rattle.std.specs.Prelude.{ℕ, zero, suc, true, false, List, [], ◌∷◌, ◌++◌, codes, Option, Some, None, find}
+use Rattle.std.specs.Prelude.{ℕ, zero, suc, Bool, true, false, ◌&&◌, List, [], ◌∷◌, ◌++◌, codes, Option, Some, None, find}
 use Rattle.std.specs.Str.{bytes_eq}
 use Rattle.ebr_base.specs.declared.code.Code.TheVariants.{Ora, Ebr}
 use Rattle.ebr_base.specs.Code.{code_text}
 use Rattle.ebr_ast.specs.declared.definition.Definition.{Definition}
+use Rattle.ebr_ast.specs.declared.definition.Definition.TheVariants.{CreateObject}
 use Rattle.ebr_ast.specs.declared.definition.Statement.{Statement}
 use Rattle.ebr_ast.specs.declared.definition.Statement.TheVariants as statement
+use Rattle.ebr_ast.specs.declared.view.Object.{Object}
+use Rattle.ebr_cross.specs.Kinds.{is_unit_class}
 use Rattle.ebr_script.specs.declared.piece.Piece.{Piece}
 use Rattle.ebr_script.specs.declared.piece.PieceKind.{PieceKind}
 use Rattle.ebr_script.specs.declared.piece.PieceKind.TheVariants as piece
@@ -15,8 +18,7 @@ use Rattle.ebr_server.specs.declared.ask.Ask.TheVariants.{Begin, Ddl, EndCall, L
 use Rattle.ebr_server.specs.declared.ask.Ask.TheVariants as ask
 use Rattle.ebr_server.specs.declared.ask.Answer.{Answer}
 use Rattle.ebr_server.specs.declared.ask.Answer.TheVariants.{View, Done, Refused, NoMemory, Stopped}
-use Rattle.ebr_server.specs.declared.ask.Procedure.{Procedure}
-use Rattle.ebr_server.specs.Forms.{Effect, MakesProcedure, MakesEdition, MakesNothing, effect_of, called_name}
+use Rattle.ebr_server.specs.Forms.{Called, Missing, NotRun, Prints, called_name, called_object}
 
 -- Where a session stands: the asks it made, what it printed, the answers still to come, and after how many of them it
 -- quits, if it does.
@@ -95,16 +97,21 @@ result_line text x = []
 abbrev pub printing_result : List ℕ → Answer → Step
 printing_result text x = printing (result_line text x)
 
-abbrev pub look_up : List ℕ → List Procedure → Option Procedure
-look_up n procedures = find (λ p. bytes_eq n p.name) procedures
+abbrev pub is_unit_named : List ℕ → Object → Bool
+is_unit_named name o = is_unit_class o.key.class && bytes_eq name o.key.name
 
--- A block that calls what isn't visible fails its checks and runs nothing.
-abbrev pub run_call : Option Procedure → Step
-run_call None σ = asked (EndCall true) (printing_result (code_text (Ora 6550))) σ
-run_call (Some p) σ = then_run (printing (line_of p.line) σ) (asked (EndCall false) (printing_result (codes "OK")))
+-- the object of class Unit of a name; no two of an edition have one name
+abbrev pub unit_named : List ℕ → List Object → Option Object
+unit_named name objects = find (is_unit_named name) objects
+
+-- A block that calls what isn't visible fails its checks and runs nothing. A procedure of another form isn't run yet.
+abbrev pub run_call : Called → Step
+run_call Missing σ = asked (EndCall true) (printing_result (code_text (Ora 6550))) σ
+run_call NotRun σ = asked (EndCall true) (printing_result (code_text (Ebr 1))) σ
+run_call (Prints line) σ = then_run (printing (line_of line) σ) (asked (EndCall false) (printing_result (codes "OK")))
 
 abbrev pub call_after : List ℕ → Answer → Step
-call_after name (View procedures) = run_call (look_up name procedures)
+call_after name (View view) = run_call (called_object (unit_named name view.objects))
 call_after name (Refused code steps lines) = printing (line_of (code_text code))
 call_after name x = printing []
 
@@ -112,11 +119,10 @@ call_after name x = printing []
 abbrev pub not_run : Step
 not_run = printing (line_of (code_text (Ebr 1)))
 
--- A definition, by what it makes. The ask has the text of the object that it creates, and else none.
-abbrev pub run_definition : Effect → Definition → List ℕ → Step
-run_definition (MakesProcedure replace name line) what text = asked (Ddl what text) (printing_result (codes "OK"))
-run_definition (MakesEdition name) what text = asked (Ddl what []) (printing_result (codes "OK"))
-run_definition MakesNothing what text = not_run
+-- the text that a definition is asked with: that of the object that it creates, and else none
+abbrev pub text_asked : Definition → List ℕ → List ℕ
+text_asked (CreateObject replace u) text = text
+text_asked d text = []
 
 -- a block, by the name that it calls
 abbrev pub run_block : Option (List ℕ) → Step
@@ -126,7 +132,7 @@ run_block (Some name) = asked Begin (call_after name)
 -- what a statement asks and prints, where its piece has this text
 abbrev pub run_statement : Statement → List ℕ → Step
 run_statement (statement.SetEdition name) text = asked (ask.SetEdition name) (printing_result (codes "OK"))
-run_statement (statement.Definition what) text = run_definition (effect_of what) what text
+run_statement (statement.Definition what) text = asked (Ddl what (text_asked what text)) (printing_result (codes "OK"))
 run_statement (statement.Block block) text = run_block (called_name block)
 run_statement s text = not_run
 

@@ -1,5 +1,4 @@
-pub mod Makes
-pub mod Procedures
+pub mod Calls
 pub mod Engine
 pub mod Reading
 pub mod Report

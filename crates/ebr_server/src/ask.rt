@@ -1,7 +1,8 @@
 //! What sessions ask of the engine, and what it answers.
 
-use ebr_ast::Definition;
-use ebr_base::{Bytes, Code, List, Name, SessionId, Shared};
+use ebr_ast::{Definition, EditionView};
+use ebr_base::{Bytes, CloneIn, Code, List, Name, NoMemory, SessionId, Shared};
+use std::alloc::Global;
 
 /// A request of a session. One ask is one step of the edition machine.
 #[derive(Drop)]
@@ -18,21 +19,11 @@ pub enum Ask {
     Leave,
 }
 
-/// A procedure that prints one line.
-#[derive(Drop)]
-pub struct Procedure {
-    pub name: Name,
-    pub line: Bytes,
-}
-
-/// Procedures in order of name.
-pub type Procedures = List<Shared<Procedure>>;
-
 /// What the engine answers.
 #[derive(Drop)]
 pub enum Answer {
-    /// The procedures visible in the session's edition, in order of name.
-    View(Shared<Procedures>),
+    /// All that the session's edition sees.
+    View(Shared<EditionView>),
     Done,
     /// A refusal, with the steps taken and the lines printed by the bodies of triggers.
     Refused {
@@ -44,6 +35,22 @@ pub enum Answer {
     NoMemory,
     /// An earlier ask found no memory.
     Stopped,
+}
+
+impl CloneIn for Answer {
+    fn clone_in(&self, alloc: Global) -> Result<Answer, NoMemory> {
+        match self {
+            Answer::View(view) => Ok(Answer::View(view.clone_in(alloc)?)),
+            Answer::Done => Ok(Answer::Done),
+            Answer::Refused { code, steps, lines } => Ok(Answer::Refused {
+                code: *code,
+                steps: *steps,
+                lines: lines.clone_in(alloc)?,
+            }),
+            Answer::NoMemory => Ok(Answer::NoMemory),
+            Answer::Stopped => Ok(Answer::Stopped),
+        }
+    }
 }
 
 /// An ask of a session with its answer: one event of a history.

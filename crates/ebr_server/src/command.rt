@@ -78,7 +78,7 @@ fn run_session<C: Drop, R: Sink>(alloc: Global, script: &[u8], report: R) -> Out
         return stopped(alloc, ExitCode::NoMemory, None, report);
     };
     let mut worker = Worker::new(alloc, report);
-    let code = worker.run(alloc, &mut engine, script, pieces.as_slice());
+    let code = worker.run(alloc, &mut engine, script, pieces.into_vec());
     Outcome {
         code,
         source: None,

@@ -1,44 +1,37 @@
 //! The engine: it answers one ask at a time, and keeps the history of all of them.
 
-ghost use Rattle.std.specs.Prelude.{◌≡◌, ◌≢◌, ◌<◌, ◌≤◌, ◌+◌, [], ◌∷◌, ◌++◌, IfOk, OnOk, OnErr, IsOk, codes, vec_len, vec_capacity, length, List as Sequence};
-ghost use Rattle.ebr_server.specs.Sessions.{look_up};
-ghost use Rattle.ebr_server.specs.inside.Procedures.{number_of};
-ghost use Rattle.ebr_server.specs.Forms as spec;
-ghost use Rattle.ebr_server.specs.inside.Engine.{answer_in, editions_after, answer_to_definition, editions_after_definition, answer_to_create, editions_after_create, answer_to_create_edition, editions_after_create_edition, answer_to_set_edition, editions_after_set_edition, with_procedure};
+ghost use Rattle.std.specs.Prelude.{◌≡◌, ◌≢◌, ◌<◌, ◌≤◌, ◌+◌, [], ◌∷◌, ◌++◌, IfOk, OnOk, OnErr, IsOk, vec_len, vec_capacity};
+ghost use Rattle.ebr_cross.specs.Catalogue.{View, first_lists};
+ghost use Rattle.ebr_cross.specs.Definitions.{outcome, set_edition};
+ghost use Rattle.ebr_editions.specs.Editions.{first_edition};
+ghost use Rattle.ebr_server.specs.inside.Engine.{ForHeld, Holds, LeavesDefined, LeavesReply, LeavesSet};
 ghost use Rattle.ebr_server.specs.declared.ask.Answer.TheVariants.{Refused};
 ghost use Rattle.ebr_server.specs.declared.ask.Ask.TheVariants.{Leave};
 
-use crate::ask::{Answer, Ask, Entry, Procedure, Procedures};
-use crate::forms::{Makes, effect_of};
-use crate::procedures::{Version, copy_of, look_up, number_of, put, seen_in};
-use ebr_ast::Definition;
-use ebr_base::{Bytes, CloneIn, Code, List, Name, NoMemory, SessionId, Shared};
+use crate::ask::{Answer, Ask, Entry};
+use ebr_ast::{Definition, EditionView};
+use ebr_base::{Bytes, CloneIn, Code, EditionNo, List, Name, NoMemory, SessionId, Shared, Stop};
+use ebr_cross::{Catalogue, view_of};
 use std::alloc::Global;
 
 /// The one session.
 const SESSION: SessionId = SessionId(1);
 
-/// The name of the first edition.
-const FIRST_EDITION: &[u8] = b"ORA$BASE";
-
-/// The editions, and what was defined in them.
+/// The catalogue, and where the one session stands in it.
 #[derive(Drop)]
-struct Editions {
-    /// Their names in the order of creation. Each edition is the child of the one before it.
-    names: List<Name>,
-    /// The number of the session's edition, counted from 1.
-    current: usize,
-    /// Every definition of a procedure, in the order in which they were made.
-    definitions: List<Version>,
-    /// What the session's edition sees.
-    procedures: Shared<Procedures>,
+struct Current {
+    catalogue: Catalogue,
+    /// The session's edition.
+    edition: EditionNo,
+    /// All that the session's edition sees, where a call has asked for it since that changed.
+    view: Option<Shared<EditionView>>,
 }
 
 /// The edition machine with its one session. Every answer makes one entry in its history.
 #[derive(Drop)]
 pub struct Engine {
     alloc: Global,
-    editions: Editions,
+    current: Current,
     history: Vec<Entry>,
 }
 
@@ -54,48 +47,54 @@ impl Engine {
         history.reserve(1)?;
         Ok(Engine {
             alloc,
-            editions: first_editions(alloc)?,
+            current: first_current(alloc)?,
             history,
         })
     }
 
     /// Answers one ask of the session. Room for one last entry is kept, so that each ask has its entry, and Leave takes
     /// no memory.
-    pub fn answer(&mut self, ask: Ask)
+    pub fn answer(&mut self, ask: Ask) -> Answer
         requires open { IsOpen self.old }
         requires spelled { IsSpelled ask }
-        ensures { Answers self.old self.new ask }
+        ensures { Answers self.old self.new ask result }
     {
         match self.try_reply(&ask) {
-            Ok(answer) => self.add_entry(ask, answer),
-            Err(NoMemory) => self.add_entry(ask, Answer::NoMemory),
+            Ok((answer, copy)) => {
+                self.add_entry(ask, copy);
+                answer
+            }
+            Err(NoMemory) => {
+                self.add_entry(ask, Answer::NoMemory);
+                Answer::NoMemory
+            }
         }
     }
 
-    /// Replies to the ask, and for every ask but Leave makes room for its entry and a last one. An `Err` changes neither
-    /// the history nor the editions.
-    fn try_reply(&mut self, ask: &Ask) -> Result<Answer, NoMemory>
+    /// Replies to the ask, with a copy of the answer for the history, and for every ask but Leave makes room for its entry
+    /// and a last one.
+    fn try_reply(&mut self, ask: &Ask) -> Result<(Answer, Answer), NoMemory>
         ensures history { entries self.new ≡ entries self.old }
-        ensures answer { IfOk result (λ answer. answer ≡ answer_in self.old.editions ask.now) }
-        ensures after { OnOk result (self.new.editions ≡ editions_after self.old.editions ask.now) }
-        ensures err { OnErr result (self.new.editions ≡ self.old.editions) }
+        ensures reply { ForHeld self.old.current (λ c e. IfOk result (λ pair. LeavesReply ask.now self.new.current pair.0 c e)) }
+        ensures copy { IfOk result (λ pair. pair.1 ≡ pair.0) }
         ensures room { ask.now ≢ Leave
             → OnOk result (vec_len self.new.history + 2 ≤ vec_capacity self.new.history) }
         ensures leave { ask.now ≡ Leave → IsOk result }
         ensures capacity { vec_capacity self.old.history ≤ vec_capacity self.new.history }
     {
         if let Ask::Leave = ask {
-            return Ok(Answer::Done);
+            return Ok((Answer::Done, Answer::Done));
         }
         self.history.reserve(2)?;
-        reply_to(self.alloc, &mut self.editions, ask)
+        let answer = reply_to(self.alloc, &mut self.current, ask)?;
+        twice(self.alloc, answer)
     }
 
     /// Adds an entry to the history, where there is room for it.
     fn add_entry(&mut self, ask: Ask, answer: Answer)
         requires room { vec_len self.old.history < vec_capacity self.old.history }
         ensures entry { entries self.new ≡ entries self.old ++ entry_of ask answer ∷ [] }
-        ensures editions { self.new.editions ≡ self.old.editions }
+        ensures current { self.new.current ≡ self.old.current }
         ensures length { vec_len self.new.history ≡ vec_len self.old.history + 1 }
         ensures room { vec_capacity self.new.history ≡ vec_capacity self.old.history }
     {
@@ -104,14 +103,6 @@ impl Engine {
             ask,
             answer,
         });
-    }
-
-    /// The answer to the last ask.
-    pub fn last(&self) -> &Answer
-        requires { 0 < length (entries self.now) }
-        ensures { (h : Sequence Entry) (x : Entry) → entries self.now ≡ h ++ x ∷ [] → result.now ≡ x.answer }
-    {
-        &self.history[self.history.len() - 1].answer
     }
 
     /// The history.
@@ -124,136 +115,72 @@ impl Engine {
 }
 
 /// The first edition alone, in which nothing is defined.
-fn first_editions(alloc: Global) -> Result<Editions, NoMemory>
-    ensures names { IfOk result (λ e. e.names ≡ codes "ORA$BASE" ∷ []) }
-    ensures current { IfOk result (λ e. e.current ≡ 1) }
-    ensures definitions { IfOk result (λ e. e.definitions ≡ []) }
-    ensures procedures { IfOk result (λ e. e.procedures ≡ []) }
+fn first_current(alloc: Global) -> Result<Current, NoMemory>
+    ensures { IfOk result (λ now. Holds now first_lists first_edition) }
 {
-    let mut names = List::new(alloc);
-    names.push(first_name(alloc)?)?;
-    Ok(Editions {
-        names,
-        current: 1,
-        definitions: List::new(alloc),
-        procedures: Shared::new(alloc, List::new(alloc))?,
+    Ok(Current {
+        catalogue: Catalogue::new(alloc)?,
+        edition: EditionNo(1),
+        view: None,
     })
 }
 
-fn first_name(alloc: Global) -> Result<Name, NoMemory>
-    ensures { IfOk result (λ name. name ≡ codes "ORA$BASE") }
-{
-    match Name::of(alloc, FIRST_EDITION)? {
-        Some(name) => Ok(name),
-        None => unreachable!(),
-    }
-}
-
-/// Replies to an ask, and makes of the editions what they are afterwards. An `Err` changes nothing.
-fn reply_to(alloc: Global, editions: &mut Editions, ask: &Ask) -> Result<Answer, NoMemory>
-    ensures answer { IfOk result (λ answer. answer ≡ answer_in editions.old ask.now) }
-    ensures after { OnOk result (editions.new ≡ editions_after editions.old ask.now) }
-    ensures err { OnErr result (editions.new ≡ editions.old) }
+/// Replies to an ask.
+fn reply_to(alloc: Global, current: &mut Current, ask: &Ask) -> Result<Answer, NoMemory>
+    ensures { ForHeld current.old (λ c e. IfOk result (λ answer. LeavesReply ask.now current.new answer c e)) }
 {
     match ask {
-        Ask::Begin => Ok(Answer::View(editions.procedures.clone_in(alloc)?)),
-        Ask::Ddl { what, .. } => define(alloc, editions, what),
-        Ask::SetEdition(name) => set_edition(alloc, editions, name),
+        Ask::Begin => Ok(Answer::View(view(alloc, current)?)),
+        Ask::Ddl { what, text } => define(alloc, current, what, text),
+        Ask::SetEdition(name) => Ok(switch(alloc, current, name)),
         Ask::EndCall { .. } | Ask::Leave => Ok(Answer::Done),
     }
 }
 
-/// Carries out a definition.
-fn define(alloc: Global, editions: &mut Editions, what: &Definition) -> Result<Answer, NoMemory>
-    ensures answer { IfOk result (λ answer. answer ≡ answer_to_definition editions.old (spec.effect_of what.now)) }
-    ensures after { OnOk result (editions.new ≡ editions_after_definition editions.old (spec.effect_of what.now)) }
-    ensures err { OnErr result (editions.new ≡ editions.old) }
+/// All that the session's edition sees. It is made once, and then shared until it changes.
+fn view(alloc: Global, current: &mut Current) -> Result<Shared<EditionView>, NoMemory>
+    ensures view { ForHeld current.old (λ c e. IfOk result (λ v. v ≡ View c e)) }
+    ensures holds { ForHeld current.old (λ c e. Holds current.new c e) }
 {
-    match effect_of(what) {
-        Makes::Procedure {
-            replace,
-            name,
-            line,
-        } => create(alloc, editions, replace, name, line),
-        Makes::Edition(name) => create_edition(alloc, editions, name),
-        Makes::Nothing => Ok(refusal(alloc, Code::Ebr(1))),
+    if let Some(view) = &current.view {
+        return view.clone_in(alloc);
     }
+    let made = Shared::new(alloc, view_of(&current.catalogue, alloc, current.edition)?)?;
+    current.view = Some(made.clone_in(alloc)?);
+    Ok(made)
 }
 
-/// Makes a procedure in the session's edition. Without `replace` none of its name may be visible there.
-fn create(
+/// Carries out a definition in the session's edition.
+fn define(
     alloc: Global,
-    editions: &mut Editions,
-    replace: bool,
-    name: &Name,
-    line: &Bytes,
+    current: &mut Current,
+    what: &Definition,
+    text: &Bytes,
 ) -> Result<Answer, NoMemory>
-    ensures answer { IfOk result (λ answer. answer ≡ answer_to_create replace (look_up name.now editions.old.procedures)) }
-    ensures after { let made : Procedure = record { name = name.now; line = line.now } in
-        let found = look_up name.now editions.old.procedures in
-        OnOk result (editions.new ≡ editions_after_create replace found made editions.old) }
-    ensures err { OnErr result (editions.new ≡ editions.old) }
+    ensures { ForHeld current.old (λ c e. IfOk result (λ answer. LeavesDefined current.new answer c e (outcome c e (e ∷ []) what.now text.now))) }
 {
-    match look_up(editions.procedures.get().as_slice(), name) {
-        Some(_) if !replace => Ok(refusal(alloc, Code::Ora(955))),
-        _ => {
-            let procedure = Procedure {
-                name: name.clone_in(alloc)?,
-                line: line.clone_in(alloc)?,
-            };
-            put_version(alloc, editions, procedure)?;
+    let e = current.edition;
+    match current.catalogue.apply(alloc, e, &[e], what, text) {
+        Ok(_) => {
+            current.view = None;
             Ok(Answer::Done)
         }
-    }
-}
-
-/// Puts a procedure into the session's edition: in place of the one of its name if it sees one.
-fn put_version(alloc: Global, editions: &mut Editions, procedure: Procedure) -> Result<(), NoMemory>
-    ensures ok { OnOk result (editions.new ≡ with_procedure procedure editions.old) }
-    ensures err { OnErr result (editions.new ≡ editions.old) }
-{
-    let procedure = Shared::new(alloc, procedure)?;
-    let mut seen = copy_of(alloc, editions.procedures.get().as_slice())?;
-    put(&mut seen, procedure.clone_in(alloc)?)?;
-    let seen = Shared::new(alloc, List::from_vec(seen))?;
-    let definition = Version {
-        edition: editions.current,
-        procedure,
-    };
-    editions.definitions.push(definition)?;
-    editions.procedures = seen;
-    Ok(())
-}
-
-/// Makes an edition, the child of the one that was made last.
-fn create_edition(alloc: Global, editions: &mut Editions, name: &Name) -> Result<Answer, NoMemory>
-    ensures answer { IfOk result (λ answer. answer ≡ answer_to_create_edition (number_of name.now editions.old.names)) }
-    ensures after { OnOk result (editions.new ≡ editions_after_create_edition (number_of name.now editions.old.names) name.now editions.old) }
-    ensures err { OnErr result (editions.new ≡ editions.old) }
-{
-    match number_of(editions.names.as_slice(), name) {
-        Some(_) => Ok(refusal(alloc, Code::Ebr(31))),
-        None => {
-            editions.names.push(name.clone_in(alloc)?)?;
-            Ok(Answer::Done)
-        }
+        Err(Stop::Raised(code)) => Ok(refusal(alloc, code)),
+        Err(Stop::NoMemory) => Err(NoMemory),
     }
 }
 
 /// The session's edition is the one of this name from now on.
-fn set_edition(alloc: Global, editions: &mut Editions, name: &Name) -> Result<Answer, NoMemory>
-    ensures answer { IfOk result (λ answer. answer ≡ answer_to_set_edition (number_of name.now editions.old.names)) }
-    ensures after { OnOk result (editions.new ≡ editions_after_set_edition (number_of name.now editions.old.names) editions.old) }
-    ensures err { OnErr result (editions.new ≡ editions.old) }
+fn switch(alloc: Global, current: &mut Current, name: &Name) -> Answer
+    ensures { ForHeld current.old (λ c e. LeavesSet current.new result c e (set_edition c.editions.made name.now)) }
 {
-    match number_of(editions.names.as_slice(), name) {
-        Some(number) => {
-            let seen = seen_in(alloc, editions.definitions.as_slice(), number)?;
-            editions.procedures = Shared::new(alloc, seen)?;
-            editions.current = number;
-            Ok(Answer::Done)
+    match current.catalogue.edition_named(name) {
+        Ok(e) => {
+            current.edition = e;
+            current.view = None;
+            Answer::Done
         }
-        None => Ok(refusal(alloc, Code::Ora(38802))),
+        Err(code) => refusal(alloc, code),
     }
 }
 
@@ -266,4 +193,12 @@ fn refusal(alloc: Global, code: Code) -> Answer
         steps: 0,
         lines: List::new(alloc),
     }
+}
+
+/// A value with a copy of it.
+fn twice<T: CloneIn>(alloc: Global, value: T) -> Result<(T, T), NoMemory>
+    ensures { IfOk result (λ pair. (pair.0 ≡ value) × (pair.1 ≡ value)) }
+{
+    let copy = value.clone_in(alloc)?;
+    Ok((value, copy))
 }

@@ -2,55 +2,82 @@
 
 ghost use Rattle.std.specs.Prelude.{◌≡◌};
 ghost use Rattle.std.specs.Option.{option_copied};
-ghost use Rattle.ebr_ast.specs.declared.expression.Expr.{out-Expr};
+ghost use Rattle.ebr_exprtree.specs.declared.expression.Expr.{out-Expr};
+ghost use Rattle.ebr_cross.specs.Kinds.{is_unit_class};
 ghost use Rattle.ebr_server.specs.Forms as spec;
-ghost use Rattle.ebr_server.specs.inside.Makes.{effect_in};
+ghost use Rattle.ebr_server.specs.Sessions.{unit_named, is_unit_named};
+ghost use Rattle.ebr_server.specs.inside.Calls.{called_in};
 
-use ebr_ast::{Block, Decl, Definition, Expr, Handler, Stmt, Subprogram, UnitTree};
-use ebr_base::{Bytes, Name, Shared};
+use ebr_ast::{Block, Decl, EditionView, Expr, Handler, Object, Stmt, Subprogram, UnitTree};
+use ebr_base::{Bytes, Class, Name, Shared};
 
-/// What a definition makes, borrowed from its tree.
+/// What a call of a unit is, borrowed from its tree.
 #[derive(Drop)]
-pub enum Makes<'a> {
-    /// A procedure that prints one line.
-    Procedure {
-        replace: bool,
-        name: &'a Name,
-        line: &'a Bytes,
-    },
-    Edition(&'a Name),
-    /// Nothing yet.
-    Nothing,
+pub enum Called<'a> {
+    /// No procedure is there.
+    Missing,
+    /// A procedure that isn't run yet.
+    NotRun,
+    /// A procedure that prints this line.
+    Prints(&'a [u8]),
 }
 
-/// What a definition makes, as far as definitions are carried out yet.
-#[tactic(auto, unfolding(crate::specs::Forms::effect_of))]
-pub fn effect_of(what: &Definition) -> Makes<'_>
-    ensures { effect_in result ≡ spec.effect_of what.now }
+/// What a call of a name is, by what the edition sees.
+pub fn call_in<'a>(view: &'a EditionView, name: &Name) -> Called<'a>
+    ensures { called_in result ≡ spec.called_object (unit_named name.now view.now.objects) }
 {
-    match what {
-        Definition::CreateEdition { name, parent: None } => Makes::Edition(name),
-        Definition::CreateObject {
-            replace,
-            unit: UnitTree::Subprogram(unit),
-        } => procedure(*replace, unit.get()),
-        _ => Makes::Nothing,
+    match unit_named(view.objects.as_slice(), name) {
+        Some(object) => called_unit(&object.get().tree),
+        None => Called::Missing,
     }
 }
 
-fn procedure(replace: bool, unit: &Subprogram) -> Makes<'_>
-    ensures { effect_in result ≡ spec.makes_procedure replace unit.now.head.name unit.now.head.parameters unit.now.head.result (spec.printed_line unit.now.body) }
+/// The object of class Unit of a name. Its work is linear in the number of objects.
+fn unit_named<'a>(objects: &'a [Shared<Object>], name: &Name) -> Option<&'a Shared<Object>>
+    ensures { option_copied result ≡ unit_named name.now objects.now }
 {
-    if !unit.head.parameters.is_empty() || unit.head.result.is_some() {
-        return Makes::Nothing;
+    objects
+        .iter()
+        .find(|object| is_unit_named(object.get(), name))
+}
+
+fn is_unit_named(object: &Object, name: &Name) -> bool
+    ensures { result ≡ is_unit_named name.now object.now }
+{
+    is_unit_class(object.key.class) && *name == object.key.name
+}
+
+fn is_unit_class(class: Class) -> bool
+    ensures { result ≡ is_unit_class class }
+{
+    match class {
+        Class::Unit => true,
+        Class::Body | Class::Trigger => false,
+    }
+}
+
+/// What a call of a unit is, as far as units run yet.
+fn called_unit(unit: &UnitTree) -> Called<'_>
+    ensures { called_in result ≡ spec.called_unit unit.now }
+{
+    match unit {
+        UnitTree::Subprogram(unit) => called_subprogram(unit.get()),
+        _ => Called::Missing,
+    }
+}
+
+fn called_subprogram(unit: &Subprogram) -> Called<'_>
+    ensures { called_in result ≡ spec.called_subprogram unit.now.head.parameters unit.now.head.result (spec.printed_line unit.now.body) }
+{
+    if unit.head.result.is_some() {
+        return Called::Missing;
+    }
+    if !unit.head.parameters.is_empty() {
+        return Called::NotRun;
     }
     match printed_line(&unit.body) {
-        Some(line) => Makes::Procedure {
-            replace,
-            name: &unit.head.name,
-            line,
-        },
-        None => Makes::Nothing,
+        Some(line) => Called::Prints(line.as_slice()),
+        None => Called::NotRun,
     }
 }
 

@@ -10,12 +10,11 @@ mod engine;
 mod exit;
 mod forms;
 mod offer;
-mod procedures;
 mod read;
 mod report;
 mod worker;
 
-pub use ask::{Answer, Ask, Entry, Exchange, Procedure, Procedures};
+pub use ask::{Answer, Ask, Entry, Exchange};
 pub use command::{Outcome, serve};
 pub use exit::ExitCode;
 pub use read::MAX_SCRIPT;

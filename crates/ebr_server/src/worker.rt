@@ -1,26 +1,25 @@
 //! A session at work: it runs the pieces of its script, asks the engine, and gives its sink what it prints.
 
-ghost use Rattle.std.specs.Prelude.{◌≡◌, ◌≢◌, [], ◌∷◌, ◌<◌, ◌≤◌, length, codes, All, OnOk, OnErr, IfErr, IfSome};
+ghost use Rattle.std.specs.Prelude.{◌≡◌, ◌≢◌, [], ◌<◌, ◌≤◌, codes, All, OnOk, OnErr, IfErr, IfOk, IfSome};
 ghost use Rattle.ebr_outside.specs.Faults.{Rises};
 ghost use Rattle.ebr_base.specs.Code.{code_text};
 ghost use Rattle.ebr_script.specs.Pieces.{LiesWithin, KeepsText, text_of};
 ghost use Rattle.ebr_server.specs.Machine.{start};
 ghost use Rattle.ebr_server.specs.History.{Legal};
-ghost use Rattle.ebr_server.specs.Sessions.{line_of, result_line, asked, call_after, printing_result, run_block, run_definition, run_piece, run_pieces};
+ghost use Rattle.ebr_server.specs.Sessions.{line_of, result_line, asked, text_asked, call_after, printing_result, run_block, run_statement, run_piece, run_pieces};
 ghost use Rattle.ebr_server.specs.Forms as spec;
 ghost use Rattle.ebr_server.specs.Program.{Session, HasRun};
 ghost use Rattle.ebr_server.specs.inside.Output.{WritesOn, Prints};
-ghost use Rattle.ebr_server.specs.inside.Worker.{Asks, PlansAs, Does, RunsOn, RanPieces};
-ghost use Rattle.ebr_server.specs.inside.Engine.{IsOpen, IsSpelled, entries};
+ghost use Rattle.ebr_server.specs.inside.Worker.{Asks, Does, RunsOn, RanPieces};
+ghost use Rattle.ebr_server.specs.inside.Engine.{IsOpen, IsSpelled, KeepsSpelled, entries};
 
 use crate::ask::{Answer, Ask};
 use crate::engine::Engine;
 use crate::exit::ExitCode;
-use crate::forms::{Makes, called_name, effect_of};
+use crate::forms::{Called, call_in, called_name};
 use crate::offer::offer;
-use crate::procedures::look_up;
 use ebr_ast::{Block, Definition, Statement};
-use ebr_base::{Bytes, CloneIn, Code, Name, NoMemory};
+use ebr_base::{Bytes, Code, Name, NoMemory};
 use ebr_outside::Sink;
 use ebr_script::{Piece, PieceKind, text_of};
 use std::alloc::Global;
@@ -45,16 +44,6 @@ impl From<NoMemory> for Halt {
     fn from(_: NoMemory) -> Halt {
         Halt::NoMemory
     }
-}
-
-/// What the answer to Begin makes of a call.
-enum CallPlan<'a> {
-    /// The procedure isn't visible.
-    Missing,
-    /// It prints this line.
-    Line(&'a [u8]),
-    Refused(Code),
-    Nothing,
 }
 
 /// What a session has printed, how much of it is written, and the sink that it is written to.
@@ -112,17 +101,16 @@ impl<S: Sink> Worker<S> {
         Ok(())
     }
 
-    /// Writes what was printed, and then asks the engine.
-    fn ask(&mut self, engine: &mut Engine, ask: Ask) -> Result<(), Halt>
+    /// Writes what was printed, and then asks the engine, whose answer it gives back.
+    fn ask(&mut self, engine: &mut Engine, ask: Ask) -> Result<Answer, Halt>
         requires open { IsOpen engine.old }
         requires spelled { IsSpelled ask }
         ensures { Asks result ask engine.old self.old engine.new self.new }
     {
         self.flush()?;
-        engine.answer(ask);
-        match engine.last() {
+        match engine.answer(ask) {
             Answer::NoMemory | Answer::Stopped => Err(Halt::Answered),
-            _ => Ok(()),
+            answer => Ok(answer),
         }
     }
 
@@ -162,74 +150,32 @@ impl<S: Sink> Worker<S> {
         requires spelled { IsSpelled ask }
         ensures { Does result (asked ask (printing_result text.now)) engine.old self.old engine.new self.new }
     {
-        self.ask(engine, ask)?;
-        self.print_result(engine.last(), text)
+        let answer = self.ask(engine, ask)?;
+        self.print_result(&answer, text)
     }
 
-    /// Makes a procedure, whose text is that of its piece.
-    fn create(
+    /// Asks for a definition, whose piece has this text.
+    fn define(
         &mut self,
         alloc: Global,
         engine: &mut Engine,
-        script: &[u8],
-        piece: &Piece,
-        what: &Definition,
+        what: Definition,
+        text: &[u8],
     ) -> Result<(), Halt>
         requires open { IsOpen engine.old }
-        requires within { LiesWithin script.now piece.now }
-        requires small { length script.now < 4294967295 }
-        requires spelled { IsSpelled (Ask.Ddl what.now (text_of script.now piece.now)) }
-        ensures { Does result (asked (Ask.Ddl what.now (text_of script.now piece.now)) (printing_result (codes "OK"))) engine.old self.old engine.new self.new }
+        requires spelled { IsSpelled (Ask.Ddl what text.now) }
+        ensures { Does result (asked (Ask.Ddl what (text_asked what text.now)) (printing_result (codes "OK"))) engine.old self.old engine.new self.new }
     {
-        let text = Bytes::from_slice(alloc, text_of(alloc, script, piece)?)?;
-        let what = what.clone_in(alloc)?;
+        let text = text_asked(&what, text);
+        let (what, text) = with_copy(alloc, what, text)?;
         self.request(engine, Ask::Ddl { what, text }, b"OK")
-    }
-
-    /// Makes an edition.
-    fn create_edition(
-        &mut self,
-        alloc: Global,
-        engine: &mut Engine,
-        what: &Definition,
-    ) -> Result<(), Halt>
-        requires open { IsOpen engine.old }
-        requires spelled { IsSpelled (Ask.Ddl what.now []) }
-        ensures { Does result (asked (Ask.Ddl what.now []) (printing_result (codes "OK"))) engine.old self.old engine.new self.new }
-    {
-        let text = Bytes::new(alloc);
-        let what = what.clone_in(alloc)?;
-        self.request(engine, Ask::Ddl { what, text }, b"OK")
-    }
-
-    /// Runs a definition.
-    fn definition(
-        &mut self,
-        alloc: Global,
-        engine: &mut Engine,
-        script: &[u8],
-        piece: &Piece,
-        what: &Definition,
-    ) -> Result<(), Halt>
-        requires open { IsOpen engine.old }
-        requires within { LiesWithin script.now piece.now }
-        requires small { length script.now < 4294967295 }
-        requires spelled { IsSpelled (Ask.Ddl what.now (text_of script.now piece.now)) }
-        ensures { Does result (run_definition (spec.effect_of what.now) what.now (text_of script.now piece.now)) engine.old self.old engine.new self.new }
-    {
-        match effect_of(what) {
-            Makes::Procedure { .. } => self.create(alloc, engine, script, piece, what),
-            Makes::Edition(_) => self.create_edition(alloc, engine, what),
-            Makes::Nothing => self.print_code(Code::Ebr(1)),
-        }
     }
 
     /// Makes another edition the session's.
-    fn set_edition(&mut self, alloc: Global, engine: &mut Engine, name: &Name) -> Result<(), Halt>
+    fn set_edition(&mut self, engine: &mut Engine, name: Name) -> Result<(), Halt>
         requires open { IsOpen engine.old }
-        ensures { Does result (asked (Ask.SetEdition name.now) (printing_result (codes "OK"))) engine.old self.old engine.new self.new }
+        ensures { Does result (asked (Ask.SetEdition name) (printing_result (codes "OK"))) engine.old self.old engine.new self.new }
     {
-        let name = name.clone_in(alloc)?;
         self.request(engine, Ask::SetEdition(name), b"OK")
     }
 
@@ -238,15 +184,21 @@ impl<S: Sink> Worker<S> {
         requires open { IsOpen engine.old }
         ensures { Does result (asked Ask.Begin (call_after name.now)) engine.old self.old engine.new self.new }
     {
-        self.ask(engine, Ask::Begin)?;
-        match plan(engine.last(), name) {
-            CallPlan::Missing => self.request(engine, Ask::EndCall { failed: true }, b"ORA-06550"),
-            CallPlan::Line(line) => {
-                self.print_line(line)?;
-                self.request(engine, Ask::EndCall { failed: false }, b"OK")
-            }
-            CallPlan::Refused(code) => self.print_code(code),
-            CallPlan::Nothing => Ok(()),
+        match self.ask(engine, Ask::Begin)? {
+            Answer::View(view) => match call_in(view.get(), name) {
+                Called::Missing => self.request(
+                    engine,
+                    Ask::EndCall { failed: true },
+                    b"ORA-06550",
+                ),
+                Called::NotRun => self.request(engine, Ask::EndCall { failed: true }, b"EBR-0001"),
+                Called::Prints(line) => {
+                    self.print_line(line)?;
+                    self.request(engine, Ask::EndCall { failed: false }, b"OK")
+                }
+            },
+            Answer::Refused { code, .. } => self.print_code(code),
+            _ => Ok(()),
         }
     }
 
@@ -261,29 +213,44 @@ impl<S: Sink> Worker<S> {
         }
     }
 
+    /// Runs a statement, whose piece has this text.
+    fn statement(
+        &mut self,
+        alloc: Global,
+        engine: &mut Engine,
+        statement: Statement,
+        text: &[u8],
+    ) -> Result<(), Halt>
+        requires open { IsOpen engine.old }
+        requires spelled { KeepsSpelled statement text.now }
+        ensures { Does result (run_statement statement text.now) engine.old self.old engine.new self.new }
+    {
+        match statement {
+            Statement::SetEdition(name) => self.set_edition(engine, name),
+            Statement::Definition(what) => self.define(alloc, engine, what, text),
+            Statement::Block(block) => self.block(engine, block.get()),
+            Statement::Sql(_) => self.print_code(Code::Ebr(1)),
+            Statement::Transaction(_) => self.print_code(Code::Ebr(1)),
+        }
+    }
+
     /// Runs a piece of the script.
     fn piece(
         &mut self,
         alloc: Global,
         engine: &mut Engine,
         script: &[u8],
-        piece: &Piece,
+        piece: Piece,
     ) -> Result<(), Halt>
         requires open { IsOpen engine.old }
-        requires within { LiesWithin script.now piece.now }
-        requires text { KeepsText script.now piece.now }
-        requires small { length script.now < 4294967295 }
-        ensures { Does result (run_piece piece.now.what (text_of script.now piece.now)) engine.old self.old engine.new self.new }
+        requires within { LiesWithin script.now piece }
+        requires text { KeepsText script.now piece }
+        ensures { Does result (run_piece piece.what (text_of script.now piece)) engine.old self.old engine.new self.new }
     {
-        match &piece.what {
-            PieceKind::Refused(code) => self.print_code(*code),
-            PieceKind::Tree(Statement::SetEdition(name)) => self.set_edition(alloc, engine, name),
-            PieceKind::Tree(Statement::Definition(what)) => {
-                self.definition(alloc, engine, script, piece, what)
-            }
-            PieceKind::Tree(Statement::Block(block)) => self.block(engine, block.get()),
-            PieceKind::Tree(Statement::Sql(_)) => self.print_code(Code::Ebr(1)),
-            PieceKind::Tree(Statement::Transaction(_)) => self.print_code(Code::Ebr(1)),
+        let text = text_of(script, &piece);
+        match piece.what {
+            PieceKind::Refused(code) => self.print_code(code),
+            PieceKind::Tree(statement) => self.statement(alloc, engine, statement, text),
         }
     }
 
@@ -293,13 +260,12 @@ impl<S: Sink> Worker<S> {
         alloc: Global,
         engine: &mut Engine,
         script: &[u8],
-        pieces: &[Piece],
+        pieces: Vec<Piece>,
     ) -> Result<(), Halt>
         requires open { IsOpen engine.old }
-        requires runs_on { RunsOn script.now (run_pieces script.now pieces.now) (entries engine.old) self.old }
-        requires within { All (LiesWithin script.now) pieces.now }
-        requires texts { All (KeepsText script.now) pieces.now }
-        requires small { length script.now < 4294967295 }
+        requires runs_on { RunsOn script.now (run_pieces script.now pieces.items) (entries engine.old) self.old }
+        requires within { All (LiesWithin script.now) pieces.items }
+        requires texts { All (KeepsText script.now) pieces.items }
         ensures { RanPieces result script.now self.old.faults engine.new self.new }
     {
         for piece in pieces {
@@ -314,13 +280,12 @@ impl<S: Sink> Worker<S> {
         alloc: Global,
         engine: &mut Engine,
         script: &[u8],
-        pieces: &[Piece],
+        pieces: Vec<Piece>,
     ) -> Result<(), Halt>
         requires open { IsOpen engine.old }
-        requires runs_on { RunsOn script.now (run_pieces script.now pieces.now) (entries engine.old) self.old }
-        requires within { All (LiesWithin script.now) pieces.now }
-        requires texts { All (KeepsText script.now) pieces.now }
-        requires small { length script.now < 4294967295 }
+        requires runs_on { RunsOn script.now (run_pieces script.now pieces.items) (entries engine.old) self.old }
+        requires within { All (LiesWithin script.now) pieces.items }
+        requires texts { All (KeepsText script.now) pieces.items }
         ensures ran { RanPieces result script.now self.old.faults engine.new self.new }
         ensures whole { OnOk result (self.new.pending ≡ []) }
     {
@@ -335,13 +300,12 @@ impl<S: Sink> Worker<S> {
         alloc: Global,
         engine: &mut Engine,
         script: &[u8],
-        pieces: &[Piece],
+        pieces: Vec<Piece>,
     ) -> ExitCode
         requires open { IsOpen engine.old }
-        requires runs_on { RunsOn script.now (run_pieces script.now pieces.now) (entries engine.old) self.old }
-        requires within { All (LiesWithin script.now) pieces.now }
-        requires texts { All (KeepsText script.now) pieces.now }
-        requires small { length script.now < 4294967295 }
+        requires runs_on { RunsOn script.now (run_pieces script.now pieces.items) (entries engine.old) self.old }
+        requires within { All (LiesWithin script.now) pieces.items }
+        requires texts { All (KeepsText script.now) pieces.items }
         ensures session { Session result script.now (entries engine.new) self.new.written }
         ensures code { HasRun result }
         ensures legal { Legal start (entries engine.new) }
@@ -366,16 +330,20 @@ impl<S: Sink> Worker<S> {
     }
 }
 
-/// What the answer to Begin makes of a call of this name.
-fn plan<'a>(answer: &'a Answer, name: &Name) -> CallPlan<'a>
-    ensures { PlansAs result name.now answer.now }
+/// The text that a definition is asked with: that of the object that it creates, and empty where it creates none.
+fn text_asked<'a>(what: &Definition, text: &'a [u8]) -> &'a [u8]
+    ensures { result.now ≡ text_asked what.now text.now }
 {
-    match answer {
-        Answer::View(procedures) => match look_up(procedures.get().as_slice(), name) {
-            Some(procedure) => CallPlan::Line(procedure.line.as_slice()),
-            None => CallPlan::Missing,
-        },
-        Answer::Refused { code, .. } => CallPlan::Refused(*code),
-        _ => CallPlan::Nothing,
+    match what {
+        Definition::CreateObject { .. } => text,
+        _ => b"",
     }
+}
+
+/// The value, with a copy of a text. It is generic so that what it drops where there is no memory is dropped by one call.
+fn with_copy<T: Drop>(alloc: Global, value: T, text: &[u8]) -> Result<(T, Bytes), NoMemory>
+    ensures { IfOk result (λ pair. pair ≡ (value, text.now)) }
+{
+    let copy = Bytes::from_slice(alloc, text)?;
+    Ok((value, copy))
 }

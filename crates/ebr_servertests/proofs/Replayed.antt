@@ -1,8 +1,20 @@
 -- The replies of worked scripts, by the definitions alone.
-use Rattle.std.proofs.Common.{ℕ, true, false, ◌≡◌, codes, List, [], ◌∷◌, ◌++◌, refl, sym, ap, ◌∙◌, subst}
+use Rattle.std.proofs.Common.{ℕ, Bool, true, false, ◌≡◌, codes, List, [], ◌∷◌, ◌++◌, refl, sym, ap, ◌∙◌, subst}
 use Rattle.std.specs.Prelude.{Some, None}
 use Rattle.ebr_base.specs.declared.numbers.EditionNo.{EditionNo}
+use Rattle.ebr_ast.specs.declared.definition.Definition.{Definition}
 use Rattle.ebr_ast.specs.declared.definition.Definition.TheVariants.{CreateEdition}
+use Rattle.ebr_ast.specs.declared.statement.Block.{Block}
+use Rattle.ebr_ast.specs.declared.unit.UnitTree.{UnitTree}
+use Rattle.ebr_ast.specs.declared.unit.UnitTree.TheVariants as unit
+use Rattle.ebr_ast.specs.declared.view.Object.{Object}
+use Rattle.ebr_ast.specs.declared.view.EditionView.{EditionView}
+use Rattle.ebr_cross.specs.declared.record.CatalogueRecord.TheVariants as made
+use Rattle.ebr_cross.specs.Catalogue.{Lists, first_lists, in_order}
+use Rattle.ebr_cross.specs.Catalogue as catalogue
+use Rattle.ebr_cross.specs.Definitions.{outcome, set_edition}
+use Rattle.ebr_cross.specs.Kinds.{unit_key}
+use Rattle.ebr_cross.specs.Records.{with_record}
 use Rattle.ebr_script.specs.declared.piece.Piece.{Piece}
 use Rattle.ebr_script.specs.Pieces.{pieces_of, stored_definition, text_of}
 use Rattle.ebr_server.specs.declared.ask.Ask.{Ask}
@@ -10,16 +22,13 @@ use Rattle.ebr_server.specs.declared.ask.Ask.TheVariants.{Begin, Ddl, SetEdition
 use Rattle.ebr_server.specs.declared.ask.Answer.{Answer}
 use Rattle.ebr_server.specs.declared.ask.Answer.TheVariants.{View, Done, Refused, NoMemory, Stopped}
 use Rattle.ebr_server.specs.declared.ask.Entry.{Entry}
-use Rattle.ebr_server.specs.declared.ask.Procedure.{Procedure}
-use Rattle.ebr_server.specs.Catalogue.{Record, Edition, Object, Catalogue, catalogue_of, first_catalogue, first_edition, with_stored, with_object, with_entry, with_edition, edition_named, unit_key, leaf, Visible}
-use Rattle.ebr_server.specs.Catalogue as catalogue
-use Rattle.ebr_server.specs.Machine.{the_session, start, Session, Database, Replied, Reply, defined, created, recorded, unchanged, edition_created, edition_set}
 use Rattle.ebr_server.specs.declared.ask.Exchange.{Exchange}
+use Rattle.ebr_server.specs.Records.{Record, Edition, Object as ObjectRecord, catalogue_of, with_stored}
+use Rattle.ebr_server.specs.Machine.{the_session, start, Session, Database, Replied, Reply, defined, unchanged, edition_set}
 use Rattle.ebr_server.specs.History.{Mine, Legal, Answered, IsLive, GoesOn, AllGoOn, answers, asks}
 use Rattle.ebr_server.specs.Sessions.{SessionRun, Ended, ended, line_of}
 use Rattle.ebr_server.specs.Program.{RanToEnd}
-use Rattle.ebr_server.specs.Forms.{MakesEdition, effect_of}
-use Rattle.ebr_servertests.specs.WorkedScripts.{Gives, Makes, CallsGive, UpgradeGives}
+use Rattle.ebr_servertests.specs.WorkedScripts.{Gives, Makes, CallsGive, UpgradeGives, procedure}
 
 abbrev exchanged : Ask → Answer → Exchange
 exchanged a x = record { ask = a; answer = x }
@@ -59,9 +68,6 @@ in_session e = record { edition = Some e }
 abbrev left_from : List Record → Database
 left_from records = record { records = records; sessions = record { edition = None } ∷ [] }
 
-abbrev procedure : List ℕ → List ℕ → Procedure
-procedure name line = record { name = name; line = line }
-
 abbrev a : List ℕ
 a = codes "a"
 
@@ -87,30 +93,75 @@ nothing_gives script pieces = record {
   ran = ran_so script (entry Leave Done ∷ []) [] [] refl tt (simp pieces);
 }
 
+abbrev first_edition : EditionNo
+first_edition = record { 0 = 1 }
+
+-- a procedure of the name A, as the first definition in an edition
+abbrev made_in : EditionNo → List ℕ → Block → Object
+made_in e text body = record {
+  key = unit_key name_a;
+  text = text;
+  tree = unit.Subprogram (record { head = record { name = name_a; parameters = []; result = None }; body = body });
+  stamp = record { edition = e; count = 1 };
+  enabled = true;
+}
+
+-- what an edition sees where there is one object
+abbrev seeing : EditionNo → Object → EditionView
+seeing e o = record { edition = e; objects = o ∷ []; tables = [] }
+
 -- the catalogue with the first procedure
-abbrev c1 : Catalogue
-c1 = with_entry first_catalogue first_edition (unit_key name_a) (Some (procedure name_a a))
+abbrev c1 : List ℕ → Block → Lists
+c1 text body = with_record first_lists (made.Object (made_in first_edition text body))
+
+-- .. with a child edition
+abbrev c2 : List ℕ → Block → Lists
+c2 text body = with_record (c1 text body) (made.Edition v2 first_edition)
+
+-- .. and with the second procedure
+abbrev c3 : List ℕ → Block → List ℕ → Block → Lists
+c3 text body text' body' = with_record (c2 text body) (made.Object (made_in second_edition text' body'))
+
+view1 : (text : List ℕ) (body : Block) → catalogue.View (c1 text body) first_edition ≡ seeing first_edition (made_in first_edition text body)
+unfolding in_order
+view1 text body = refl
+
+view3 : (text : List ℕ) (body : Block) (text' : List ℕ) (body' : Block) → catalogue.View (c3 text body text' body') first_edition ≡ seeing first_edition (made_in first_edition text body)
+unfolding in_order
+view3 text body text' body' = refl
+
+view3-child : (text : List ℕ) (body : Block) (text' : List ℕ) (body' : Block) → catalogue.View (c3 text body text' body') second_edition ≡ seeing second_edition (made_in second_edition text' body')
+unfolding in_order
+view3-child text body text' body' = refl
 
 module _ (script : List ℕ) (p : Piece) (made : Makes script p false name_a a) where
   abbrev text : List ℕ
   text = text_of script p
 
+  abbrev what : Definition
+  what = procedure false name_a made.body
+
   abbrev r1 : List Record
-  r1 = Object first_edition text ∷ []
+  r1 = ObjectRecord first_edition true text ∷ []
 
-  is_made : Reply start the_session (Ddl made.what text) ≡ record { database = in_edition r1 first_edition; answer = Done; records = r1 }
-  is_made = ap (λ m. defined start first_edition m text) made.makes
+  is_made : Reply start the_session (Ddl what text) ≡ record { database = in_edition r1 first_edition; answer = Done; records = r1 }
+  is_made = refl
 
-  catalogue1 : catalogue_of r1 ≡ c1
-  catalogue1 = ap (with_stored first_catalogue first_edition) made.again ∙ ap (with_object first_catalogue first_edition) made.makes
+  catalogue1 : catalogue_of r1 ≡ c1 text made.body
+  catalogue1 = ap (with_stored first_lists first_edition true text) made.again
 
-  sees_a : Reply (in_edition r1 first_edition) the_session Begin ≡ unchanged (in_edition r1 first_edition) (View (procedure name_a a ∷ []))
-  sees_a = ap (λ c. unchanged (in_edition r1 first_edition) (View (catalogue.View c first_edition))) catalogue1
+  abbrev seen1 : EditionView
+  seen1 = seeing first_edition (made_in first_edition text made.body)
+
+  sees_a : Reply (in_edition r1 first_edition) the_session Begin ≡ unchanged (in_edition r1 first_edition) (View seen1)
+  sees_a =
+      ap (λ c. unchanged (in_edition r1 first_edition) (View (catalogue.View c first_edition))) catalogue1
+      ∙ ap (λ v. unchanged (in_edition r1 first_edition) (View v)) (view1 text made.body)
 
 pub calls_give : CallsGive (ok ++ line_of a ++ ok ++ line_of (codes "ORA-06550"))
 calls_give script p q r pieces made first second =
-    let ddl : Ask = Ddl made.what (text_of script p) in
-    let seen : Answer = View (procedure name_a a ∷ []) in
+    let ddl : Ask = Ddl (what script p made) (text_of script p) in
+    let seen : Answer = View (seen1 script p made) in
     let there : Database = in_edition (r1 script p made) first_edition in
     let h6 : List Entry = entry Leave Done ∷ [] in
     let h5 : List Entry = entry (EndCall true) Done ∷ h6 in
@@ -129,98 +180,106 @@ calls_give script p q r pieces made first second =
           (legal_on there there (EndCall true) Done [] h6 refl tt refl
           (legal_on there (left_from (r1 script p made)) Leave Done [] [] refl tt refl tt)))));
       ran = ran_so script h1 before (ok ++ line_of a ++ ok ++ line_of (codes "ORA-06550")) refl (tt, (tt, (tt, (tt, (tt, tt)))))
-          (simp (pieces, made.spells, made.makes, first.spells, first.calls, second.spells, second.calls));
+          (simp (pieces, made.spells, made.prints, first.spells, first.calls, second.spells, second.calls));
     }
 
-edition_made : (name : List ℕ) → effect_of (CreateEdition name None) ≡ MakesEdition name
-unfolding effect_of
-edition_made name = refl
-
-abbrev c2 : Catalogue
-c2 = with_edition c1 v2 first_edition
-
--- the catalogue with the second one
-abbrev c3 : Catalogue
-c3 = with_entry c2 second_edition (unit_key name_a) (Some (procedure name_a b))
-
 module _ (script : List ℕ) (p s : Piece) (first : Makes script p false name_a a) (second : Makes script s true name_a b) where
+  abbrev text1 : List ℕ
+  text1 = text_of script p
+
+  abbrev text2 : List ℕ
+  text2 = text_of script s
+
   abbrev r2 : List Record
-  r2 = Object first_edition (text_of script p) ∷ Edition v2 first_edition ∷ []
+  r2 = ObjectRecord first_edition true text1 ∷ Edition v2 first_edition ∷ []
 
   abbrev r3 : List Record
-  r3 = Object first_edition (text_of script p) ∷ Edition v2 first_edition ∷ Object second_edition (text_of script s) ∷ []
+  r3 = ObjectRecord first_edition true text1 ∷ Edition v2 first_edition ∷ ObjectRecord second_edition true text2 ∷ []
 
-  catalogue2 : catalogue_of r2 ≡ c2
-  catalogue2 = ap (λ c. with_edition c v2 first_edition) (catalogue1 script p first)
+  abbrev replaced : Definition
+  replaced = procedure true name_a second.body
 
-  catalogue3 : catalogue_of r3 ≡ c3
+  catalogue2 : catalogue_of r2 ≡ c2 text1 first.body
+  catalogue2 = ap (λ c. with_record c (made.Edition v2 first_edition)) (catalogue1 script p first)
+
+  catalogue3 : catalogue_of r3 ≡ c3 text1 first.body text2 second.body
   catalogue3 =
-      ap (λ c. with_stored c second_edition (stored_definition (text_of script s))) catalogue2
-      ∙ ap (with_stored c2 second_edition) second.again ∙ ap (with_object c2 second_edition) second.makes
+      ap (λ c. with_stored c second_edition true text2 (stored_definition text2)) catalogue2
+      ∙ ap (with_stored (c2 text1 first.body) second_edition true text2) second.again
 
   is_child : Reply (in_edition (r1 script p first) first_edition) the_session (Ddl (CreateEdition v2 None) [])
       ≡ record { database = in_edition r2 first_edition; answer = Done; records = Edition v2 first_edition ∷ [] }
   is_child =
       let db : Database = in_edition (r1 script p first) first_edition in
-      let c = catalogue1 script p first in
-      ap (λ m. defined db first_edition m []) (edition_made v2)
-      ∙ ap (λ c. edition_created (edition_named c v2) db v2) c
-      ∙ ap (λ c. recorded db (Edition v2 (leaf c))) c
+      ap (λ c. defined db (outcome c first_edition (first_edition ∷ []) (CreateEdition v2 None) [])) (catalogue1 script p first)
 
   sets_child : Reply (in_edition r2 first_edition) the_session (SetEdition v2) ≡ unchanged (in_edition r2 second_edition) Done
-  sets_child = ap (λ c. edition_set (edition_named c v2) (in_edition r2 first_edition) the_session (in_session first_edition)) catalogue2
+  sets_child = ap (λ (c : Lists). edition_set (set_edition c.editions.made v2) (in_edition r2 first_edition) the_session (in_session first_edition)) catalogue2
 
-  is_replaced : Reply (in_edition r2 second_edition) the_session (Ddl second.what (text_of script s))
-      ≡ record { database = in_edition r3 second_edition; answer = Done; records = Object second_edition (text_of script s) ∷ [] }
+  is_replaced : Reply (in_edition r2 second_edition) the_session (Ddl replaced text2)
+      ≡ record { database = in_edition r3 second_edition; answer = Done; records = ObjectRecord second_edition true text2 ∷ [] }
   is_replaced =
       let db : Database = in_edition r2 second_edition in
-      ap (λ m. defined db second_edition m (text_of script s)) second.makes
-      ∙ ap (λ c. created true (Visible c second_edition (unit_key name_a)) db second_edition (text_of script s)) catalogue2
+      ap (λ c. defined db (outcome c second_edition (second_edition ∷ []) replaced text2)) catalogue2
 
-  sees : (e : EditionNo) → Reply (in_edition r3 e) the_session Begin ≡ unchanged (in_edition r3 e) (View (catalogue.View c3 e))
-  sees e = ap (λ c. unchanged (in_edition r3 e) (View (catalogue.View c e))) catalogue3
+  abbrev seen_first : EditionView
+  seen_first = seeing first_edition (made_in first_edition text1 first.body)
+
+  abbrev seen_second : EditionView
+  seen_second = seeing second_edition (made_in second_edition text2 second.body)
+
+  sees_second : Reply (in_edition r3 second_edition) the_session Begin ≡ unchanged (in_edition r3 second_edition) (View seen_second)
+  sees_second =
+      ap (λ c. unchanged (in_edition r3 second_edition) (View (catalogue.View c second_edition))) catalogue3
+      ∙ ap (λ v. unchanged (in_edition r3 second_edition) (View v)) (view3-child text1 first.body text2 second.body)
+
+  sees_first : Reply (in_edition r3 first_edition) the_session Begin ≡ unchanged (in_edition r3 first_edition) (View seen_first)
+  sees_first =
+      ap (λ c. unchanged (in_edition r3 first_edition) (View (catalogue.View c first_edition))) catalogue3
+      ∙ ap (λ v. unchanged (in_edition r3 first_edition) (View v)) (view3 text1 first.body text2 second.body)
 
   sets_first : Reply (in_edition r3 second_edition) the_session (SetEdition (codes "ORA$BASE")) ≡ unchanged (in_edition r3 first_edition) Done
-  sets_first = ap (λ c. edition_set (edition_named c (codes "ORA$BASE")) (in_edition r3 second_edition) the_session (in_session second_edition)) catalogue3
+  sets_first = ap (λ (c : Lists). edition_set (set_edition c.editions.made (codes "ORA$BASE")) (in_edition r3 second_edition) the_session (in_session second_edition)) catalogue3
 
 pub upgrade_gives : UpgradeGives (ok ++ ok ++ ok ++ ok ++ line_of b ++ ok ++ ok ++ line_of a ++ ok)
 upgrade_gives script p q r s t u v pieces first child_made child_set second there_called base_set here_called =
-    let seen : List ℕ → Answer = λ line. View (procedure name_a line ∷ []) in
+    let seen_a : Answer = View (seen_first script p s first second) in
+    let seen_b : Answer = View (seen_second script p s first second) in
     let db1 : Database = in_edition (r1 script p first) first_edition in
     let db2 : Database = in_edition (r2 script p s first second) first_edition in
     let db3 : Database = in_edition (r2 script p s first second) second_edition in
     let db4 : Database = in_edition (r3 script p s first second) second_edition in
     let db5 : Database = in_edition (r3 script p s first second) first_edition in
     let first_name : List ℕ = codes "ORA$BASE" in
-    let making : Ask = Ddl first.what (text_of script p) in
+    let making : Ask = Ddl (what script p first) (text_of script p) in
     let child : Ask = Ddl (CreateEdition v2 None) [] in
-    let replacing : Ask = Ddl second.what (text_of script s) in
+    let replacing : Ask = Ddl (replaced script p s first second) (text_of script s) in
     let h10 : List Entry = entry Leave Done ∷ [] in
     let h9 : List Entry = entry (EndCall false) Done ∷ h10 in
-    let h8 : List Entry = entry Begin (seen a) ∷ h9 in
+    let h8 : List Entry = entry Begin seen_a ∷ h9 in
     let h7 : List Entry = entry (SetEdition first_name) Done ∷ h8 in
     let h6 : List Entry = entry (EndCall false) Done ∷ h7 in
-    let h5 : List Entry = entry Begin (seen b) ∷ h6 in
+    let h5 : List Entry = entry Begin seen_b ∷ h6 in
     let h4 : List Entry = entry replacing Done ∷ h5 in
     let h3 : List Entry = entry (SetEdition v2) Done ∷ h4 in
     let h2 : List Entry = entry child Done ∷ h3 in
     let h1 : List Entry = entry making Done ∷ h2 in
     let before : List Exchange =
-    exchanged making Done ∷ exchanged child Done ∷ exchanged (SetEdition v2) Done ∷ exchanged replacing Done ∷ exchanged Begin (seen b) ∷ exchanged (EndCall false) Done
-    ∷ exchanged (SetEdition first_name) Done ∷ exchanged Begin (seen a) ∷ exchanged (EndCall false) Done ∷ [] in
+    exchanged making Done ∷ exchanged child Done ∷ exchanged (SetEdition v2) Done ∷ exchanged replacing Done ∷ exchanged Begin seen_b ∷ exchanged (EndCall false) Done
+    ∷ exchanged (SetEdition first_name) Done ∷ exchanged Begin seen_a ∷ exchanged (EndCall false) Done ∷ [] in
     record {
       history = h1;
       legal =
           legal_on start db1 making Done (r1 script p first) h2 refl tt (is_made script p first)
           (legal_on db1 db2 child Done (Edition v2 first_edition ∷ []) h3 refl tt (is_child script p s first second)
           (legal_on db2 db3 (SetEdition v2) Done [] h4 refl tt (sets_child script p s first second)
-          (legal_on db3 db4 replacing Done (Object second_edition (text_of script s) ∷ []) h5 refl tt (is_replaced script p s first second)
-          (legal_on db4 db4 Begin (seen b) [] h6 refl tt (sees script p s first second second_edition)
+          (legal_on db3 db4 replacing Done (ObjectRecord second_edition true (text_of script s) ∷ []) h5 refl tt (is_replaced script p s first second)
+          (legal_on db4 db4 Begin seen_b [] h6 refl tt (sees_second script p s first second)
           (legal_on db4 db4 (EndCall false) Done [] h7 refl tt refl
           (legal_on db4 db5 (SetEdition first_name) Done [] h8 refl tt (sets_first script p s first second)
-          (legal_on db5 db5 Begin (seen a) [] h9 refl tt (sees script p s first second first_edition)
+          (legal_on db5 db5 Begin seen_a [] h9 refl tt (sees_first script p s first second)
           (legal_on db5 db5 (EndCall false) Done [] h10 refl tt refl
           (legal_on db5 (left_from (r3 script p s first second)) Leave Done [] [] refl tt refl tt)))))))));
       ran = ran_so script h1 before (ok ++ ok ++ ok ++ ok ++ line_of b ++ ok ++ ok ++ line_of a ++ ok) refl (tt, (tt, (tt, (tt, (tt, (tt, (tt, (tt, (tt, tt)))))))))
-          (simp (pieces, first.spells, first.makes, child_made, child_set, second.spells, second.makes, there_called.spells, there_called.calls, base_set, here_called.spells, here_called.calls, edition_made));
+          (simp (pieces, first.spells, first.prints, child_made, child_set, second.spells, second.prints, there_called.spells, there_called.calls, base_set, here_called.spells, here_called.calls));
     }

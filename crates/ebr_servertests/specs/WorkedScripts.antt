@@ -8,13 +8,13 @@ use Rattle.ebr_ast.specs.declared.unit.UnitTree.TheVariants as unit
 use Rattle.ebr_ast.specs.declared.statement.Block.{Block, roll-Block}
 use Rattle.ebr_ast.specs.declared.statement.Stmt.{Stmt}
 use Rattle.ebr_ast.specs.declared.statement.Stmt.TheVariants as stmt
-use Rattle.ebr_ast.specs.declared.expression.Expr.TheVariants as expression
+use Rattle.ebr_exprtree.specs.declared.expression.Expr.TheVariants as expression
 use Rattle.ebr_script.specs.declared.piece.Piece.{Piece}
 use Rattle.ebr_script.specs.declared.piece.PieceKind.TheVariants as piece
 use Rattle.ebr_script.specs.Pieces.{pieces_of, stored_definition, text_of}
 use Rattle.ebr_server.specs.declared.ask.Entry.{Entry}
 use Rattle.ebr_server.specs.History.{Mine, Legal}
-use Rattle.ebr_server.specs.Forms.{MakesProcedure, effect_of, called_name}
+use Rattle.ebr_server.specs.Forms.{printed_line, called_name}
 use Rattle.ebr_server.specs.Machine.{the_session, start}
 use Rattle.ebr_server.specs.Program.{RanToEnd}
 
@@ -24,12 +24,17 @@ pub record Gives (script replies : List ℕ) : Type 0 where
   pub legal : Legal start history
   pub ran : RanToEnd script (Mine history the_session) replies
 
--- A piece makes a procedure, and its stored text spells what it does.
+-- the definition of a procedure without parameters, by this body
+abbrev pub procedure : Bool → List ℕ → Block → Definition
+procedure replace name body =
+    CreateObject replace (unit.Subprogram (record { head = record { name = name; parameters = []; result = None }; body = body }))
+
+-- A piece makes a procedure that prints one line, and its stored text spells what it does.
 pub record Makes (script : List ℕ) (p : Piece) (replace : Bool) (name line : List ℕ) : Type 0 where
-  pub what : Definition
-  pub spells : p.what ≡ piece.Tree (statement.Definition what)
-  pub makes : effect_of what ≡ MakesProcedure replace name line
-  pub again : stored_definition (text_of script p) ≡ Some what
+  pub body : Block
+  pub spells : p.what ≡ piece.Tree (statement.Definition (procedure replace name body))
+  pub prints : printed_line body ≡ Some line
+  pub again : stored_definition (text_of script p) ≡ Some (procedure replace name body)
 
 -- A piece calls a procedure.
 pub record Calls (p : Piece) (name : List ℕ) : Type 0 where
@@ -58,12 +63,9 @@ UpgradeGives replies = (script : List ℕ) (p q r s t u v : Piece) → pieces_of
 abbrev pub block_of : Stmt → Block
 block_of s = roll-Block (record { declarations = []; statements = s ∷ []; handlers = [] })
 
--- the tree of `CREATE [OR REPLACE] PROCEDURE name IS BEGIN DBMS_OUTPUT.PUT_LINE('line'); END;`
-abbrev pub printing_procedure : Bool → List ℕ → List ℕ → Definition
-printing_procedure replace name line = CreateObject replace (unit.Subprogram (record {
-  head = record { name = name; parameters = []; result = None };
-  body = block_of (stmt.PutLine (expression.Text line));
-}))
+-- `BEGIN DBMS_OUTPUT.PUT_LINE('line'); END`
+abbrev pub printing : List ℕ → Block
+printing line = block_of (stmt.PutLine (expression.Text line))
 
 -- the tree of `CALL name()`
 abbrev pub call_of : List ℕ → Block

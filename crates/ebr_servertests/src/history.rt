@@ -4,10 +4,10 @@ use crate::run::{FIRST_CALLS, NO_FAULTS, TRY, UPGRADE, served};
 use ebr_server::{Answer, Ask, Entry};
 use std::test::Fail;
 
-/// What an entry is: its ask, and for a view the line of its first procedure.
+/// What an entry is: its ask, and for a view the number of the edition in which its first object was made.
 #[derive(Clone, Copy, Debug, PartialEq, Eq)]
 enum Kind {
-    Begin(u8),
+    Begin(u32),
     Ddl,
     SetEdition,
     EndCall,
@@ -15,23 +15,20 @@ enum Kind {
     Leave,
 }
 
-/// The first byte of the line of the first procedure that is seen; 0 where none is.
-fn first_line(answer: &Answer) -> u8 {
+/// The number of the edition in which the first object that is seen was made; 0 where none is seen.
+fn first_edition(answer: &Answer) -> u32 {
     let Answer::View(view) = answer else {
         return 0;
     };
-    let Some(procedure) = view.get().get(0) else {
-        return 0;
-    };
-    match procedure.get().line.as_slice() {
-        [byte, ..] => *byte,
-        [] => 0,
+    match view.get().objects.get(0) {
+        Some(object) => object.get().stamp.edition.0,
+        None => 0,
     }
 }
 
 fn kind_of(entry: &Entry) -> Kind {
     match &entry.ask {
-        Ask::Begin => Kind::Begin(first_line(&entry.answer)),
+        Ask::Begin => Kind::Begin(first_edition(&entry.answer)),
         Ask::Ddl { .. } => Kind::Ddl,
         Ask::SetEdition(_) => Kind::SetEdition,
         Ask::EndCall { failed: false } => Kind::EndCall,
@@ -42,9 +39,9 @@ fn kind_of(entry: &Entry) -> Kind {
 
 static FIRST: [Kind; 6] = [
     Kind::Ddl,
-    Kind::Begin(b'a'),
+    Kind::Begin(1),
     Kind::EndCall,
-    Kind::Begin(b'a'),
+    Kind::Begin(1),
     Kind::FailedCall,
     Kind::Leave,
 ];
@@ -54,10 +51,10 @@ static UPGRADED: [Kind; 10] = [
     Kind::Ddl,
     Kind::SetEdition,
     Kind::Ddl,
-    Kind::Begin(b'b'),
+    Kind::Begin(2),
     Kind::EndCall,
     Kind::SetEdition,
-    Kind::Begin(b'a'),
+    Kind::Begin(1),
     Kind::EndCall,
     Kind::Leave,
 ];

@@ -2,11 +2,15 @@
 #![tactic(auto)]
 
 #[cfg(test)]
+mod definitions;
+#[cfg(test)]
 mod editions;
 #[cfg(test)]
 mod faults;
 #[cfg(test)]
 mod history;
+#[cfg(test)]
+mod limits;
 #[cfg(test)]
 mod pieces;
 #[cfg(test)]

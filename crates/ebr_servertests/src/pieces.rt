@@ -30,7 +30,7 @@ static REPLIES: [Row; 19] = [
     // other statements, of which each is refused by itself, and a piece without a token
     (
         b"SELECT 1 FROM dual;\nCREATE EDITION v2 AS CHILD OF ora$base;\nDROP EDITION v2;\n;CALL a(1);",
-        b"EBR-0001\nEBR-0001\nEBR-0001\nORA-00900\nEBR-0001\n",
+        b"EBR-0001\nOK\nOK\nORA-00900\nEBR-0001\n",
     ),
     // a reserved word is no name
     (b"CALL begin();CALL procedure();", b"ORA-06550\nORA-06550\n"),
@@ -76,10 +76,10 @@ static REPLIES: [Row; 19] = [
         b"CREATE PROCEDURE a IS BEGIN DBMS_OUTPUT.PUT_LINE('it''s'); END a;\n/\nBEGIN a(); END;\n/\nBEGIN a; END;\n/\n",
         b"OK\nit's\nOK\nEBR-0001\n",
     ),
-    // a procedure with a parameter, a declaration, a handler or another statement isn't made, and a function never
+    // a procedure with a parameter is made and not run yet, and its name is taken
     (
         b"CREATE PROCEDURE a(x IN NUMBER) IS BEGIN DBMS_OUTPUT.PUT_LINE('a'); END;\n/\nCREATE PROCEDURE a IS x NUMBER; BEGIN DBMS_OUTPUT.PUT_LINE('a'); END;\n/\nCREATE PROCEDURE a IS BEGIN NULL; END;\n/\nCREATE FUNCTION a RETURN NUMBER IS BEGIN DBMS_OUTPUT.PUT_LINE('a'); END;\n/\nCALL a();",
-        b"EBR-0001\nEBR-0001\nEBR-0001\nEBR-0001\nORA-06550\n",
+        b"OK\nORA-00955\nORA-00955\nORA-00955\nEBR-0001\n",
     ),
 ];
 

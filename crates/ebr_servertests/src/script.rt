@@ -200,14 +200,7 @@ fn keeps(rt: &impl Abort, alloc: Global, script: &[u8], text: &[u8]) -> Result<(
     let found = pieces(alloc, script)?;
     match found.get(0) {
         Some(piece) => {
-            assert!(rt;
-                piece.from <= piece.to && piece.to as usize <= script.len(),
-                "a piece within"
-            );
-            assert!(rt;
-                text_of(alloc, script, piece)? == text,
-                "{text:?} of {script:?}"
-            );
+            assert!(rt; text_of(script, piece) == text, "{text:?} of {script:?}");
         }
         None => panic!(rt; "no piece"),
     }

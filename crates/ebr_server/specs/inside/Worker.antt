@@ -10,9 +10,6 @@ use Rattle.ebr_server.specs.declared.ask.Entry.{Entry}
 use Rattle.ebr_server.specs.declared.engine.Engine.{Engine}
 use Rattle.ebr_server.specs.declared.worker.Halt.{Halt}
 use Rattle.ebr_server.specs.declared.worker.Halt.TheVariants.{SinkFault, NoMemory, Answered}
-use Rattle.ebr_server.specs.declared.worker.CallPlan.{CallPlan}
-use Rattle.ebr_server.specs.declared.worker.CallPlan.TheVariants.{Missing, Line, Nothing}
-use Rattle.ebr_server.specs.declared.worker.CallPlan.TheVariants.{Refused as RefusedAs}
 use Rattle.ebr_server.specs.Machine.{the_session, start}
 use Rattle.ebr_server.specs.History.{Mine, asks, answers, GoesOn, EndsRun, AllGoOn, Legal}
 use Rattle.ebr_server.specs.Sessions.{State, Step, Printed, leaving, run_pieces, SessionRun, then_run, printing, printing_result, line_of, asked, call_after, run_call}
@@ -97,31 +94,24 @@ RanPieces (Err SinkFault) script faults engine o = Quits script (entries engine)
 RanPieces (Err NoMemory) script faults engine o = Quits script (entries engine) o × IsOpen engine × (faults ≤ o.faults)
 RanPieces (Err Answered) script faults engine o = RanOut script (Mine (entries engine) the_session) o.written × Legal start (entries engine) × (faults ≤ o.faults)
 
--- what the answer to Begin makes of a call
-abbrev pub PlansAs : CallPlan → List ℕ → Answer → Type 0
-PlansAs Missing name x = call_after name x ≡ run_call None
-PlansAs (Line line) name x = call_after name x ≡ (λ σ. then_run (printing (line_of line.now) σ) (asked (EndCall false) (printing_result (codes "OK"))))
-PlansAs (RefusedAs code) name x = call_after name x ≡ printing (line_of (code_text code))
-PlansAs Nothing name x = call_after name x ≡ printing []
-
--- All that was printed was written, and the engine made one entry for the ask.
-pub record HasAsked (ask : Ask) (old_engine : Engine) (old : Output) (engine : Engine) (new : Output) : Type 0 where
-  pub answer : Answer
+-- All that was printed was written, and the engine made one entry for the ask, with this answer.
+pub record HasAsked (ask : Ask) (answer : Answer) (old_engine : Engine) (old : Output) (engine : Engine) (new : Output) : Type 0 where
   pub entry : entries engine ≡ entries old_engine ++ record { session = the_session; ask = ask; answer = answer } ∷ []
   pub writes : WritesOn old new
   pub all_written : new.pending ≡ []
   pub legal : Legal start (entries engine)
 
 -- The session goes on.
-pub record WasAnswered (ask : Ask) (old_engine : Engine) (old : Output) (engine : Engine) (new : Output) : Type 0 where
-  pub asks : HasAsked ask old_engine old engine new
-  pub goes_on : GoesOn asks.answer
+pub record WasAnswered (ask : Ask) (answer : Answer) (old_engine : Engine) (old : Output) (engine : Engine) (new : Output) : Type 0 where
+  pub asks : HasAsked ask answer old_engine old engine new
+  pub goes_on : GoesOn answer
   pub is_open : ask ≢ Leave → IsOpen engine
 
 -- The session has ended.
 pub record WasEnded (ask : Ask) (old_engine : Engine) (old : Output) (engine : Engine) (new : Output) : Type 0 where
-  pub asks : HasAsked ask old_engine old engine new
-  pub ends : EndsRun asks.answer
+  pub answer : Answer
+  pub asks : HasAsked ask answer old_engine old engine new
+  pub ends : EndsRun answer
 
 -- A write failed before the ask.
 pub record WasNotAsked (old_engine : Engine) (old : Output) (engine : Engine) (new : Output) : Type 0 where
@@ -130,8 +120,8 @@ pub record WasNotAsked (old_engine : Engine) (old : Output) (engine : Engine) (n
   pub rises : Rises old.faults new.faults
 
 -- what came of an ask
-abbrev pub Asks : Result (Unit {0}) Halt → Ask → Engine → Output → Engine → Output → Type 0
-Asks (Ok u) ask old_engine old engine new = WasAnswered ask old_engine old engine new
+abbrev pub Asks : Result Answer Halt → Ask → Engine → Output → Engine → Output → Type 0
+Asks (Ok x) ask old_engine old engine new = WasAnswered ask x old_engine old engine new
 Asks (Err SinkFault) ask old_engine old engine new = WasNotAsked old_engine old engine new
 Asks (Err NoMemory) ask old_engine old engine new = ⊥
 Asks (Err Answered) ask old_engine old engine new = WasEnded ask old_engine old engine new

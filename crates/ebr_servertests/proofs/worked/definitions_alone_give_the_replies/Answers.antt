@@ -1,9 +1,9 @@
-use Rattle.ebr_servertests.proofs.Trees.{effect_of-procedure, called_name-call}
+use Rattle.ebr_servertests.proofs.Trees.{printed_line-is, called_name-call}
 use Rattle.ebr_servertests.proofs.Replayed.{nothing_gives, calls_give, upgrade_gives}
 use Rattle.ebr_servertests.proofs.worked.definitions_alone_give_the_replies.Goals as goal
 
-pub returns-clause-procedure : goal.returns-clause-procedure
-returns-clause-procedure c = effect_of-procedure
+pub returns-clause-line : goal.returns-clause-line
+returns-clause-line c = printed_line-is
 
 pub returns-clause-call : goal.returns-clause-call
 returns-clause-call c = called_name-call

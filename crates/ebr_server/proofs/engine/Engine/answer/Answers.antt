@@ -1,11 +1,11 @@
-use Rattle.std.proofs.Common.{◌∙◌, arith}
-use Rattle.ebr_server.proofs.Histories.{answers}
+use Rattle.std.proofs.Common.{sym, arith, subst}
+use Rattle.ebr_server.specs.inside.Engine.{LeavesReply}
+use Rattle.ebr_server.proofs.Histories.{answers, one_entry}
 use Rattle.ebr_server.proofs.engine.Engine.answer.Goals as goal
 
 pub returns-in-Ok : goal.returns-in-Ok
-returns-in-Ok c = answers _ _ _ c.in-Ok.answer c.requires.open c.requires.spelled (record {
-  entry = cc;
-  reply = c.in-Ok.ensures.answer;
-  after = c.add_entry.ensures.editions ∙ c.in-Ok.ensures.after;
+returns-in-Ok c = answers _ _ _ _ c.requires.open c.requires.spelled (record {
+  entry = one_entry _ _ _ _ _ _ c.add_entry.ensures.entry c.try_reply.ensures.history c.in-Ok.ensures.copy;
+  reply = λ lists e h. subst (λ now. LeavesReply c.args.ask now c.in-Ok.answer lists e) (sym c.add_entry.ensures.current) (c.in-Ok.ensures.reply lists e h);
   room = λ stays. omega (arith, c.in-Ok.ensures.room stays);
 })

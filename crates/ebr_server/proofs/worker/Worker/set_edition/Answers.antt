@@ -1,8 +1,0 @@
-use Rattle.std.proofs.lemmas.Result.{err_from_is_err_and}
-use Rattle.ebr_server.proofs.Steps.{QuitStep-asked}
-use Rattle.ebr_server.proofs.worker.Worker.set_edition.Goals as goal
-
-pub returns-in_err-name : goal.returns-in_err-name
-returns-in_err-name g c =
-    let p = err_from_is_err_and c.from_residual.result c.from_residual.ensures.1 in
-    rw (p.1, p.2) (QuitStep-asked _ _ _ _ c.requires.open)
