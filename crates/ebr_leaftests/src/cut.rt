@@ -1,8 +1,8 @@
-//! What no clause says: that scripts are cut and texts scanned where memory is ample, that long scripts take a short
-//! time, and which pieces, tokens or fault there are.
+//! What no clause says: that scripts are cut and texts scanned where memory is ample, that long and hostile ones come to
+//! an end, and which pieces, tokens or fault there are.
 
 use ebr_base::{Bytes, Code, MAX_COUNT, NoMemory};
-use ebr_cut::{Lead, Scanned, Span, cut, end_of, one_cut, scan, stored_text, text_of};
+use ebr_cut::{Lead, Scanned, Span, cut, end_of, one_cut, scan, text_of};
 use std::alloc::Global;
 use std::test::Fail;
 
@@ -194,7 +194,7 @@ fn strings_and_comments_hide_what_they_hold(rt: HostRuntime) -> Result<(), Fail>
     Ok(())
 }
 
-/// How many tokens a text has, its stored text and where that ends; or its fault.
+/// How many tokens a text has, where the last one ends, and what stands before that place; or its fault.
 fn scanned(alloc: Global, text: &[u8]) -> Result<Bytes, NoMemory> {
     let mut out = Bytes::new(alloc);
     if text.len() >= MAX_COUNT {
@@ -205,7 +205,7 @@ fn scanned(alloc: Global, text: &[u8]) -> Result<Bytes, NoMemory> {
             let tokens = tokens.as_slice();
             let end = end_of(tokens);
             out.extend(format!(in alloc; "{} up to {end}: ", tokens.len())?.as_bytes())?;
-            out.extend(stored_text(text, tokens))?;
+            out.extend(&text[..end as usize])?;
         }
         Scanned::Fault(code) => code.append_to(&mut out)?,
     }
@@ -221,7 +221,7 @@ static SCANS: [(&[u8], &[u8]); 11] = [
     (b"BEGIN a; END;\n-- b\n", b"5 up to 13: BEGIN a; END;"),
     (
         b"/* x */ a /* y */ 'b ' /* z */",
-        b"2 up to 22: a /* y */ 'b '",
+        b"2 up to 22: /* x */ a /* y */ 'b '",
     ),
     (b"a ?", b"EBR-0020"),
     (b"a /* b", b"EBR-0021"),

@@ -10,9 +10,13 @@ mod cut;
 #[cfg(test)]
 mod editions;
 #[cfg(test)]
+mod functions;
+#[cfg(test)]
 mod lexer;
 #[cfg(test)]
 mod locks;
+#[cfg(test)]
+mod operators;
 #[cfg(test)]
 mod tables;
 #[cfg(test)]
