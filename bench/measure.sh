@@ -1,5 +1,5 @@
 #!/bin/sh
-# Makes the table "Measured" of docs/PROFILE.md: for each kind of script and each size the processor time and the memory
+# Makes the tables "Measured" of docs/PROFILE.md: for each kind of script and each size the processor time and the memory
 # that `ebrd try` takes, best of three runs. Run by hand; it wants GNU time. Nothing here is a test.
 set -eu
 top=$(dirname -- "$(readlink -f -- "$0")")/..
@@ -11,17 +11,14 @@ trap 'rm -rf "$work"' EXIT
 as_many() {
     awk -v size="$1" -v kind="$2" '
         function add(text) { if (used + length(text) > size) exit; used += length(text); printf "%s", text; count++ }
-        function made(i) { return "CREATE PROCEDURE p" i " IS BEGIN DBMS_OUTPUT.PUT_LINE(\047x\047); END;\n/\n" }
         BEGIN {
             if (kind == "called") add("CREATE PROCEDURE a IS BEGIN DBMS_OUTPUT.PUT_LINE(\047a\047); END;\n/\n")
             for (i = 0; ; i++) {
                 if (kind == "blocks") add("BEGIN NULL; END;\n/\n")
-                else if (kind == "units") add("CREATE PROCEDURE p" i " IS BEGIN NULL; END;\n/\n")
+                else if (kind == "units") add("CREATE OR REPLACE PROCEDURE p IS BEGIN NULL; END;\n/\n")
                 else if (kind == "queries") add("SELECT a" i ", b + 1 FROM t WHERE c = " i ";\n")
                 else if (kind == "semicolons") add(";")
                 else if (kind == "called") add("CALL a();\n")
-                else if (kind == "printing") add(made(i))
-                else if (kind == "pairs") add(made(i) "CALL p" i "();\n")
             }
         }'
 }
@@ -32,6 +29,18 @@ repeated() {
         printf "%s", head
         for (used = length(head) + length(tail); used + length(part) <= size; used += length(part)) printf "%s", part
         printf "%s", tail
+    }'
+}
+
+# procedures COUNT KIND: so many procedures that print a line, of different names; with a call of each behind all of them, or
+# behind its definition
+procedures() {
+    awk -v count="$1" -v kind="$2" 'BEGIN {
+        for (i = 0; i < count; i++) {
+            printf "CREATE PROCEDURE p%d IS BEGIN DBMS_OUTPUT.PUT_LINE(\047x\047); END;\n/\n", i
+            if (kind == "called_at_once") printf "CALL p%d();\n", i
+        }
+        for (i = 0; i < count && kind == "called_after"; i++) printf "CALL p%d();\n", i
     }'
 }
 
@@ -52,10 +61,22 @@ measured() {
 
 echo '| Script | 256 KiB | 512 KiB | 1 MiB |'
 echo '|---|---|---|---|'
-for kind in blocks units queries sum ifs semicolons called printing pairs; do
+for kind in blocks units queries sum ifs semicolons called; do
     printf '| %s' "$kind"
     for size in 262144 524288 1048576; do
         script "$size" "$kind" >"$work/$kind.sql"
+        printf ' | %s' "$(measured "$work/$kind.sql")"
+    done
+    echo ' |'
+done
+
+echo
+echo '| Script | 1,024 | 2,048 | 4,096 |'
+echo '|---|---|---|---|'
+for kind in made called_after called_at_once; do
+    printf '| %s' "$kind"
+    for count in 1024 2048 4096; do
+        procedures "$count" "$kind" >"$work/$kind.sql"
         printf ' | %s' "$(measured "$work/$kind.sql")"
     done
     echo ' |'
