@@ -1,10 +1,13 @@
-//! Texts and the trees that they spell: the tests of the crates that read the grammar.
+//! Texts, the trees that they spell, and the values of expressions: the tests of the crates that read the grammar, and of
+//! `ebr_expr`.
 //!
 //! They stand together above those crates, so that each of them is proved once.
 #![tactic(auto)]
 
 #[cfg(test)]
 mod definitions;
+#[cfg(test)]
+mod evaluation;
 #[cfg(test)]
 mod expressions;
 #[cfg(test)]
