@@ -10,7 +10,8 @@ use Rattle.ebr_base.specs.declared.object.ObjectKey.{ObjectKey}
 use Rattle.ebr_base.specs.declared.code.Code.TheVariants.{Ora, Ebr}
 use Rattle.ebr_editions.specs.declared.entry.EditionEntry.{EditionEntry}
 use Rattle.ebr_editions.specs.Editions.{is_edition, line_of, line_up, parent_of}
-use Rattle.ebr_editions.specs.Objects.{ObjectEntry, same_key, with_key, entry_or, nearest, is_in, entries_in, next_stamp, with_entry, last_object, Visible, keys_of, visible_count, put_answer, hide_answer, without_both}
+use Rattle.ebr_base.specs.Keys.{same_key}
+use Rattle.ebr_editions.specs.Objects.{ObjectEntry, with_key, entry_or, nearest, is_in, entries_in, next_stamp, with_entry, last_object, Visible, keys_of, visible_count, put_answer, hide_answer, without_both}
 use Rattle.ebr_editions.specs.Held.{Held, HasEntries, hold, held, defined_in}
 use Rattle.ebr_editions.specs.inside.Held.{held_object, held_visible, held_stamp, held_others}
 use Rattle.ebr_editions.proofs.Lists.{by_test, same_edition, cond-true, cond-false, count-true, count-false, count-same, false_true}

@@ -13,7 +13,8 @@ use Rattle.ebr_base.specs.declared.object.ObjectKey.{ObjectKey}
 use Rattle.ebr_editions.specs.declared.entry.EditionEntry.{EditionEntry}
 use Rattle.ebr_editions.specs.Editions.{Editions, IsLine, is_edition, parent_of, line_from, line_of}
 use Rattle.ebr_editions.proofs.Line.{line_of-step}
-use Rattle.ebr_editions.specs.Objects.{ObjectEntry, same_class, same_key, with_key, entry_or, nearest, is_in, is_entry_of, entries_in, next_stamp, with_entry, actual_object, actual_at, last_object, Visible, keys_of}
+use Rattle.ebr_base.specs.Keys.{same_class, same_key}
+use Rattle.ebr_editions.specs.Objects.{ObjectEntry, with_key, entry_or, nearest, is_in, is_entry_of, entries_in, next_stamp, with_entry, actual_object, actual_at, last_object, Visible, keys_of}
 use Rattle.ebr_editions.specs.Held.{Defined, Held, nothing_defined, with_object, defined_in, with_definition, hold, nothing_held, held}
 use Rattle.ebr_editions.specs.inside.Held.{held_object, held_visible, held_at}
 use Rattle.ebr_editions.proofs.Lists.{by_test, cond-true, cond-false, count-true, count-false, none_some, false_true, slice_get-map, same_edition, is_edition-same, same_name, name_itself}

@@ -7,7 +7,8 @@ use Rattle.ebr_base.specs.declared.object.Class.{Class}
 use Rattle.ebr_base.specs.declared.object.Class.TheVariants as class
 use Rattle.ebr_base.specs.declared.object.ObjectKey.{ObjectKey}
 use Rattle.ebr_base.specs.contracts.object.ObjectKeyPartialEq.TheImpl.{ghosts}
-use Rattle.ebr_editions.specs.Objects.{same_key, with_key}
+use Rattle.ebr_base.specs.Keys.{same_key}
+use Rattle.ebr_editions.specs.Objects.{with_key}
 use Rattle.ebr_editions.specs.Held.{Held, Defined, with_object, with_definition, hold}
 
 key : Class → List ℕ → ObjectKey

@@ -9,7 +9,8 @@ use Rattle.ebr_base.specs.declared.numbers.EditionNo.{EditionNo}
 use Rattle.ebr_base.specs.declared.numbers.TheConstants.{MAX_COUNT}
 use Rattle.ebr_base.specs.declared.object.ObjectKey.{ObjectKey}
 use Rattle.ebr_editions.specs.Editions.{is_edition}
-use Rattle.ebr_editions.specs.Objects.{ObjectEntry, entries_in, same_key, with_key}
+use Rattle.ebr_base.specs.Keys.{same_key}
+use Rattle.ebr_editions.specs.Objects.{ObjectEntry, entries_in, with_key}
 
 -- one edition's entries: how many, and the object of the last one for each key, in the order of the first ones
 pub record Defined (O : Type 0) : Type 0 where

@@ -2,16 +2,14 @@
 -- Oracle Database Development Guide 19c, Using Edition-Based Redefinition, Editioned and Noneditioned Objects: an edition
 -- inherits what its parent has, until it defines or drops an object itself. That a dropped object hides its ancestors'
 -- and never gives way to them, and how definitions are stamped, is own.
-use Rattle.std.specs.Prelude.{ℕ, suc, Bool, true, false, ◌&&◌, if◌then◌else◌, nat_lt, List, [], ◌∷◌, ◌++◌, Option, Some, None, option_map, is_some, Result, Ok, Err, filter, fold, count_by}
+use Rattle.std.specs.Prelude.{ℕ, suc, Bool, ◌&&◌, if◌then◌else◌, nat_lt, List, [], ◌∷◌, ◌++◌, Option, Some, None, option_map, is_some, Result, Ok, Err, filter, fold, count_by}
 use Rattle.std.specs.List.{list_any, slice_get}
-use Rattle.std.specs.Str.{bytes_eq}
 use Rattle.ebr_base.specs.declared.numbers.EditionNo.{EditionNo}
 use Rattle.ebr_base.specs.declared.numbers.Stamp.{Stamp}
-use Rattle.ebr_base.specs.declared.object.Class.{Class}
-use Rattle.ebr_base.specs.declared.object.Class.TheVariants as class
 use Rattle.ebr_base.specs.declared.object.ObjectKey.{ObjectKey}
 use Rattle.ebr_base.specs.declared.code.Code.{Code}
 use Rattle.ebr_base.specs.declared.code.Code.TheVariants.{Ora, Ebr}
+use Rattle.ebr_base.specs.Keys.{same_key}
 use Rattle.ebr_editions.specs.declared.entry.EditionEntry.{EditionEntry}
 use Rattle.ebr_editions.specs.Editions.{is_edition, line_of}
 
@@ -21,15 +19,6 @@ pub record ObjectEntry (O : Type 0) : Type 0 where
   pub key : ObjectKey
   pub object : Option O
   pub stamp : Stamp
-
-abbrev pub same_class : Class → Class → Bool
-same_class class.Unit class.Unit = true
-same_class class.Body class.Body = true
-same_class class.Trigger class.Trigger = true
-same_class a b = false
-
-abbrev pub same_key : ObjectKey → ObjectKey → Bool
-same_key a b = same_class a.class b.class && bytes_eq a.name b.name
 
 abbrev pub with_key : List ObjectKey → ObjectKey → List ObjectKey
 with_key keys key = if list_any (same_key key) keys then keys else keys ++ key ∷ []

@@ -4,7 +4,7 @@ ghost use Rattle.std.specs.Prelude.{◌≡◌, ◌+◌, ◌<◌, None, Some, IfS
 ghost use Rattle.std.specs.Option.{option_copied};
 ghost use Rattle.std.specs.Map.{lookup};
 ghost use Rattle.ebr_base.specs.declared.numbers.TheConstants.{MAX_COUNT};
-ghost use Rattle.ebr_editions.specs.Objects.{same_key};
+ghost use Rattle.ebr_base.specs.Keys.{same_key};
 ghost use Rattle.ebr_editions.specs.Held.{Defined, nothing_defined, with_object, deref_object};
 
 use ebr_base::{NoMemory, ObjectKey};

@@ -15,7 +15,8 @@ use Rattle.ebr_base.specs.declared.numbers.TableId.{TableId}
 use Rattle.ebr_base.specs.declared.table.Column.{Column}
 use Rattle.ebr_base.specs.declared.table.TableDef.{TableDef}
 use Rattle.ebr_tables.specs.Definitions.{has_repetition, same_name, is_bad_size, is_bad_key, is_bad_table, is_bad_column, with_key_not_null}
-use Rattle.ebr_tables.specs.Tables.{AllTables, IsTable, is_not_null, create_refusal, add_refusal, table_named, kept_as, widened}
+use Rattle.ebr_base.specs.Keys.{table_named}
+use Rattle.ebr_tables.specs.Tables.{AllTables, IsTable, is_not_null, create_refusal, add_refusal, kept_as, widened}
 use Rattle.ebr_tables.proofs.Names.{once-push}
 
 -- a cause that doesn't refuse

@@ -14,7 +14,8 @@ use Rattle.ebr_base.specs.declared.numbers.TheConstants.{MAX_COUNT}
 use Rattle.ebr_base.specs.declared.table.Column.{Column}
 use Rattle.ebr_base.specs.declared.table.TableDef.{TableDef}
 use Rattle.ebr_tables.specs.Definitions.{has_repetition}
-use Rattle.ebr_tables.specs.Tables.{AreTables, IsTable, same_table_name, table_named, next_id, kept_as, add_refusal, widened, with_column, without_table}
+use Rattle.ebr_base.specs.Keys.{table_named}
+use Rattle.ebr_tables.specs.Tables.{AreTables, IsTable, same_table_name, next_id, kept_as, add_refusal, widened, with_column, without_table}
 use Rattle.ebr_tables.specs.inside.Keyed.{Entries, by_name, tables_of, Keyed, widened_in}
 use Rattle.ebr_tables.proofs.Names.{has, none-any, others-none, filter-none, map-none, distinct-filter, distinct-map, once-push, ascend-filter, ascend-map, ascend-push}
 use Rattle.ebr_tables.proofs.Allowed.{IsAllowed, kept-is, widened-is}

@@ -8,7 +8,8 @@ use Rattle.std.proofs.lemmas.List.Folds.{list_any-append}
 use Rattle.std.proofs.lemmas.Slice.Eq.{bytes_eq-Decides}
 use Rattle.ebr_base.specs.declared.table.TableDef.{TableDef}
 use Rattle.ebr_tables.specs.Definitions.{has_repetition}
-use Rattle.ebr_tables.specs.Tables.{same_table_name, IdsAscend, table_named}
+use Rattle.ebr_base.specs.Keys.{table_named}
+use Rattle.ebr_tables.specs.Tables.{same_table_name, IdsAscend}
 
 -- whether a table has a name
 abbrev pub has : List ℕ → TableDef → Bool

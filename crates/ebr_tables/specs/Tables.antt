@@ -1,6 +1,6 @@
 -- The tables of the catalogue, which belong to no edition.
 -- Oracle Database Development Guide 19c, Editionable and Noneditionable Schema Object Types.
-use Rattle.std.specs.Prelude.{ℕ, suc, Bool, true, false, not, ◌≡◌, ◌<◌, ◌≤◌, nat_le, nat_lt, if◌then◌else◌, List, [], ◌∷◌, ◌++◌, map, length, filter, find, slice_get, Option, Some, None, is_some, Result, Ok, Err, All}
+use Rattle.std.specs.Prelude.{ℕ, suc, Bool, true, false, not, ◌≡◌, ◌<◌, ◌≤◌, nat_le, nat_lt, if◌then◌else◌, List, [], ◌∷◌, ◌++◌, map, length, filter, slice_get, Option, Some, None, is_some, Result, Ok, Err, All}
 use Rattle.std.specs.Str.{bytes_eq}
 use Rattle.ebr_base.specs.declared.code.Code.{Code}
 use Rattle.ebr_base.specs.declared.code.Code.TheVariants.{Ora, Ebr}
@@ -8,6 +8,7 @@ use Rattle.ebr_base.specs.declared.numbers.TableId.{TableId}
 use Rattle.ebr_base.specs.declared.numbers.TheConstants.{MAX_COUNT}
 use Rattle.ebr_base.specs.declared.table.Column.{Column}
 use Rattle.ebr_base.specs.declared.table.TableDef.{TableDef}
+use Rattle.ebr_base.specs.Keys.{table_named}
 use Rattle.ebr_tables.specs.Definitions.{has_repetition, is_bad_table, is_bad_column, with_key_not_null}
 
 -- How many tables were ever made, and the definitions of the living ones in order of id.
@@ -17,10 +18,6 @@ pub record AllTables : Type 0 where
 
 abbrev pub no_tables : AllTables
 no_tables = record { made = 0; living = [] }
-
--- the living table of a name
-abbrev pub table_named : List ℕ → List TableDef → Option TableDef
-table_named name living = find (λ t. bytes_eq name t.name) living
 
 -- the code of the first cause that holds
 abbrev pub first_refusal : List (Bool × Code) → Option Code

@@ -3,7 +3,8 @@
 ghost use Rattle.std.specs.Prelude.{◌≡◌, IfOk, OnOk, OnErr, slice_get};
 ghost use Rattle.std.specs.Option.{option_copied};
 ghost use Rattle.ebr_base.specs.Answers.{Answers};
-ghost use Rattle.ebr_tables.specs.Tables.{AreTables, no_tables, next_id, table_named, create_refusal, create_answer, with_table, add_answer, with_column, remove_answer, refusal_of, without_table};
+ghost use Rattle.ebr_base.specs.Keys.{table_named};
+ghost use Rattle.ebr_tables.specs.Tables.{AreTables, no_tables, create_refusal, create_answer, with_table, add_answer, with_column, remove_answer, refusal_of, without_table};
 
 use crate::definition::{is_bad_table, with_key_not_null};
 use crate::keyed::{MAX_COLUMNS, put, widen};

@@ -7,7 +7,8 @@ use Rattle.ebr_base.specs.declared.numbers.Stamp.{Stamp}
 use Rattle.ebr_base.specs.declared.object.ObjectKey.{ObjectKey}
 use Rattle.ebr_editions.specs.declared.entry.EditionEntry.{EditionEntry}
 use Rattle.ebr_editions.specs.Editions.{line_of}
-use Rattle.ebr_editions.specs.Objects.{same_key, nearest}
+use Rattle.ebr_base.specs.Keys.{same_key}
+use Rattle.ebr_editions.specs.Objects.{nearest}
 use Rattle.ebr_editions.specs.Held.{Held, defined_in}
 
 abbrev pub held_object : {O : Type 0} → Held O → EditionNo → ObjectKey → Option (Option O)

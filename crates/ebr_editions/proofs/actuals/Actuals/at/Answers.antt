@@ -2,7 +2,7 @@ use Rattle.std.proofs.Common.{◌≡◌, ap, subst, ◌∙◌, Some, IfSome}
 use Rattle.std.specs.Option.{option_copied, unwrap_or}
 use Rattle.std.specs.Map.{lookup}
 use Rattle.ebr_editions.specs.Held.{Held, Defined, nothing_defined, defined_in}
-use Rattle.ebr_editions.specs.Objects.{same_key}
+use Rattle.ebr_base.specs.Keys.{same_key}
 use Rattle.ebr_editions.proofs.actuals.Actuals.at.Goals as goal
 
 pub returns-clause-last : goal.returns-clause-last

@@ -1,5 +1,5 @@
 use Rattle.std.proofs.Common.{◌≡◌, not, ◌&&◌, is_some, take, count_by}
-use Rattle.ebr_editions.specs.Objects.{same_key}
+use Rattle.ebr_base.specs.Keys.{same_key}
 use Rattle.ebr_editions.specs.inside.Held.{held_visible}
 use Rattle.ebr_editions.proofs.actuals.Actuals.others.Given as goal
 

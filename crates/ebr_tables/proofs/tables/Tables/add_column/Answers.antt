@@ -3,7 +3,8 @@ use Rattle.std.specs.Str.{bytes_eq}
 use Rattle.std.specs.Map.{lookup}
 use Rattle.ebr_base.specs.Answers.{Answers}
 use Rattle.ebr_tables.specs.inside.Keyed.{Keyed, tables_of}
-use Rattle.ebr_tables.specs.Tables.{table_named, add_refusal, add_answer, with_column}
+use Rattle.ebr_base.specs.Keys.{table_named}
+use Rattle.ebr_tables.specs.Tables.{add_refusal, add_answer, with_column}
 use Rattle.ebr_tables.proofs.Entries.{lookup-keyed, widened-keyed, widened-tables}
 use Rattle.ebr_tables.proofs.Results.{OnOk-map, either_way, not_refused}
 use Rattle.ebr_tables.proofs.tables.Tables.add_column.Goals as goal

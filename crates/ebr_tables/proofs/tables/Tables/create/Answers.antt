@@ -4,7 +4,7 @@ use Rattle.ebr_base.specs.declared.table.Column.{Column}
 use Rattle.ebr_base.specs.declared.table.TableDef.{TableDef}
 use Rattle.ebr_tables.specs.Definitions.{with_key_not_null}
 use Rattle.ebr_tables.specs.inside.Keyed.{Keyed}
-use Rattle.ebr_tables.specs.Tables.{table_named}
+use Rattle.ebr_base.specs.Keys.{table_named}
 use Rattle.ebr_tables.proofs.Allowed.{IsAllowed, allowed}
 use Rattle.ebr_tables.proofs.Entries.{lookup-keyed, pushed-keyed}
 use Rattle.ebr_tables.proofs.tables.Tables.create.Goals as goal

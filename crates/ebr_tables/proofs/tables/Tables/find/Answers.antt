@@ -1,5 +1,5 @@
 use Rattle.std.proofs.Common.{ap, ◌∙◌}
-use Rattle.ebr_tables.specs.Tables.{table_named}
+use Rattle.ebr_base.specs.Keys.{table_named}
 use Rattle.ebr_tables.proofs.Entries.{lookup-keyed}
 use Rattle.ebr_tables.proofs.tables.Tables.find.Goals as goal
 

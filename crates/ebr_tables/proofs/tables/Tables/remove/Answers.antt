@@ -1,6 +1,7 @@
 use Rattle.std.proofs.Common.{◌≡◌, ap, sym, subst, ◌∙◌}
 use Rattle.ebr_tables.specs.inside.Keyed.{Keyed, tables_of}
-use Rattle.ebr_tables.specs.Tables.{table_named, remove_answer, without_table}
+use Rattle.ebr_base.specs.Keys.{table_named}
+use Rattle.ebr_tables.specs.Tables.{remove_answer, without_table}
 use Rattle.ebr_tables.proofs.Entries.{lookup-keyed, removed-keyed, removed-tables}
 use Rattle.ebr_tables.proofs.tables.Tables.remove.Goals as goal
 use Rattle.ebr_tables.proofs.tables.Tables.remove.Goals.{in-Some, in-None}
