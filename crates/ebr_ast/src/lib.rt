@@ -1,7 +1,6 @@
 //! Syntax trees of SQL and PL/SQL, and what an edition sees of the catalogue.
 #![tactic(auto)]
 
-mod copies;
 mod definition;
 mod kinds;
 mod query;

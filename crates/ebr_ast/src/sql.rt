@@ -1,9 +1,8 @@
 //! SQL statements.
 
 use crate::query::Query;
-use ebr_base::{CloneIn, List, Name, NoMemory, Shared};
+use ebr_base::{List, Name, Shared};
 use ebr_exprtree::Expr;
-use std::alloc::Global;
 
 /// A statement that reads or changes rows.
 #[derive(Debug, Drop)]
@@ -56,27 +55,4 @@ pub enum Transaction {
     /// `ROLLBACK TO SAVEPOINT n`.
     RollbackTo(Name),
     Savepoint(Name),
-}
-
-impl CloneIn for SqlTree {
-    fn clone_in(&self, alloc: Global) -> Result<SqlTree, NoMemory> {
-        match self {
-            SqlTree::Query(query) => Ok(SqlTree::Query(query.clone_in(alloc)?)),
-            SqlTree::Insert(insert) => Ok(SqlTree::Insert(insert.clone_in(alloc)?)),
-            SqlTree::Update(update) => Ok(SqlTree::Update(update.clone_in(alloc)?)),
-            SqlTree::Delete(delete) => Ok(SqlTree::Delete(delete.clone_in(alloc)?)),
-            SqlTree::Apply(name) => Ok(SqlTree::Apply(name.clone_in(alloc)?)),
-        }
-    }
-}
-
-impl CloneIn for Transaction {
-    fn clone_in(&self, alloc: Global) -> Result<Transaction, NoMemory> {
-        match self {
-            Transaction::Commit => Ok(Transaction::Commit),
-            Transaction::Rollback => Ok(Transaction::Rollback),
-            Transaction::RollbackTo(name) => Ok(Transaction::RollbackTo(name.clone_in(alloc)?)),
-            Transaction::Savepoint(name) => Ok(Transaction::Savepoint(name.clone_in(alloc)?)),
-        }
-    }
 }

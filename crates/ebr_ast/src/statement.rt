@@ -2,9 +2,8 @@
 
 use crate::query::Query;
 use crate::sql::{Delete, Insert, Transaction, Update};
-use ebr_base::{CloneIn, List, Name, NoMemory, Shared, both};
+use ebr_base::{List, Name, Shared};
 use ebr_exprtree::{Expr, Path};
-use std::alloc::Global;
 
 /// A block: its declarations, its statements, and the handlers of their exceptions.
 #[cycle(statement)]
@@ -141,19 +140,4 @@ pub enum DeclaredType {
     Boolean,
     /// `n.m%TYPE`.
     OfColumn(Name, Name),
-}
-
-impl CloneIn for DeclaredType {
-    fn clone_in(&self, alloc: Global) -> Result<DeclaredType, NoMemory> {
-        match self {
-            DeclaredType::Number(digits) => Ok(DeclaredType::Number(*digits)),
-            DeclaredType::Integer => Ok(DeclaredType::Integer),
-            DeclaredType::Varchar2(bytes) => Ok(DeclaredType::Varchar2(*bytes)),
-            DeclaredType::Boolean => Ok(DeclaredType::Boolean),
-            DeclaredType::OfColumn(table, column) => {
-                let (table, column) = both(alloc, table, column)?;
-                Ok(DeclaredType::OfColumn(table, column))
-            }
-        }
-    }
 }

@@ -1,11 +1,7 @@
 //! What an edition sees of the catalogue.
 
-use crate::copies::three;
 use crate::unit::UnitTree;
-use ebr_base::{
-    Bytes, CloneIn, EditionNo, List, NoMemory, ObjectKey, Shared, Stamp, TableDef, both,
-};
-use std::alloc::Global;
+use ebr_base::{Bytes, EditionNo, List, ObjectKey, Shared, Stamp, TableDef};
 
 /// A stored object.
 #[derive(Drop)]
@@ -29,28 +25,4 @@ pub struct EditionView {
     pub objects: List<Shared<Object>>,
     /// The living tables in order of id.
     pub tables: List<TableDef>,
-}
-
-impl CloneIn for Object {
-    fn clone_in(&self, alloc: Global) -> Result<Object, NoMemory> {
-        let (key, text, tree) = three(alloc, &self.key, &self.text, &self.tree)?;
-        Ok(Object {
-            key,
-            text,
-            tree,
-            stamp: self.stamp,
-            enabled: self.enabled,
-        })
-    }
-}
-
-impl CloneIn for EditionView {
-    fn clone_in(&self, alloc: Global) -> Result<EditionView, NoMemory> {
-        let (objects, tables) = both(alloc, &self.objects, &self.tables)?;
-        Ok(EditionView {
-            edition: self.edition,
-            objects,
-            tables,
-        })
-    }
 }

@@ -1,21 +1,13 @@
 //! Expressions.
 
 use crate::op::Op;
-use ebr_base::{Bytes, CloneIn, List, Name, NoMemory, Shared, both};
-use std::alloc::Global;
+use ebr_base::{Bytes, List, Name, Shared};
 
 /// `n` or `n.m`.
 #[derive(Debug, Drop)]
 pub struct Path {
     pub name: Name,
     pub member: Option<Name>,
-}
-
-impl CloneIn for Path {
-    fn clone_in(&self, alloc: Global) -> Result<Path, NoMemory> {
-        let (name, member) = both(alloc, &self.name, &self.member)?;
-        Ok(Path { name, member })
-    }
 }
 
 #[derive(Clone, Copy, Debug, PartialEq, Eq)]

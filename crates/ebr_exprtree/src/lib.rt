@@ -1,7 +1,6 @@
 //! Syntax trees of expressions.
 //!
-//! They stand apart from the trees of statements, so that what reads or computes expressions needs no more. A copy of
-//! what they hold is equal to it (`CloneIn`).
+//! They stand apart from the trees of statements, so that what reads or computes expressions needs no more.
 #![tactic(auto)]
 
 mod expression;
