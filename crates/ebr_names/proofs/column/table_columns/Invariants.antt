@@ -1,0 +1,6 @@
+use Rattle.std.proofs.Common.{◌≡◌, ◌++◌, drop}
+use Rattle.ebr_names.specs.Columns.{table_columns}
+use Rattle.ebr_names.proofs.column.table_columns.Given as goal
+
+abbrev pub invariant-loop-place : goal.invariant-loop-place
+invariant-loop-place l = l.found ++ table_columns l.place (drop l.place l.columns) ≡ table_columns 0 l.columns

@@ -1,0 +1,7 @@
+use Rattle.std.proofs.Common.{◌≡◌, ◌++◌, drop, map}
+use Rattle.std.specs.List.{filter_map}
+use Rattle.ebr_names.specs.Headers.{declaration_in}
+use Rattle.ebr_names.proofs.heads.declarations_in.Given as goal
+
+abbrev pub invariant-loop-item : goal.invariant-loop-item
+invariant-loop-item l = map (λ b. b.now) l.decls ++ filter_map declaration_in (drop l.item-index l.items) ≡ filter_map declaration_in l.items

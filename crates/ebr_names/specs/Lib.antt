@@ -1,0 +1,4 @@
+pub mod Names
+pub mod Columns
+pub mod Headers
+pub mod inside
