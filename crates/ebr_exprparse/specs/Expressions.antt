@@ -84,12 +84,12 @@ list = both (λ first f. f first) inner more_items
 unfoldable pub arguments : P (List Expr)
 arguments = word k.RightParen [] ∣ list ◂ k.RightParen
 
-unfoldable pub given : P (Option (List Expr))
-given = maybe (k.LeftParen ▸ arguments)
+unfoldable pub maybe_arguments : P (Option (List Expr))
+maybe_arguments = maybe (k.LeftParen ▸ arguments)
 
 -- behind the dot
 unfoldable pub member : P (List ℕ → Expr)
-member = both (λ second given first. name_or_call (path first (Some second)) given) name given
+member = both (λ second maybe_arguments first. name_or_call (path first (Some second)) maybe_arguments) name maybe_arguments
 
 -- behind `%`
 unfoldable pub attribute : P Attribute
@@ -133,7 +133,7 @@ trunc_tail = k.LeftParen ▸ trunc_arguments
 unfoldable pub name_tail : P (List ℕ → Expr)
 name_tail = k.Dot ▸ member
     ∣ k.Percent ▸ made (λ a first. e.Attribute (Some first) a) attribute
-    ∣ made (λ given first. name_or_call (path first None) given) given
+    ∣ made (λ maybe_arguments first. name_or_call (path first None) maybe_arguments) maybe_arguments
 
 unfoldable pub closed : P Expr
 closed = inner ◂ k.RightParen

@@ -1,3 +1,4 @@
 pub mod Expressions
 pub mod Nests
 pub mod Parts
+pub mod Words

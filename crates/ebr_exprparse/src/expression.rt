@@ -9,8 +9,9 @@ ghost use Rattle.ebr_exprparse.specs.Nests.{Nests};
 use crate::level::Level;
 use crate::trees::{
     Read, Tree, between, compared, conjoined, disjoined, like, name_or_call, negated, path,
-    product, quotient, summed,
+    product, quotient, summed, tree_of,
 };
+use crate::words::one_of;
 use ebr_base::{List, Name, Shared};
 use ebr_exprtree::{Addend, AdditiveOperator, Attribute, Comparison, Expr, Op, RowImage};
 use ebr_grammar::{Kind, ReadStop, Tokens, ended, shared};
@@ -39,18 +40,14 @@ impl<F: Fn(Global, &mut Tokens<'_>, usize, Level) -> Result<Read, ReadStop>> Gra
         requires { Nests self.now.depth (F.pre self.now.expr) (F.post self.now.expr) }
         ensures { Reads (spec.reads_at self.now.depth spec.inner tokens.old) result tokens.new }
     {
-        let found = self.nested_read(tokens, Level::Whole)?;
-        let (tree, _) = found;
-        Ok(tree)
+        tree_of(self.nested_read(tokens, Level::Whole))
     }
 
     fn inner_sum(&self, tokens: &mut Tokens<'_>) -> Result<Tree, ReadStop>
         requires { Nests self.now.depth (F.pre self.now.expr) (F.post self.now.expr) }
         ensures { Reads (spec.reads_at self.now.depth spec.inner_sum tokens.old) result tokens.new }
     {
-        let found = self.nested_read(tokens, Level::Sum)?;
-        let (tree, _) = found;
-        Ok(tree)
+        tree_of(self.nested_read(tokens, Level::Sum))
     }
 
     /// The items behind the first, and with it.
@@ -90,9 +87,9 @@ impl<F: Fn(Global, &mut Tokens<'_>, usize, Level) -> Result<Read, ReadStop>> Gra
         ended(tokens, Kind::RightParen, found)
     }
 
-    fn given(&self, tokens: &mut Tokens<'_>) -> Result<Option<List<Tree>>, ReadStop>
+    fn maybe_arguments(&self, tokens: &mut Tokens<'_>) -> Result<Option<List<Tree>>, ReadStop>
         requires { Nests self.now.depth (F.pre self.now.expr) (F.post self.now.expr) }
-        ensures { Reads (spec.reads_at self.now.depth spec.given tokens.old) result tokens.new }
+        ensures { Reads (spec.reads_at self.now.depth spec.maybe_arguments tokens.old) result tokens.new }
     {
         if tokens.eat(Kind::LeftParen) {
             Ok(Some(self.arguments(tokens)?))
@@ -107,41 +104,44 @@ impl<F: Fn(Global, &mut Tokens<'_>, usize, Level) -> Result<Read, ReadStop>> Gra
         ensures { Reads (with_first first (spec.reads_at self.now.depth spec.member tokens.old)) result tokens.new }
     {
         let second = tokens.name(self.alloc)?;
-        let given = self.given(tokens)?;
-        shared(self.alloc, name_or_call(path(first, Some(second)), given))
+        let maybe_arguments = self.maybe_arguments(tokens)?;
+        shared(
+            self.alloc,
+            name_or_call(path(first, Some(second)), maybe_arguments),
+        )
     }
 
     /// What stands behind `%`.
+    #[tactic(auto, unfolding(crate::specs::Expressions::attribute, ebr_grammar::specs::Reading::reads))]
     fn attribute(&self, tokens: &mut Tokens<'_>) -> Result<Attribute, ReadStop>
         requires { Nests self.now.depth (F.pre self.now.expr) (F.post self.now.expr) }
         ensures { Reads (spec.reads_at self.now.depth spec.attribute tokens.old) result tokens.new }
     {
-        if tokens.eat(Kind::Found) {
-            return Ok(Attribute::Found);
-        }
-        if tokens.eat(Kind::Notfound) {
-            return Ok(Attribute::NotFound);
-        }
-        if tokens.eat(Kind::Rowcount) {
-            return Ok(Attribute::RowCount);
-        }
-        tokens.expect(Kind::Isopen)?;
-        Ok(Attribute::IsOpen)
+        one_of(
+            tokens,
+            &[
+                (Kind::Found, Attribute::Found),
+                (Kind::Notfound, Attribute::NotFound),
+                (Kind::Rowcount, Attribute::RowCount),
+                (Kind::Isopen, Attribute::IsOpen),
+            ],
+        )
     }
 
     /// What stands behind `SQL %`.
+    #[tactic(auto, unfolding(crate::specs::Expressions::statement_attribute, ebr_grammar::specs::Reading::reads))]
     fn statement_attribute(&self, tokens: &mut Tokens<'_>) -> Result<Attribute, ReadStop>
         requires { Nests self.now.depth (F.pre self.now.expr) (F.post self.now.expr) }
         ensures { Reads (spec.reads_at self.now.depth spec.statement_attribute tokens.old) result tokens.new }
     {
-        if tokens.eat(Kind::Found) {
-            return Ok(Attribute::Found);
-        }
-        if tokens.eat(Kind::Notfound) {
-            return Ok(Attribute::NotFound);
-        }
-        tokens.expect(Kind::Rowcount)?;
-        Ok(Attribute::RowCount)
+        one_of(
+            tokens,
+            &[
+                (Kind::Found, Attribute::Found),
+                (Kind::Notfound, Attribute::NotFound),
+                (Kind::Rowcount, Attribute::RowCount),
+            ],
+        )
     }
 
     /// What stands behind SQL.
@@ -229,8 +229,8 @@ impl<F: Fn(Global, &mut Tokens<'_>, usize, Level) -> Result<Read, ReadStop>> Gra
             let attribute = self.attribute(tokens)?;
             shared(self.alloc, Expr::Attribute(Some(name), attribute))
         } else {
-            let given = self.given(tokens)?;
-            shared(self.alloc, name_or_call(path(name, None), given))
+            let maybe_arguments = self.maybe_arguments(tokens)?;
+            shared(self.alloc, name_or_call(path(name, None), maybe_arguments))
         }
     }
 
@@ -243,15 +243,15 @@ impl<F: Fn(Global, &mut Tokens<'_>, usize, Level) -> Result<Read, ReadStop>> Gra
         ended(tokens, Kind::RightParen, tree)
     }
 
+    #[tactic(auto, unfolding(crate::specs::Expressions::row_image, ebr_grammar::specs::Reading::reads))]
     fn row_image(&self, tokens: &mut Tokens<'_>) -> Result<RowImage, ReadStop>
         requires { Nests self.now.depth (F.pre self.now.expr) (F.post self.now.expr) }
         ensures { Reads (spec.reads_at self.now.depth spec.row_image tokens.old) result tokens.new }
     {
-        if tokens.eat(Kind::New) {
-            return Ok(RowImage::New);
-        }
-        tokens.expect(Kind::Old)?;
-        Ok(RowImage::Old)
+        one_of(
+            tokens,
+            &[(Kind::New, RowImage::New), (Kind::Old, RowImage::Old)],
+        )
     }
 
     /// What stands behind the colon.
@@ -376,18 +376,19 @@ impl<F: Fn(Global, &mut Tokens<'_>, usize, Level) -> Result<Read, ReadStop>> Gra
         product(self.alloc, first, more)
     }
 
+    #[tactic(auto, unfolding(crate::specs::Expressions::operator, ebr_grammar::specs::Reading::reads))]
     fn operator(&self, tokens: &mut Tokens<'_>) -> Result<AdditiveOperator, ReadStop>
         requires { Nests self.now.depth (F.pre self.now.expr) (F.post self.now.expr) }
         ensures { Reads (spec.reads_at self.now.depth spec.operator tokens.old) result tokens.new }
     {
-        if tokens.eat(Kind::Plus) {
-            return Ok(AdditiveOperator::Add);
-        }
-        if tokens.eat(Kind::Minus) {
-            return Ok(AdditiveOperator::Subtract);
-        }
-        tokens.expect(Kind::Concat)?;
-        Ok(AdditiveOperator::Concatenate)
+        one_of(
+            tokens,
+            &[
+                (Kind::Plus, AdditiveOperator::Add),
+                (Kind::Minus, AdditiveOperator::Subtract),
+                (Kind::Concat, AdditiveOperator::Concatenate),
+            ],
+        )
     }
 
     fn addend(&self, tokens: &mut Tokens<'_>) -> Result<Addend, ReadStop>
@@ -512,27 +513,22 @@ impl<F: Fn(Global, &mut Tokens<'_>, usize, Level) -> Result<Read, ReadStop>> Gra
         }
     }
 
+    #[tactic(auto, unfolding(crate::specs::Expressions::sign, ebr_grammar::specs::Reading::reads))]
     fn sign(&self, tokens: &mut Tokens<'_>) -> Result<Comparison, ReadStop>
         requires { Nests self.now.depth (F.pre self.now.expr) (F.post self.now.expr) }
         ensures { Reads (spec.reads_at self.now.depth spec.sign tokens.old) result tokens.new }
     {
-        if tokens.eat(Kind::Equal) {
-            return Ok(Comparison::Equal);
-        }
-        if tokens.eat(Kind::NotEqual) {
-            return Ok(Comparison::NotEqual);
-        }
-        if tokens.eat(Kind::Less) {
-            return Ok(Comparison::Less);
-        }
-        if tokens.eat(Kind::AtMost) {
-            return Ok(Comparison::LessOrEqual);
-        }
-        if tokens.eat(Kind::Greater) {
-            return Ok(Comparison::Greater);
-        }
-        tokens.expect(Kind::AtLeast)?;
-        Ok(Comparison::GreaterOrEqual)
+        one_of(
+            tokens,
+            &[
+                (Kind::Equal, Comparison::Equal),
+                (Kind::NotEqual, Comparison::NotEqual),
+                (Kind::Less, Comparison::Less),
+                (Kind::AtMost, Comparison::LessOrEqual),
+                (Kind::Greater, Comparison::Greater),
+                (Kind::AtLeast, Comparison::GreaterOrEqual),
+            ],
+        )
     }
 
     /// A sign of comparison with its right operand.
@@ -591,9 +587,7 @@ impl<F: Fn(Global, &mut Tokens<'_>, usize, Level) -> Result<Read, ReadStop>> Gra
         requires { Nests self.now.depth (F.pre self.now.expr) (F.post self.now.expr) }
         ensures { Reads (spec.reads_at self.now.depth spec.negated_tree tokens.old) result tokens.new }
     {
-        let found = self.negation(tokens)?;
-        let (tree, _) = found;
-        Ok(tree)
+        tree_of(self.negation(tokens))
     }
 
     fn more_negations(&self, tokens: &mut Tokens<'_>) -> Result<List<Tree>, ReadStop>
@@ -624,9 +618,7 @@ impl<F: Fn(Global, &mut Tokens<'_>, usize, Level) -> Result<Read, ReadStop>> Gra
         requires { Nests self.now.depth (F.pre self.now.expr) (F.post self.now.expr) }
         ensures { Reads (spec.reads_at self.now.depth spec.conjoined_tree tokens.old) result tokens.new }
     {
-        let found = self.conjunction(tokens)?;
-        let (tree, _) = found;
-        Ok(tree)
+        tree_of(self.conjunction(tokens))
     }
 
     fn more_conjunctions(&self, tokens: &mut Tokens<'_>) -> Result<List<Tree>, ReadStop>

@@ -9,5 +9,6 @@ mod expression;
 mod level;
 mod parse;
 mod trees;
+mod words;
 
 pub use parse::{expr, read_expression};

@@ -7,7 +7,7 @@ ghost use Rattle.ebr_exprparse.specs.Expressions as spec;
 
 use crate::expression::Grammar;
 use crate::level::Level;
-use crate::trees::{Read, Tree};
+use crate::trees::{Read, Tree, tree_of};
 use ebr_base::NoMemory;
 use ebr_grammar::{ReadStop, Tokens};
 use ebr_lexer::Token;
@@ -42,9 +42,7 @@ pub fn read_expression(alloc: Global, tokens: &mut Tokens<'_>) -> Result<Tree, R
     ensures { Reads (spec.read_expression tokens.old) result tokens.new }
 {
     let depth = tokens.left();
-    let found = nested(alloc, tokens, depth, Level::Whole)?;
-    let (tree, _) = found;
-    Ok(tree)
+    tree_of(nested(alloc, tokens, depth, Level::Whole))
 }
 
 /// The expression that stands from the token at `at` on, and the place of the token after it.

@@ -1,7 +1,9 @@
 //! Makes the trees of expressions.
 
-ghost use Rattle.std.specs.Prelude.{◌≡◌, IfOk, Some, false, List as Sequence};
+ghost use Rattle.std.specs.Prelude.{◌≡◌, IfOk, Some, Bool, false, List as Sequence};
 ghost use Rattle.ebr_lexer.specs.declared.token.Token.{Token};
+ghost use Rattle.ebr_exprtree.specs.declared.expression.Expr.{Expr as Expression};
+ghost use Rattle.ebr_grammar.specs.Forms.{Found};
 ghost use Rattle.ebr_grammar.specs.Outcome.{Reads};
 ghost use Rattle.ebr_exprparse.specs.Expressions as spec;
 
@@ -17,16 +19,24 @@ pub type Tree = Shared<Expr>;
 /// parentheses.
 pub type Read = (Tree, bool);
 
+/// The tree of what was read.
+pub fn tree_of(read: Result<Read, ReadStop>) -> Result<Tree, ReadStop>
+    ensures { (found : Found (Expression × Bool)) (ts : Sequence Token) → Reads found read ts → Reads (spec.tree_of found) result ts }
+{
+    let (tree, _) = read?;
+    Ok(tree)
+}
+
 pub fn path(name: Name, member: Option<Name>) -> Path
     ensures { result ≡ spec.path name member }
 {
     Path { name, member }
 }
 
-pub fn name_or_call(path: Path, given: Option<List<Tree>>) -> Expr
-    ensures { result ≡ spec.name_or_call path given }
+pub fn name_or_call(path: Path, maybe_arguments: Option<List<Tree>>) -> Expr
+    ensures { result ≡ spec.name_or_call path maybe_arguments }
 {
-    match given {
+    match maybe_arguments {
         None => Expr::Name(path),
         Some(arguments) => Expr::Call(path, arguments),
     }

@@ -37,17 +37,17 @@ SpellsEach F (a ∷ rest) ts = (x y : List Token) × (ts ≡ x ++ y) × F x a ×
 
 -- The tokens spell the tree by the production.
 abbrev pub Spells : {K : Type 0} {V : K → Type 0} → ((k : K) → Form (V k)) → {C : Type 0} → Production K V C → Form C
-Spells given (token kinds f) ts c = (t : Token) × (ts ≡ t ∷ []) × (member (kind_of t) kinds ≡ true) × (f t ≡ Some c)
-Spells given (word kind c') ts c = (t : Token) × (ts ≡ t ∷ []) × (member (kind_of t) (kind ∷ []) ≡ true) × (c' ≡ c)
-Spells given (nothing x) ts c = (ts ≡ []) × (x ≡ c)
-Spells given (both f g h) ts c = (x y : List Token) × (a : _) × (b : _) × (ts ≡ x ++ y) × Spells given g x a × Spells given h y b × (f a b ≡ c)
-Spells given (or g h) ts c = Spells given g ts c ⊎ Spells given h ts c
-Spells given (many f g) ts c = (each : List _) × SpellsEach (Spells given g) each ts × (f each ≡ c)
-Spells given (made f g) ts c = (a : _) × Spells given g ts a × (f a ≡ c)
-Spells given (tested f g) ts c = (a : _) × Spells given g ts a × (f a ≡ Some c)
-Spells given (led kinds g) ts c = Spells given g ts c
-Spells given (named k f) ts c = (a : _) × given k ts a × (f a ≡ c)
-Spells given (outer o f) ts c = (a : _) × o.form ts a × (f a ≡ c)
+Spells forms (token kinds f) ts c = (t : Token) × (ts ≡ t ∷ []) × (member (kind_of t) kinds ≡ true) × (f t ≡ Some c)
+Spells forms (word kind c') ts c = (t : Token) × (ts ≡ t ∷ []) × (member (kind_of t) (kind ∷ []) ≡ true) × (c' ≡ c)
+Spells forms (nothing x) ts c = (ts ≡ []) × (x ≡ c)
+Spells forms (both f g h) ts c = (x y : List Token) × (a : _) × (b : _) × (ts ≡ x ++ y) × Spells forms g x a × Spells forms h y b × (f a b ≡ c)
+Spells forms (or g h) ts c = Spells forms g ts c ⊎ Spells forms h ts c
+Spells forms (many f g) ts c = (each : List _) × SpellsEach (Spells forms g) each ts × (f each ≡ c)
+Spells forms (made f g) ts c = (a : _) × Spells forms g ts a × (f a ≡ c)
+Spells forms (tested f g) ts c = (a : _) × Spells forms g ts a × (f a ≡ Some c)
+Spells forms (led kinds g) ts c = Spells forms g ts c
+Spells forms (named k f) ts c = (a : _) × forms k ts a × (f a ≡ c)
+Spells forms (outer o f) ts c = (a : _) × o.form ts a × (f a ≡ c)
 
 -- by derivations of at most this height
 abbrev pub SpellsWithin : {K : Type 0} {V : K → Type 0} → ((k : K) → Production K V (V k)) → ℕ → (k : K) → Form (V k)

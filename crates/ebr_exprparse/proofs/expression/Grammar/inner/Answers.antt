@@ -1,12 +1,8 @@
-use Rattle.std.proofs.Common.{rules}
-use Rattle.ebr_grammar.proofs.Steps.{steps}
+use Rattle.ebr_grammar.specs.Reading.{reads}
 use Rattle.ebr_exprparse.specs.Expressions.{inner}
+use Rattle.ebr_exprparse.proofs.Found.{unchanged}
 use Rattle.ebr_exprparse.proofs.expression.Grammar.inner.Goals as goal
 
-pub returns-in_err-found : goal.returns-in_err-found
-unfolding inner
-returns-in_err-found g c = simp steps (search rules)
-
 pub returns : goal.returns
-unfolding inner
-returns g c = simp steps (search rules)
+unfolding inner reads
+returns g c = c.tree_of.ensures _ _ (unchanged _ _ _ c.nested_read.ensures)

@@ -7,9 +7,9 @@ pub returns-in_err-second : goal.returns-in_err-second
 unfolding member
 returns-in_err-second g c = simp steps (search rules)
 
-pub returns-in_err-given : goal.returns-in_err-given
+pub returns-in_err-maybe_arguments : goal.returns-in_err-maybe_arguments
 unfolding member
-returns-in_err-given g c = simp steps (search rules)
+returns-in_err-maybe_arguments g c = simp steps (search rules)
 
 pub returns : goal.returns
 unfolding member

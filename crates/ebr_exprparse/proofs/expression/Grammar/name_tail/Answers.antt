@@ -15,10 +15,10 @@ pub returns-in_ok-attribute : goal.returns-in_ok-attribute
 unfolding name_tail
 returns-in_ok-attribute g c = simp steps (search rules)
 
-pub returns-in_err-given : goal.returns-in_err-given
+pub returns-in_err-maybe_arguments : goal.returns-in_err-maybe_arguments
 unfolding name_tail
-returns-in_err-given g c = simp steps (search rules)
+returns-in_err-maybe_arguments g c = simp steps (search rules)
 
-pub returns-in_ok-given : goal.returns-in_ok-given
+pub returns-in_ok-maybe_arguments : goal.returns-in_ok-maybe_arguments
 unfolding name_tail
-returns-in_ok-given g c = simp steps (search rules)
+returns-in_ok-maybe_arguments g c = simp steps (search rules)
