@@ -2,13 +2,11 @@
 //! look-ahead, and the two are proved to agree for every grammar that passes a test that computes.
 //!
 //! The crates above use the cursor `Tokens`, whose contract says what each reading gives, and the laws of `proofs/` for
-//! their own grammars. Tests alone show that its calls succeed where memory is ample.
+//! their own grammars. That its calls succeed where memory is ample is only tested, in `ebr_parsetests`.
 #![tactic(auto)]
 
 mod kind;
 mod names;
-#[cfg(test)]
-mod tests;
 mod tokens;
 mod trees;
 

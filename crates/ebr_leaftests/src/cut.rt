@@ -1,6 +1,7 @@
 //! What no clause says: that scripts are cut and texts scanned where memory is ample, that long and hostile ones come to
 //! an end, and which pieces, tokens or fault there are.
 
+use crate::answers::first_row;
 use ebr_base::{Bytes, Code, MAX_COUNT, NoMemory};
 use ebr_cut::{Lead, Scanned, Span, cut, end_of, one_cut, scan, text_of};
 use std::alloc::Global;
@@ -40,157 +41,174 @@ fn shown(alloc: Global, script: &[u8]) -> Result<Bytes, NoMemory> {
 }
 
 /// Scripts whose pieces end at semicolons and at lines with `/` alone.
-static ENDS: [(&[u8], &[u8]); 19] = [
-    (b"", b""),
-    (b" \t\r\n", b""),
-    (b"/", b""),
-    (b" / \r\n\t/\n", b""),
-    (b"a", b"Other(a) "),
-    (b"a;b", b"Other(a) Other(b) "),
-    (
-        b" COMMIT ; SELECT 1 ;\n",
-        b"Other(COMMIT ) Other(SELECT 1 ) ",
-    ),
-    (b";;", b"Other() Other() "),
-    (
-        b"CALL a();\r\n/\r\ncall b()",
-        b"Call(CALL a()) Call(call b()) ",
-    ),
-    (b"CALLS a;", b"Other(CALLS a) "),
-    (
-        b"BEGIN a; END;\n/\nCOMMIT;",
-        b"Block(BEGIN a; END;\n) Other(COMMIT) ",
-    ),
-    (
-        b"declare\nx NUMBER;\n / \t\r\n/\nBegin",
-        b"Block(declare\nx NUMBER;\n) Block(Begin) ",
-    ),
-    (
-        b"BEGIN a; / b;\n//\nc /\n",
-        b"Block(BEGIN a; / b;\n//\nc /\n) ",
-    ),
-    (b"BEGIN; /", b"Block(BEGIN; /) "),
-    (b"BEGIN\n/", b"Block(BEGIN\n) "),
-    (b"(BEGIN a; END;\n/\n", b"Other((BEGIN a) Other(END) "),
-    (b"BEGINS a;b", b"Other(BEGINS a) Other(b) "),
-    (
-        b"SELECT 1; /\nCOMMIT;",
-        b"Other(SELECT 1) Other(/\nCOMMIT) ",
-    ),
-    (b"SELECT 4\n/\n2;", b"Other(SELECT 4\n/\n2) "),
-];
+static ENDS: &str = "\
+~~\
+\x20\t\r\n~~\
+/~~\
+\x20/ \r
+\t/
+~~\
+a~Other(a) ~\
+a;b~Other(a) Other(b) ~\
+\x20COMMIT ; SELECT 1 ;
+~Other(COMMIT ) Other(SELECT 1 ) ~\
+;;~Other() Other() ~\
+CALL a();\r
+/\r
+call b()~Call(CALL a()) Call(call b()) ~\
+CALLS a;~Other(CALLS a) ~\
+BEGIN a; END;
+/
+COMMIT;~Block(BEGIN a; END;
+) Other(COMMIT) ~\
+declare
+x NUMBER;
+ / \t\r
+/
+Begin~Block(declare
+x NUMBER;
+) Block(Begin) ~\
+BEGIN a; / b;
+//
+c /
+~Block(BEGIN a; / b;
+//
+c /
+) ~\
+BEGIN; /~Block(BEGIN; /) ~\
+BEGIN
+/~Block(BEGIN
+) ~\
+(BEGIN a; END;
+/
+~Other((BEGIN a) Other(END) ~\
+BEGINS a;b~Other(BEGINS a) Other(b) ~\
+SELECT 1; /
+COMMIT;~Other(SELECT 1) Other(/
+COMMIT) ~\
+SELECT 4
+/
+2;~Other(SELECT 4
+/
+2) ~\
+";
 
 /// Scripts whose first words tell units.
-static UNITS: [(&[u8], &[u8]); 20] = [
-    (b"CREATE PROCEDURE a;b", b"Unit(CREATE PROCEDURE a;b) "),
-    (b"create function;", b"Unit(create function;) "),
-    (
-        b"CREATE OR REPLACE PACKAGE;",
-        b"Unit(CREATE OR REPLACE PACKAGE;) ",
-    ),
-    (
-        b"CREATE EDITIONABLE TRIGGER;",
-        b"Unit(CREATE EDITIONABLE TRIGGER;) ",
-    ),
-    (
-        b"CREATE OR REPLACE EDITIONABLE PROCEDURE;",
-        b"Unit(CREATE OR REPLACE EDITIONABLE PROCEDURE;) ",
-    ),
-    (
-        b"CREATE--;\nOR/*;*/REPLACE\n/**/ TRIGGER;",
-        b"Unit(CREATE--;\nOR/*;*/REPLACE\n/**/ TRIGGER;) ",
-    ),
-    (b"CREATE EDITION v2;", b"Other(CREATE EDITION v2) "),
-    (b"CREATE TABLE t;", b"Other(CREATE TABLE t) "),
-    (b"CREATE OR PROCEDURE a;", b"Other(CREATE OR PROCEDURE a) "),
-    (
-        b"CREATE REPLACE PACKAGE a;",
-        b"Other(CREATE REPLACE PACKAGE a) ",
-    ),
-    (
-        b"CREATE EDITIONABLE OR REPLACE PACKAGE;",
-        b"Other(CREATE EDITIONABLE OR REPLACE PACKAGE) ",
-    ),
-    (
-        b"CREATE EDITIONABLE EDITIONABLE PACKAGE;",
-        b"Other(CREATE EDITIONABLE EDITIONABLE PACKAGE) ",
-    ),
-    (
-        b"CREATE EDITIONABLE VIEW a;",
-        b"Other(CREATE EDITIONABLE VIEW a) ",
-    ),
-    (b"CREATE PROCEDURES a;", b"Other(CREATE PROCEDURES a) "),
-    (b"CREATE 'PROCEDURE';", b"Other(CREATE 'PROCEDURE') "),
-    (b"CREATE ? PROCEDURE;", b"Other(CREATE ? PROCEDURE) "),
-    (
-        b"CREATE\n/\nPROCEDURE a;",
-        b"Other(CREATE\n/\nPROCEDURE a) ",
-    ),
-    (b"CREATE /* PROCEDURE a;", b"Other(CREATE /* PROCEDURE a;) "),
-    (
-        b"CREATE /*\n/\n*/ PROCEDURE a;",
-        b"Unit(CREATE /*\n) Other(*/ PROCEDURE a) ",
-    ),
-    (b"DROP PROCEDURE a;", b"Other(DROP PROCEDURE a) "),
-];
+static UNITS: &str = "\
+CREATE PROCEDURE a;b~Unit(CREATE PROCEDURE a;b) ~\
+create function;~Unit(create function;) ~\
+CREATE OR REPLACE PACKAGE;~Unit(CREATE OR REPLACE PACKAGE;) ~\
+CREATE EDITIONABLE TRIGGER;~Unit(CREATE EDITIONABLE TRIGGER;) ~\
+CREATE OR REPLACE EDITIONABLE PROCEDURE;~Unit(CREATE OR REPLACE EDITIONABLE PROCEDURE;) ~\
+CREATE--;
+OR/*;*/REPLACE
+/**/ TRIGGER;~Unit(CREATE--;
+OR/*;*/REPLACE
+/**/ TRIGGER;) ~\
+CREATE EDITION v2;~Other(CREATE EDITION v2) ~\
+CREATE TABLE t;~Other(CREATE TABLE t) ~\
+CREATE OR PROCEDURE a;~Other(CREATE OR PROCEDURE a) ~\
+CREATE REPLACE PACKAGE a;~Other(CREATE REPLACE PACKAGE a) ~\
+CREATE EDITIONABLE OR REPLACE PACKAGE;~Other(CREATE EDITIONABLE OR REPLACE PACKAGE) ~\
+CREATE EDITIONABLE EDITIONABLE PACKAGE;~Other(CREATE EDITIONABLE EDITIONABLE PACKAGE) ~\
+CREATE EDITIONABLE VIEW a;~Other(CREATE EDITIONABLE VIEW a) ~\
+CREATE PROCEDURES a;~Other(CREATE PROCEDURES a) ~\
+CREATE 'PROCEDURE';~Other(CREATE 'PROCEDURE') ~\
+CREATE ? PROCEDURE;~Other(CREATE ? PROCEDURE) ~\
+CREATE
+/
+PROCEDURE a;~Other(CREATE
+/
+PROCEDURE a) ~\
+CREATE /* PROCEDURE a;~Other(CREATE /* PROCEDURE a;) ~\
+CREATE /*
+/
+*/ PROCEDURE a;~Unit(CREATE /*
+) Other(*/ PROCEDURE a) ~\
+DROP PROCEDURE a;~Other(DROP PROCEDURE a) ~\
+";
 
 /// Scripts with strings and comments, which hide what they hold.
-static HIDDEN: [(&[u8], &[u8]); 22] = [
-    (b"a ';' b;", b"Other(a ';' b) "),
-    (b"a ';'';' b;", b"Other(a ';'';' b) "),
-    (b"a 'x;\ny;", b"Other(a 'x;\ny;) "),
-    (b"a '--' ;b", b"Other(a '--' ) Other(b) "),
-    (b"a '/*';'*/'", b"Other(a '/*') Other('*/') "),
-    (b"a --';\n;b", b"Other(a --';\n) Other(b) "),
-    (b"a --;", b"Other(a --;) "),
-    (b"a /*';*/;b", b"Other(a /*';*/) Other(b) "),
-    (b"a /*/;*/;b", b"Other(a /*/;*/) Other(b) "),
-    (b"a /* ;", b"Other(a /* ;) "),
-    (b"a - -;b", b"Other(a - -) Other(b) "),
-    (b"--;\r\n/*;\n/\n*/a;--;", b"Other(a) "),
-    (b"-- only\n/* comments */", b""),
-    (b"/* ' */ COMMIT; -- '", b"Other(COMMIT) "),
-    (b"/* open; /", b"Other(/* open; /) "),
-    (b"a;/*", b"Other(a) Other(/*) "),
-    (b"/* c */ /\nb;", b"Other(/\nb) "),
-    (b"/ -- c\nb;", b"Other(/ -- c\nb) "),
-    (b"/* c\n*/ \n / \nb;", b"Other(b) "),
-    (b"/* */BEGIN;\n/\n/* */b;", b"Block(BEGIN;\n) Other(b) "),
-    (b"BEGIN '\n/\n';", b"Block(BEGIN '\n) Other(';) "),
-    (b"BEGIN /*\n/\n*/ a;", b"Block(BEGIN /*\n) Other(*/ a) "),
-];
+static HIDDEN: &str = "\
+a ';' b;~Other(a ';' b) ~\
+a ';'';' b;~Other(a ';'';' b) ~\
+a 'x;
+y;~Other(a 'x;
+y;) ~\
+a '--' ;b~Other(a '--' ) Other(b) ~\
+a '/*';'*/'~Other(a '/*') Other('*/') ~\
+a --';
+;b~Other(a --';
+) Other(b) ~\
+a --;~Other(a --;) ~\
+a /*';*/;b~Other(a /*';*/) Other(b) ~\
+a /*/;*/;b~Other(a /*/;*/) Other(b) ~\
+a /* ;~Other(a /* ;) ~\
+a - -;b~Other(a - -) Other(b) ~\
+--;\r
+/*;
+/
+*/a;--;~Other(a) ~\
+-- only
+/* comments */~~\
+/* ' */ COMMIT; -- '~Other(COMMIT) ~\
+/* open; /~Other(/* open; /) ~\
+a;/*~Other(a) Other(/*) ~\
+/* c */ /
+b;~Other(/
+b) ~\
+/ -- c
+b;~Other(/ -- c
+b) ~\
+/* c
+*/\x20
+ /\x20
+b;~Other(b) ~\
+/* */BEGIN;
+/
+/* */b;~Block(BEGIN;
+) Other(b) ~\
+BEGIN '
+/
+';~Block(BEGIN '
+) Other(';) ~\
+BEGIN /*
+/
+*/ a;~Block(BEGIN /*
+) Other(*/ a) ~\
+";
+
+/// A table from the first row on whose pieces are others; nothing where there is none.
+fn wrong_from(alloc: Global, table: &'static str) -> Result<&'static str, NoMemory> {
+    let mut left = table;
+    for _ in 0..table.len() {
+        let Some((script, wanted, rest)) = first_row(left) else {
+            return Ok(left);
+        };
+        if shown(alloc, script.as_bytes())?.as_slice() != wanted.as_bytes() {
+            return Ok(left);
+        }
+        left = rest;
+    }
+    Ok(left)
+}
 
 #[test]
 fn pieces_end_at_semicolons_and_slash_lines(rt: HostRuntime) -> Result<(), Fail> {
     one_cut();
-    for (script, wanted) in &ENDS {
-        assert!(rt;
-            shown(rt.alloc(), script)?.as_slice() == *wanted,
-            "{script:?}"
-        );
-    }
+    assert_eq!(rt; wrong_from(rt.alloc(), ENDS)?, "");
     Ok(())
 }
 
 #[test]
 fn the_first_words_tell_units(rt: HostRuntime) -> Result<(), Fail> {
-    for (script, wanted) in &UNITS {
-        assert!(rt;
-            shown(rt.alloc(), script)?.as_slice() == *wanted,
-            "{script:?}"
-        );
-    }
+    assert_eq!(rt; wrong_from(rt.alloc(), UNITS)?, "");
     Ok(())
 }
 
 #[test]
 fn strings_and_comments_hide_what_they_hold(rt: HostRuntime) -> Result<(), Fail> {
-    for (script, wanted) in &HIDDEN {
-        assert!(rt;
-            shown(rt.alloc(), script)?.as_slice() == *wanted,
-            "{script:?}"
-        );
-    }
+    assert_eq!(rt; wrong_from(rt.alloc(), HIDDEN)?, "");
     Ok(())
 }
 
@@ -213,31 +231,41 @@ fn scanned(alloc: Global, text: &[u8]) -> Result<Bytes, NoMemory> {
 }
 
 /// Texts, and what they are scanned to.
-static SCANS: [(&[u8], &[u8]); 11] = [
-    (b"", b"0 up to 0: "),
-    (b" -- x\n", b"0 up to 0: "),
-    (b"a := 'b' || 1", b"5 up to 13: a := 'b' || 1"),
-    (b"a", b"1 up to 1: a"),
-    (b"BEGIN a; END;\n-- b\n", b"5 up to 13: BEGIN a; END;"),
-    (
-        b"/* x */ a /* y */ 'b ' /* z */",
-        b"2 up to 22: /* x */ a /* y */ 'b '",
-    ),
-    (b"a ?", b"EBR-0020"),
-    (b"a /* b", b"EBR-0021"),
-    (b"'a' 'b", b"EBR-0021"),
-    (b"1234567890123456789", b"EBR-0022"),
-    (b"? 'x", b"EBR-0020"),
-];
+static SCANS: &str = "\
+~0 up to 0: ~\
+\x20-- x
+~0 up to 0: ~\
+a := 'b' || 1~5 up to 13: a := 'b' || 1~\
+a~1 up to 1: a~\
+BEGIN a; END;
+-- b
+~5 up to 13: BEGIN a; END;~\
+/* x */ a /* y */ 'b ' /* z */~2 up to 22: /* x */ a /* y */ 'b '~\
+a ?~EBR-0020~\
+a /* b~EBR-0021~\
+'a' 'b~EBR-0021~\
+1234567890123456789~EBR-0022~\
+? 'x~EBR-0020~\
+";
+
+/// A table from the first row on that is scanned otherwise; nothing where there is none.
+fn scanned_wrong_from(alloc: Global, table: &'static str) -> Result<&'static str, NoMemory> {
+    let mut left = table;
+    for _ in 0..table.len() {
+        let Some((text, wanted, rest)) = first_row(left) else {
+            return Ok(left);
+        };
+        if scanned(alloc, text.as_bytes())?.as_slice() != wanted.as_bytes() {
+            return Ok(left);
+        }
+        left = rest;
+    }
+    Ok(left)
+}
 
 #[test]
 fn texts_are_scanned(rt: HostRuntime) -> Result<(), Fail> {
-    for (text, wanted) in &SCANS {
-        assert!(rt;
-            scanned(rt.alloc(), text)?.as_slice() == *wanted,
-            "{text:?}"
-        );
-    }
+    assert_eq!(rt; scanned_wrong_from(rt.alloc(), SCANS)?, "");
     Ok(())
 }
 

@@ -3,6 +3,7 @@
 ghost use Rattle.std.specs.Prelude.{◌≡◌, ◌≢◌, Some, IsFalse};
 ghost use Rattle.ebr_editions.specs.Editions.{edition_named};
 
+use crate::answers::{is, release};
 use ebr_base::{Class, Code, EditionNo, Name, NoMemory, ObjectKey, Stamp, Stop};
 use ebr_editions::{Actuals, Chain};
 use std::alloc::Global;
@@ -26,7 +27,15 @@ enum Change {
     Parent(u32),
     Child(u32),
     Number(&'static [u8]),
+    Leaf,
+    /// Whether an edition has this name, 1 or 0.
+    Named(u32, &'static [u8]),
+    /// Whether an edition lives, 1 or 0.
+    Lives(u32),
 }
+
+/// A change, and the number or the code that it answers.
+type Made = (Change, Result<u32, Code>);
 
 /// An edition's number; 0 where there is none.
 fn number(e: Option<EditionNo>) -> u32 {
@@ -36,13 +45,13 @@ fn number(e: Option<EditionNo>) -> u32 {
     }
 }
 
-/// The number or the code that a call answers.
-fn created(answer: Result<EditionNo, Stop>) -> Result<Result<u32, Code>, NoMemory> {
-    match answer {
-        Ok(e) => Ok(Ok(e.0)),
-        Err(Stop::Raised(code)) => Ok(Err(code)),
-        Err(Stop::NoMemory) => Err(NoMemory),
-    }
+fn create(alloc: Global, chain: &mut Chain, n: &[u8], parent: Option<&Name>) -> Result<u32, Stop> {
+    Ok(chain.create(name(alloc, n)?, parent)?.0)
+}
+
+fn create_below(alloc: Global, chain: &mut Chain, n: &[u8], p: &[u8]) -> Result<u32, Stop> {
+    let parent = name(alloc, p)?;
+    create(alloc, chain, n, Some(&parent))
 }
 
 fn is_default(chain: &Chain, n: &Name) -> bool
@@ -54,36 +63,107 @@ fn is_default(chain: &Chain, n: &Name) -> bool
     }
 }
 
-fn drop_leaf(chain: &mut Chain, n: &Name) -> Result<Result<u32, Code>, NoMemory> {
-    if is_default(chain, n) {
-        return Err(NoMemory);
+/// The number of an edition, or the code.
+fn numbered_or(answer: Result<EditionNo, Code>) -> Result<u32, Stop> {
+    match answer {
+        Ok(e) => Ok(e.0),
+        Err(code) => Err(Stop::Raised(code)),
     }
-    Ok(chain.drop_leaf(n).map(|e| e.0))
 }
 
-fn set_default(chain: &mut Chain, n: &Name) -> Result<u32, Code> {
+fn drop_leaf(chain: &mut Chain, n: &Name) -> Result<u32, Stop> {
+    if is_default(chain, n) {
+        return Err(Stop::NoMemory);
+    }
+    numbered_or(chain.drop_leaf(n))
+}
+
+fn set_default(chain: &mut Chain, n: &Name) -> Result<u32, Stop> {
     match chain.set_default(n) {
         Ok(()) => Ok(chain.default().0),
-        Err(code) => Err(code),
+        Err(code) => Err(Stop::Raised(code)),
     }
 }
 
-fn make(alloc: Global, chain: &mut Chain, what: Change) -> Result<Result<u32, Code>, NoMemory> {
+/// A change of an edition of a name, or its number.
+fn make_named(chain: &mut Chain, what: Change, n: &Name) -> Result<u32, Stop> {
     match what {
-        Change::Create(n) => created(chain.create(name(alloc, n)?, None)),
-        Change::CreateBelow(n, p) => {
-            let parent = name(alloc, p)?;
-            created(chain.create(name(alloc, n)?, Some(&parent)))
-        }
-        Change::Drop(n) => drop_leaf(chain, &name(alloc, n)?),
-        Change::Default(n) => Ok(set_default(chain, &name(alloc, n)?)),
-        Change::Parent(e) => Ok(Ok(number(chain.parent(EditionNo(e))))),
-        Change::Child(e) => Ok(Ok(number(chain.child(EditionNo(e))))),
-        Change::Number(n) => Ok(Ok(number(chain.number(&name(alloc, n)?)))),
+        Change::Drop(_) => drop_leaf(chain, n),
+        Change::Default(_) => set_default(chain, n),
+        _ => Ok(number(chain.number(n))),
     }
 }
 
-static CHANGES: [(Change, Result<u32, Code>); 21] = [
+fn has_name(chain: &Chain, e: u32, bytes: &[u8]) -> bool {
+    match chain.name(EditionNo(e)) {
+        Some(n) => n.as_slice() == bytes,
+        None => false,
+    }
+}
+
+fn make(alloc: Global, chain: &mut Chain, what: Change) -> Result<u32, Stop> {
+    match what {
+        Change::Create(n) => create(alloc, chain, n, None),
+        Change::CreateBelow(n, p) => create_below(alloc, chain, n, p),
+        Change::Drop(n) | Change::Default(n) | Change::Number(n) => {
+            make_named(chain, what, &name(alloc, n)?)
+        }
+        Change::Parent(e) => Ok(number(chain.parent(EditionNo(e)))),
+        Change::Child(e) => Ok(number(chain.child(EditionNo(e)))),
+        Change::Leaf => Ok(chain.leaf().0),
+        Change::Named(e, bytes) => Ok(has_name(chain, e, bytes) as u32),
+        Change::Lives(e) => Ok(chain.lives(EditionNo(e)) as u32),
+    }
+}
+
+fn digit(n: u32) -> u8 {
+    b'0' + (n % 10) as u8
+}
+
+/// The letter E and four digits.
+fn numbered(alloc: Global, n: u32) -> Result<Name, NoMemory> {
+    let bytes = [
+        b'E',
+        digit(n / 1000),
+        digit(n / 100),
+        digit(n / 10),
+        digit(n),
+    ];
+    name(alloc, &bytes)
+}
+
+fn lengthen(alloc: Global, chain: &mut Chain, n: u32) -> Result<EditionNo, Stop> {
+    chain.create(numbered(alloc, n)?, None)
+}
+
+/// Makes so many editions.
+fn lengthened(alloc: Global, chain: &mut Chain, count: u32) -> bool {
+    for n in 0..count {
+        if lengthen(alloc, chain, n).is_err() {
+            return false;
+        }
+    }
+    true
+}
+
+fn all_made(alloc: Global, chain: &mut Chain, rows: &[Made]) -> bool {
+    for (what, wanted) in rows {
+        if !is(make(alloc, chain, *what), *wanted) {
+            return false;
+        }
+    }
+    true
+}
+
+/// Whether changes of a line of so many editions beside ORA$BASE answer as wanted.
+fn line_goes(alloc: Global, count: u32, rows: &[Made]) -> Result<bool, NoMemory> {
+    let mut chain = Chain::new(alloc)?;
+    let goes = lengthened(alloc, &mut chain, count) && all_made(alloc, &mut chain, rows);
+    release(chain);
+    Ok(goes)
+}
+
+static CHANGES: [Made; 24] = [
     (Change::Create(b"V2"), Ok(2)),
     (Change::CreateBelow(b"V2", b"nope"), Err(Code::Ebr(31))),
     (Change::CreateBelow(b"V3", b"nope"), Err(Code::Ora(38802))),
@@ -105,48 +185,18 @@ static CHANGES: [(Change, Result<u32, Code>); 21] = [
     (Change::Child(4), Ok(0)),
     (Change::Parent(5), Ok(0)),
     (Change::Number(b"ora$base"), Ok(1)),
+    (Change::Leaf, Ok(4)),
+    (Change::Named(3, b"V3"), Ok(1)),
+    (Change::Lives(3), Ok(0)),
 ];
 
 #[test]
 fn editions_form_a_line(rt: HostRuntime) -> Result<(), Fail> {
-    let alloc = rt.alloc();
-    let mut chain = Chain::new(alloc)?;
-    for (what, wanted) in &CHANGES {
-        assert!(rt; make(alloc, &mut chain, *what)? == *wanted);
-    }
-    assert!(rt; chain.leaf().0 == 4);
-    assert!(rt; chain.name(EditionNo(3)).map(|n| n.as_slice()) == Some(b"V3".as_slice()));
-    assert!(rt; !chain.lives(EditionNo(3)));
+    assert!(rt; line_goes(rt.alloc(), 0, &CHANGES)?);
     Ok(())
 }
 
-fn digit(n: u32) -> u8 {
-    b'0' + (n % 10) as u8
-}
-
-/// The letter E and four digits.
-fn numbered(alloc: Global, n: u32) -> Result<Name, NoMemory> {
-    let bytes = [
-        b'E',
-        digit(n / 1000),
-        digit(n / 100),
-        digit(n / 10),
-        digit(n),
-    ];
-    name(alloc, &bytes)
-}
-
-/// Makes so many editions.
-fn lengthen(alloc: Global, chain: &mut Chain, count: u32) -> Result<(), NoMemory> {
-    for n in 0..count {
-        if chain.create(numbered(alloc, n)?, None).is_err() {
-            return Err(NoMemory);
-        }
-    }
-    Ok(())
-}
-
-static FULL: [(Change, Result<u32, Code>); 3] = [
+static FULL: [Made; 3] = [
     (Change::Create(b"LAST"), Err(Code::Ebr(35))),
     (Change::Drop(b"E0254"), Ok(256)),
     (Change::Create(b"LAST"), Ok(257)),
@@ -154,12 +204,7 @@ static FULL: [(Change, Result<u32, Code>); 3] = [
 
 #[test]
 fn at_most_256_editions_live(rt: HostRuntime) -> Result<(), Fail> {
-    let alloc = rt.alloc();
-    let mut chain = Chain::new(alloc)?;
-    lengthen(alloc, &mut chain, 255)?;
-    for (what, wanted) in &FULL {
-        assert!(rt; make(alloc, &mut chain, *what)? == *wanted);
-    }
+    assert!(rt; line_goes(rt.alloc(), 255, &FULL)?);
     Ok(())
 }
 
@@ -176,7 +221,12 @@ enum Step {
     Has(u32, Class, &'static [u8]),
     /// The object under the key at a place, 0 where it is hidden; EBR-0000 where there is no such place.
     At(u32, u32),
+    /// The count of the stamp to come.
+    Next(u32),
 }
+
+/// A call, and the number or the code that it answers.
+type Taken = (Step, Result<u32, Code>);
 
 fn key(alloc: Global, class: Class, bytes: &[u8]) -> Result<ObjectKey, NoMemory> {
     Ok(ObjectKey {
@@ -185,12 +235,11 @@ fn key(alloc: Global, class: Class, bytes: &[u8]) -> Result<ObjectKey, NoMemory>
     })
 }
 
-/// The count of a stamp, or the code.
-fn count(answer: Result<Stamp, Stop>) -> Result<Result<u32, Code>, NoMemory> {
+/// The count of a stamp, or why there is none.
+fn count(answer: Result<Stamp, Stop>) -> Result<u32, Stop> {
     match answer {
-        Ok(stamp) => Ok(Ok(stamp.count)),
-        Err(Stop::Raised(code)) => Ok(Err(code)),
-        Err(Stop::NoMemory) => Err(NoMemory),
+        Ok(stamp) => Ok(stamp.count),
+        Err(stop) => Err(stop),
     }
 }
 
@@ -201,36 +250,93 @@ fn object(found: Option<&u32>) -> u32 {
     }
 }
 
-fn at(actuals: &Actuals<u32>, e: EditionNo, place: u32) -> Result<u32, Code> {
+fn at(actuals: &Actuals<u32>, e: EditionNo, place: u32) -> Result<u32, Stop> {
     match actuals.actual_in(e, place) {
         Some((_, found)) => Ok(object(found)),
-        None => Err(Code::Ebr(0)),
+        None => Err(Stop::Raised(Code::Ebr(0))),
     }
 }
 
-fn take(
-    alloc: Global,
+fn take_keyed(
     chain: &Chain,
     actuals: &mut Actuals<u32>,
     step: Step,
-) -> Result<Result<u32, Code>, NoMemory> {
+    e: EditionNo,
+    key: &ObjectKey,
+) -> Result<u32, Stop> {
     match step {
-        Step::Put(e, c, n, o) => count(actuals.put(chain, EditionNo(e), key(alloc, c, n)?, o)),
-        Step::Hide(e, c, n) => count(actuals.hide(chain, EditionNo(e), &key(alloc, c, n)?)),
-        Step::Sees(e, c, n) => {
-            let key = key(alloc, c, n)?;
-            Ok(Ok(object(actuals.visible(chain, EditionNo(e), &key))))
-        }
-        Step::Has(e, c, n) => {
-            let key = key(alloc, c, n)?;
-            Ok(Ok(object(actuals.actual(EditionNo(e), &key))))
-        }
-        Step::At(e, place) => Ok(at(actuals, EditionNo(e), place)),
+        Step::Hide(..) => count(actuals.hide(chain, e, key)),
+        Step::Sees(..) => Ok(object(actuals.visible(chain, e, key))),
+        _ => Ok(object(actuals.actual(e, key))),
     }
 }
 
+fn take(alloc: Global, chain: &Chain, actuals: &mut Actuals<u32>, step: Step) -> Result<u32, Stop> {
+    match step {
+        Step::Put(e, c, n, o) => count(actuals.put(chain, EditionNo(e), key(alloc, c, n)?, o)),
+        Step::Hide(e, c, n) | Step::Sees(e, c, n) | Step::Has(e, c, n) => {
+            take_keyed(chain, actuals, step, EditionNo(e), &key(alloc, c, n)?)
+        }
+        Step::At(e, place) => at(actuals, EditionNo(e), place),
+        Step::Next(e) => Ok(actuals.next_stamp(EditionNo(e)).count),
+    }
+}
+
+fn all_taken(alloc: Global, chain: &Chain, actuals: &mut Actuals<u32>, rows: &[Taken]) -> bool {
+    for (step, wanted) in rows {
+        if !is(take(alloc, chain, actuals, *step), *wanted) {
+            return false;
+        }
+    }
+    true
+}
+
+fn define(alloc: Global, chain: &Chain, actuals: &mut Actuals<u32>, n: u32) -> Result<Stamp, Stop> {
+    let key = ObjectKey {
+        class: Class::Unit,
+        name: numbered(alloc, n)?,
+    };
+    actuals.put(chain, EditionNo(1), key, n)
+}
+
+/// Defines so many objects in ORA$BASE.
+fn filled(alloc: Global, chain: &Chain, actuals: &mut Actuals<u32>, count: u32) -> bool {
+    for n in 0..count {
+        if define(alloc, chain, actuals, n).is_err() {
+            return false;
+        }
+    }
+    true
+}
+
+/// Whether calls answer as wanted after so many objects in ORA$BASE.
+fn objects_go(
+    alloc: Global,
+    chain: &Chain,
+    objects: u32,
+    rows: &[Taken],
+) -> Result<bool, NoMemory> {
+    let mut actuals = Actuals::new(alloc)?;
+    let goes = filled(alloc, chain, &mut actuals, objects)
+        && all_taken(alloc, chain, &mut actuals, rows);
+    release(actuals);
+    Ok(goes)
+}
+
+/// Whether calls answer as wanted in so many editions beside ORA$BASE, and after so many objects in that one.
+fn line_has(alloc: Global, editions: u32, objects: u32, rows: &[Taken]) -> Result<bool, NoMemory> {
+    let mut chain = Chain::new(alloc)?;
+    let goes = if lengthened(alloc, &mut chain, editions) {
+        objects_go(alloc, &chain, objects, rows)
+    } else {
+        Ok(false)
+    };
+    release(chain);
+    goes
+}
+
 /// Oracle Database Development Guide 19c, Using Edition-Based Redefinition: inheritance, actual objects and drops.
-static STEPS: [(Step, Result<u32, Code>); 30] = [
+static STEPS: [Taken; 31] = [
     (Step::Sees(1, Class::Unit, b"P"), Ok(0)),
     (Step::Hide(1, Class::Unit, b"P"), Err(Code::Ora(4043))),
     (Step::Put(1, Class::Unit, b"P", 10), Ok(1)),
@@ -261,37 +367,17 @@ static STEPS: [(Step, Result<u32, Code>); 30] = [
     (Step::At(1, 1), Ok(11)),
     (Step::At(2, 0), Ok(0)),
     (Step::At(4, 0), Err(Code::Ebr(0))),
+    (Step::Next(3), Ok(5)),
 ];
 
 #[test]
 fn objects_are_inherited_replaced_and_hidden(rt: HostRuntime) -> Result<(), Fail> {
-    let alloc = rt.alloc();
-    let mut chain = Chain::new(alloc)?;
-    lengthen(alloc, &mut chain, 2)?;
-    let mut actuals = Actuals::new(alloc)?;
-    for (step, wanted) in &STEPS {
-        assert!(rt; take(alloc, &chain, &mut actuals, *step)? == *wanted);
-    }
-    assert!(rt; actuals.next_stamp(EditionNo(3)).count == 5);
-    Ok(())
-}
-
-/// Defines so many objects in ORA$BASE.
-fn fill(alloc: Global, chain: &Chain, actuals: &mut Actuals<u32>, n: u32) -> Result<(), NoMemory> {
-    for i in 0..n {
-        let key = ObjectKey {
-            class: Class::Unit,
-            name: numbered(alloc, i)?,
-        };
-        if actuals.put(chain, EditionNo(1), key, i).is_err() {
-            return Err(NoMemory);
-        }
-    }
+    assert!(rt; line_has(rt.alloc(), 2, 0, &STEPS)?);
     Ok(())
 }
 
 /// What 4,095 objects in ORA$BASE leave room for.
-static LAST: [(Step, Result<u32, Code>); 12] = [
+static LAST: [Taken; 12] = [
     (Step::Put(2, Class::Unit, b"A", 1), Ok(1)),
     (Step::Put(2, Class::Unit, b"B", 2), Err(Code::Ebr(34))),
     (Step::Put(2, Class::Body, b"A", 3), Err(Code::Ebr(34))),
@@ -308,13 +394,6 @@ static LAST: [(Step, Result<u32, Code>); 12] = [
 
 #[test]
 fn at_most_4096_objects_are_visible(rt: HostRuntime) -> Result<(), Fail> {
-    let alloc = rt.alloc();
-    let mut chain = Chain::new(alloc)?;
-    lengthen(alloc, &mut chain, 1)?;
-    let mut actuals = Actuals::new(alloc)?;
-    fill(alloc, &chain, &mut actuals, 4095)?;
-    for (step, wanted) in &LAST {
-        assert!(rt; take(alloc, &chain, &mut actuals, *step)? == *wanted);
-    }
+    assert!(rt; line_has(rt.alloc(), 1, 4095, &LAST)?);
     Ok(())
 }

@@ -4,7 +4,11 @@
 #![tactic(auto)]
 
 #[cfg(test)]
+mod answers;
+#[cfg(test)]
 mod base;
+#[cfg(test)]
+mod command_line;
 #[cfg(test)]
 mod cut;
 #[cfg(test)]
@@ -16,7 +20,11 @@ mod lexer;
 #[cfg(test)]
 mod locks;
 #[cfg(test)]
+mod names;
+#[cfg(test)]
 mod operators;
+#[cfg(test)]
+mod outside;
 #[cfg(test)]
 mod tables;
 #[cfg(test)]

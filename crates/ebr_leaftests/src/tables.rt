@@ -1,5 +1,6 @@
 //! Tables: that the calls succeed with ample memory, and each refusal on cases worked out by hand.
 
+use crate::answers::{is, release};
 use ebr_base::{Code, ColType, Column, List, Name, NoMemory, Stop, TableDef, TableId};
 use ebr_tables::Tables;
 use std::alloc::Global;
@@ -34,27 +35,67 @@ fn column(name: Name, ty: ColType) -> Column {
     }
 }
 
-/// A table of so many columns of different names, without a key.
-fn wide(alloc: Global, name: Name, count: u32) -> Result<TableDef, NoMemory> {
+/// So many columns of different names.
+fn columns(alloc: Global, count: u32) -> Result<List<Column>, NoMemory> {
     let mut columns = List::new(alloc);
     for n in 0..count {
         columns.push(column(numbered(alloc, b'C', n)?, ColType::Num(9)))?;
     }
+    Ok(columns)
+}
+
+/// A table of so many columns of different names.
+fn wide(
+    alloc: Global,
+    name: Result<Name, NoMemory>,
+    count: u32,
+    key: List<u16>,
+) -> Result<TableDef, NoMemory> {
+    let columns = columns(alloc, count)?;
     Ok(TableDef {
         id: TableId(0),
-        name,
+        name: name?,
         columns,
-        key: List::new(alloc),
+        key,
     })
 }
 
-/// The number or the code that a call answers.
-fn answer(of: Result<TableId, Stop>) -> Result<Result<u32, Code>, NoMemory> {
-    match of {
-        Ok(id) => Ok(Ok(id.0)),
-        Err(Stop::Raised(code)) => Ok(Err(code)),
-        Err(Stop::NoMemory) => Err(NoMemory),
+fn key(alloc: Global, places: &[u16]) -> Result<List<u16>, NoMemory> {
+    let mut key = List::new(alloc);
+    for place in places {
+        key.push(*place)?;
     }
+    Ok(key)
+}
+
+/// A column for each type, whose name is the letter at the same place.
+fn lettered_columns(
+    alloc: Global,
+    letters: &[u8],
+    types: &[ColType],
+) -> Result<List<Column>, NoMemory> {
+    let mut columns = List::new(alloc);
+    for (letter, ty) in letters.iter().zip(types) {
+        columns.push(column(name(alloc, &[*letter])?, *ty))?;
+    }
+    Ok(columns)
+}
+
+/// A table T with one column for each type, whose name is the letter at the same place.
+fn lettered(
+    alloc: Global,
+    letters: &[u8],
+    types: &[ColType],
+    places: &[u16],
+) -> Result<TableDef, NoMemory> {
+    let columns = lettered_columns(alloc, letters, types)?;
+    let key = key(alloc, places)?;
+    Ok(TableDef {
+        id: TableId(0),
+        name: name(alloc, b"t")?,
+        columns,
+        key,
+    })
 }
 
 /// The table's id; 0 where there is none.
@@ -68,28 +109,108 @@ fn id_of(table: Option<&TableDef>) -> u32 {
 /// A call, by the table's name or its place.
 #[derive(Clone, Copy)]
 enum Step {
-    /// Makes a table of one column.
-    Create(&'static [u8]),
+    /// Makes a table of so many columns without a key.
+    Wide(&'static [u8], u32),
+    /// Makes a table of so many columns whose key is of these columns.
+    Keyed(&'static [u8], u32, &'static [u16]),
+    /// Makes the table T of columns by their letters and types, and with its key's places.
+    Define(&'static [u8], &'static [ColType], &'static [u16]),
+    /// Adds a column to a table; the answer is 0.
+    Add(&'static [u8], &'static [u8], ColType),
     Remove(&'static [u8]),
     Find(&'static [u8]),
     Nth(u32),
 }
 
-fn take(alloc: Global, tables: &mut Tables, step: Step) -> Result<Result<u32, Code>, NoMemory> {
-    match step {
-        Step::Create(bytes) => answer(tables.create(wide(alloc, name(alloc, bytes)?, 1)?)),
-        Step::Remove(bytes) => Ok(tables.remove(&name(alloc, bytes)?).map(|id| id.0)),
-        Step::Find(bytes) => Ok(Ok(id_of(tables.find(&name(alloc, bytes)?)))),
-        Step::Nth(at) => Ok(Ok(id_of(tables.nth(at)))),
+/// A call, and the table's id or the code that it answers.
+type Taken = (Step, Result<u32, Code>);
+
+fn create(tables: &mut Tables, def: Result<TableDef, NoMemory>) -> Result<u32, Stop> {
+    Ok(tables.create(def?)?.0)
+}
+
+fn create_wide(
+    alloc: Global,
+    tables: &mut Tables,
+    of: &[u8],
+    count: u32,
+    places: &[u16],
+) -> Result<u32, Stop> {
+    let key = key(alloc, places)?;
+    create(tables, wide(alloc, name(alloc, of), count, key))
+}
+
+fn add(
+    tables: &mut Tables,
+    of: &Name,
+    added: Result<Name, NoMemory>,
+    ty: ColType,
+) -> Result<u32, Stop> {
+    match tables.add_column(of, column(added?, ty)) {
+        Ok(()) => Ok(0),
+        Err(stop) => Err(stop),
     }
 }
 
-static STEPS: [(Step, Result<u32, Code>); 14] = [
+fn remove(tables: &mut Tables, of: &Name) -> Result<u32, Stop> {
+    match tables.remove(of) {
+        Ok(id) => Ok(id.0),
+        Err(code) => Err(Stop::Raised(code)),
+    }
+}
+
+fn take(alloc: Global, tables: &mut Tables, step: Step) -> Result<u32, Stop> {
+    match step {
+        Step::Wide(of, count) => create_wide(alloc, tables, of, count, &[]),
+        Step::Keyed(of, count, places) => create_wide(alloc, tables, of, count, places),
+        Step::Define(letters, types, places) => {
+            create(tables, lettered(alloc, letters, types, places))
+        }
+        Step::Add(of, added, ty) => add(tables, &name(alloc, of)?, name(alloc, added), ty),
+        Step::Remove(of) => remove(tables, &name(alloc, of)?),
+        Step::Find(of) => Ok(id_of(tables.find(&name(alloc, of)?))),
+        Step::Nth(at) => Ok(id_of(tables.nth(at))),
+    }
+}
+
+fn all_taken(alloc: Global, tables: &mut Tables, rows: &[Taken]) -> bool {
+    for (step, wanted) in rows {
+        if !is(take(alloc, tables, *step), *wanted) {
+            return false;
+        }
+    }
+    true
+}
+
+fn create_numbered(alloc: Global, tables: &mut Tables, n: u32) -> Result<u32, Stop> {
+    let name = numbered(alloc, b'T', n);
+    create(tables, wide(alloc, name, 1, List::new(alloc)))
+}
+
+/// Makes the tables T0000, T0001 and so on, so many of them.
+fn filled(alloc: Global, tables: &mut Tables, count: u32) -> bool {
+    for n in 0..count {
+        if create_numbered(alloc, tables, n).is_err() {
+            return false;
+        }
+    }
+    true
+}
+
+/// Whether calls answer as wanted after so many tables.
+fn tables_go(alloc: Global, count: u32, rows: &[Taken]) -> Result<bool, NoMemory> {
+    let mut tables = Tables::new(alloc)?;
+    let goes = filled(alloc, &mut tables, count) && all_taken(alloc, &mut tables, rows);
+    release(tables);
+    Ok(goes)
+}
+
+static STEPS: [Taken; 14] = [
     (Step::Nth(0), Ok(0)),
-    (Step::Create(b"a"), Ok(1)),
-    (Step::Create(b"b"), Ok(2)),
-    (Step::Create(b"c"), Ok(3)),
-    (Step::Create(b"B"), Err(Code::Ora(955))),
+    (Step::Wide(b"a", 1), Ok(1)),
+    (Step::Wide(b"b", 1), Ok(2)),
+    (Step::Wide(b"c", 1), Ok(3)),
+    (Step::Wide(b"B", 1), Err(Code::Ora(955))),
     (Step::Find(b"C"), Ok(3)),
     (Step::Nth(1), Ok(2)),
     (Step::Remove(b"b"), Ok(2)),
@@ -97,216 +218,133 @@ static STEPS: [(Step, Result<u32, Code>); 14] = [
     (Step::Find(b"b"), Ok(0)),
     (Step::Nth(0), Ok(1)),
     (Step::Nth(1), Ok(3)),
-    (Step::Create(b"b"), Ok(4)),
+    (Step::Wide(b"b", 1), Ok(4)),
     (Step::Nth(2), Ok(4)),
 ];
 
 #[test]
 fn tables_are_found_by_name_and_in_order_of_id(rt: HostRuntime) -> Result<(), Fail> {
-    let alloc = rt.alloc();
-    let mut tables = Tables::new(alloc)?;
-    for (step, wanted) in &STEPS {
-        assert!(rt; take(alloc, &mut tables, *step)? == *wanted);
-    }
+    assert!(rt; tables_go(rt.alloc(), 0, &STEPS)?);
     Ok(())
 }
 
-/// Makes the tables T0000, T0001 and so on, so many of them.
-fn fill(alloc: Global, tables: &mut Tables, count: u32) -> Result<(), NoMemory> {
-    for n in 0..count {
-        if tables
-            .create(wide(alloc, numbered(alloc, b'T', n)?, 1)?)
-            .is_err()
-        {
-            return Err(NoMemory);
-        }
-    }
-    Ok(())
-}
-
-/// Definitions that a thousand tables, T0000 among them, refuse for so many causes: the name's letter, the columns,
-/// whether a key is of a column that isn't there. The first cause is told.
-static FULL: [(u8, u32, bool, Code); 4] = [
-    (b'T', 65, true, Code::Ora(955)),
-    (b'U', 65, true, Code::Ebr(29)),
-    (b'U', 65, false, Code::Ebr(36)),
-    (b'U', 64, false, Code::Ebr(37)),
+/// Definitions that a thousand tables, T0000 among them, refuse for so many causes: the first cause is told. The key's
+/// column 65 isn't there.
+static FULL: [Taken; 6] = [
+    (Step::Keyed(b"T0000", 65, &[65]), Err(Code::Ora(955))),
+    (Step::Keyed(b"U0000", 65, &[65]), Err(Code::Ebr(29))),
+    (Step::Wide(b"U0000", 65), Err(Code::Ebr(36))),
+    (Step::Wide(b"U0000", 64), Err(Code::Ebr(37))),
+    (Step::Remove(b"T0999"), Ok(1000)),
+    (Step::Wide(b"U0000", 64), Ok(1001)),
 ];
-
-fn faulty(alloc: Global, letter: u8, columns: u32, bad_key: bool) -> Result<TableDef, NoMemory> {
-    let mut def = wide(alloc, numbered(alloc, letter, 0)?, columns)?;
-    if bad_key {
-        def.key.push(65)?;
-    }
-    Ok(def)
-}
 
 #[test]
 fn a_thousand_tables_live_and_ids_are_never_given_again(rt: HostRuntime) -> Result<(), Fail> {
-    let alloc = rt.alloc();
-    let mut tables = Tables::new(alloc)?;
-    fill(alloc, &mut tables, 1000)?;
-    for (letter, columns, bad_key, code) in &FULL {
-        let got = answer(tables.create(faulty(alloc, *letter, *columns, *bad_key)?))?;
-        assert!(rt; got == Err(*code));
-    }
-    assert!(rt; tables.remove(&numbered(alloc, b'T', 999)?) == Ok(TableId(1000)));
-    assert!(rt; answer(tables.create(faulty(alloc, b'U', 64, false)?))? == Ok(1001));
+    assert!(rt; tables_go(rt.alloc(), 1000, &FULL)?);
     Ok(())
 }
 
 /// Columns that are added to WIDE, which has 63, or to a table that isn't there: the first cause in order is told.
-static ADDED: [(&[u8], &[u8], ColType, Result<(), Stop>); 8] = [
+static ADDED: [Taken; 9] = [
+    (Step::Wide(b"wide", 63), Ok(1)),
     (
-        b"none",
-        b"C0000",
-        ColType::Num(0),
-        Err(Stop::Raised(Code::Ora(942))),
+        Step::Add(b"none", b"C0000", ColType::Num(0)),
+        Err(Code::Ora(942)),
     ),
     (
-        b"wide",
-        b"c0062",
-        ColType::Num(9),
-        Err(Stop::Raised(Code::Ebr(29))),
+        Step::Add(b"wide", b"c0062", ColType::Num(9)),
+        Err(Code::Ebr(29)),
     ),
     (
-        b"wide",
-        b"more",
-        ColType::Num(19),
-        Err(Stop::Raised(Code::Ebr(29))),
+        Step::Add(b"wide", b"more", ColType::Num(19)),
+        Err(Code::Ebr(29)),
     ),
-    (b"wide", b"more", ColType::Text(4000), Ok(())),
+    (Step::Add(b"wide", b"more", ColType::Text(4000)), Ok(0)),
     (
-        b"wide",
-        b"more",
-        ColType::Num(9),
-        Err(Stop::Raised(Code::Ebr(29))),
+        Step::Add(b"wide", b"more", ColType::Num(9)),
+        Err(Code::Ebr(29)),
     ),
     (
-        b"wide",
-        b"last",
-        ColType::Text(0),
-        Err(Stop::Raised(Code::Ebr(29))),
+        Step::Add(b"wide", b"last", ColType::Text(0)),
+        Err(Code::Ebr(29)),
     ),
     (
-        b"wide",
-        b"last",
-        ColType::Num(9),
-        Err(Stop::Raised(Code::Ebr(36))),
+        Step::Add(b"wide", b"last", ColType::Num(9)),
+        Err(Code::Ebr(36)),
     ),
     (
-        b"none",
-        b"last",
-        ColType::Num(9),
-        Err(Stop::Raised(Code::Ora(942))),
+        Step::Add(b"none", b"last", ColType::Num(9)),
+        Err(Code::Ora(942)),
     ),
 ];
 
 #[test]
 fn a_column_is_added_up_to_64(rt: HostRuntime) -> Result<(), Fail> {
-    let alloc = rt.alloc();
-    let mut tables = Tables::new(alloc)?;
-    assert!(rt; answer(tables.create(wide(alloc, name(alloc, b"wide")?, 63)?))? == Ok(1));
-    for (of, added, ty, wanted) in &ADDED {
-        let got = tables.add_column(&name(alloc, of)?, column(name(alloc, added)?, *ty));
-        assert!(rt; got == *wanted);
-    }
+    assert!(rt; tables_go(rt.alloc(), 0, &ADDED)?);
     Ok(())
 }
 
-/// A table T with one column for each type, whose name is the letter at the same place.
-fn lettered(
-    alloc: Global,
-    letters: &[u8],
-    types: &[ColType],
-    places: &[u16],
-) -> Result<TableDef, NoMemory> {
-    let mut columns = List::new(alloc);
-    for (letter, ty) in letters.iter().zip(types) {
-        columns.push(column(name(alloc, &[*letter])?, *ty))?;
-    }
-    let mut key = List::new(alloc);
-    for place in places {
-        key.push(*place)?;
-    }
-    Ok(TableDef {
-        id: TableId(0),
-        name: name(alloc, b"t")?,
-        columns,
-        key,
-    })
-}
-
 /// The columns' letters and types, the key's places, and the id or the code.
-static DEFINITIONS: [(&[u8], &[ColType], &[u16], Result<u32, Code>); 14] = [
+static DEFINITIONS: [Taken; 14] = [
     (
-        b"aA",
-        &[ColType::Num(9), ColType::Num(9)],
-        &[],
+        Step::Define(b"aA", &[ColType::Num(9), ColType::Num(9)], &[]),
         Err(Code::Ebr(29)),
     ),
     (
-        b"aba",
-        &[ColType::Num(9), ColType::Num(9), ColType::Text(9)],
-        &[],
-        Err(Code::Ebr(29)),
-    ),
-    (b"a", &[ColType::Num(0)], &[], Err(Code::Ebr(29))),
-    (b"a", &[ColType::Num(19)], &[], Err(Code::Ebr(29))),
-    (b"a", &[ColType::Text(0)], &[], Err(Code::Ebr(29))),
-    (
-        b"ab",
-        &[ColType::Num(1), ColType::Text(4001)],
-        &[],
+        Step::Define(
+            b"aba",
+            &[ColType::Num(9), ColType::Num(9), ColType::Text(9)],
+            &[],
+        ),
         Err(Code::Ebr(29)),
     ),
     (
-        b"ab",
-        &[ColType::Num(1), ColType::Num(1)],
-        &[0, 1, 0],
+        Step::Define(b"a", &[ColType::Num(0)], &[]),
         Err(Code::Ebr(29)),
     ),
     (
-        b"ab",
-        &[ColType::Num(1), ColType::Num(1)],
-        &[1, 1],
+        Step::Define(b"a", &[ColType::Num(19)], &[]),
         Err(Code::Ebr(29)),
     ),
     (
-        b"ab",
-        &[ColType::Num(1), ColType::Num(1)],
-        &[2],
+        Step::Define(b"a", &[ColType::Text(0)], &[]),
         Err(Code::Ebr(29)),
     ),
-    (b"", &[], &[0], Err(Code::Ebr(29))),
     (
-        b"ab",
-        &[ColType::Num(18), ColType::Text(4000)],
-        &[1, 0],
+        Step::Define(b"ab", &[ColType::Num(1), ColType::Text(4001)], &[]),
+        Err(Code::Ebr(29)),
+    ),
+    (
+        Step::Define(b"ab", &[ColType::Num(1), ColType::Num(1)], &[0, 1, 0]),
+        Err(Code::Ebr(29)),
+    ),
+    (
+        Step::Define(b"ab", &[ColType::Num(1), ColType::Num(1)], &[1, 1]),
+        Err(Code::Ebr(29)),
+    ),
+    (
+        Step::Define(b"ab", &[ColType::Num(1), ColType::Num(1)], &[2]),
+        Err(Code::Ebr(29)),
+    ),
+    (Step::Define(b"", &[], &[0]), Err(Code::Ebr(29))),
+    (
+        Step::Define(b"ab", &[ColType::Num(18), ColType::Text(4000)], &[1, 0]),
         Ok(1),
     ),
     (
-        b"ab",
-        &[ColType::Num(18), ColType::Text(4000)],
-        &[],
+        Step::Define(b"ab", &[ColType::Num(18), ColType::Text(4000)], &[]),
         Err(Code::Ora(955)),
     ),
     (
-        b"aa",
-        &[ColType::Num(1), ColType::Num(1)],
-        &[],
+        Step::Define(b"aa", &[ColType::Num(1), ColType::Num(1)], &[]),
         Err(Code::Ora(955)),
     ),
-    (b"", &[], &[], Err(Code::Ora(955))),
+    (Step::Define(b"", &[], &[]), Err(Code::Ora(955))),
 ];
 
 #[test]
 fn definitions_are_refused_for_each_cause(rt: HostRuntime) -> Result<(), Fail> {
-    let alloc = rt.alloc();
-    let mut tables = Tables::new(alloc)?;
-    for (letters, types, key, wanted) in &DEFINITIONS {
-        let got = answer(tables.create(lettered(alloc, letters, types, key)?))?;
-        assert!(rt; got == *wanted);
-    }
+    assert!(rt; tables_go(rt.alloc(), 0, &DEFINITIONS)?);
     Ok(())
 }

@@ -4,18 +4,18 @@
 //! The crates above use the contracts of the traits `Host`, `Source` and `Sink`: a failure comes only where the
 //! object's count of faults rose, and what a host, source or sink that tells its bytes gave or took is known.
 //!
-//! Tests alone show what files and the standard output do.
+//! What files, the standard output and the words of the command line do is only tested, in `ebr_leaftests`.
 #![tactic(auto)]
 
+mod command_line;
 mod count;
 mod files;
 mod host;
 mod memory;
 mod sink;
 mod source;
-#[cfg(test)]
-mod tests;
 
+pub use command_line::words;
 pub use files::{FileHost, FileSource, OutSink};
 pub use host::{Host, HostErr};
 pub use memory::{Fail, MemFile, MemHost, MemSink, MemSource};

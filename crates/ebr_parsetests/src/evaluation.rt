@@ -3,6 +3,7 @@
 //! They are those of Oracle Database SQL Language Reference 19c; that numbers are whole, the limits, and the code of what has
 //! no value in a statement of SQL are own.
 
+use crate::reading::first_row;
 use ebr_base::{Bytes, Code, List, MAX_COUNT, NoMemory, Shared, Stop, Value};
 use ebr_expr::eval;
 use ebr_exprparse::expr;
@@ -12,9 +13,6 @@ use ebr_value::text_of;
 use std::alloc::Global;
 use std::process::Abort;
 use std::test::Fail;
-
-/// A text, and what it gives as it is printed: a value, NULL where there is none, or the code of the first fault.
-type Row = (&'static str, &'static str);
 
 fn text_of_code(alloc: Global, code: Code) -> Result<Bytes, NoMemory> {
     let mut text = Bytes::new(alloc);
@@ -61,205 +59,225 @@ fn given(alloc: Global, text: &str) -> Result<Bytes, NoMemory> {
     }
 }
 
-/// Each text gives what stands beside it.
-fn all_give(rt: &impl Abort, alloc: Global, rows: &[Row]) -> Result<(), Fail> {
-    for row in rows {
-        let (text, wanted) = *row;
-        let found = given(alloc, text)?;
-        assert!(rt;
-            found.as_slice() == wanted.as_bytes(),
-            "{text} gives {found:?}"
-        );
+/// What the text gives, where its row says otherwise.
+fn fault(alloc: Global, text: &str, wanted: &str) -> Result<Option<String>, NoMemory> {
+    let found = given(alloc, text)?;
+    if found.as_slice() == wanted.as_bytes() {
+        return Ok(None);
     }
-    Ok(())
+    Ok(Some(format!(in alloc; "{text} gives {found:?}")?))
+}
+
+/// The first fault of the rows.
+fn first_fault(alloc: Global, table: &'static str) -> Result<Option<String>, NoMemory> {
+    let mut left = table;
+    for _ in 0..table.len() {
+        let Some((text, wanted, rest)) = first_row(left) else {
+            return Ok(None);
+        };
+        let found = fault(alloc, text, wanted)?;
+        if found.is_some() {
+            return Ok(found);
+        }
+        left = rest;
+    }
+    Ok(None)
+}
+
+/// Each text of the table gives what stands beside it.
+fn all_give(rt: &impl Abort, alloc: Global, table: &'static str) -> Result<(), Fail> {
+    match first_fault(alloc, table)? {
+        Some(fault) => panic!(rt; "{fault}"),
+        None => Ok(()),
+    }
 }
 
 /// Numbers. An operation comes before the operands behind it, and after its own.
-static NUMBERS: [Row; 32] = [
-    ("999999999999999999 + 1", "ORA-01426"),
-    ("1000000000000000000", "EBR-0022"),
-    ("TRUNC(-7 / 2)", "-3"),
-    ("MOD(-7, 2)", "-1"),
-    ("MOD(7, 0)", "7"),
-    ("MOD(1, TO_NUMBER('x'))", "ORA-01722"),
-    ("1 + 2 * 3", "7"),
-    ("10 - 2 - 3", "5"),
-    ("2 * 3 * 4", "24"),
-    ("-5", "-5"),
-    ("-(-5)", "5"),
-    ("+5", "5"),
-    ("+NULL", "NULL"),
-    ("+'a'", "ORA-00932"),
-    ("+TRUE", "ORA-00932"),
-    ("-NULL", "NULL"),
-    ("-'a'", "ORA-00932"),
-    ("-999999999999999999", "-999999999999999999"),
-    ("-999999999999999999 - 1", "ORA-01426"),
-    ("999999999 * 999999999", "999999998000000001"),
-    ("1000000000 * 1000000000", "ORA-01426"),
-    ("TRUNC(7 / 0)", "ORA-01476"),
-    ("TRUNC(NULL / 0)", "NULL"),
-    ("MOD(NULL, 0)", "NULL"),
-    ("ABS(-3)", "3"),
-    ("SIGN(-3)", "-1"),
-    ("1 + NULL", "NULL"),
-    ("NULL * 2", "NULL"),
-    ("1 + 'a'", "ORA-00932"),
-    ("999999999999999999 * 2 * TRUNC(1 / 0)", "ORA-01426"),
-    ("TRUNC(1 / 0) + 999999999999999999 * 2", "ORA-01476"),
-    ("'a' + TRUNC(1 / 0)", "ORA-01476"),
-];
+static NUMBERS: &str = r#"
+999999999999999999 + 1~ORA-01426~
+1000000000000000000~EBR-0022~
+TRUNC(-7 / 2)~-3~
+MOD(-7, 2)~-1~
+MOD(7, 0)~7~
+MOD(1, TO_NUMBER('x'))~ORA-01722~
+1 + 2 * 3~7~
+10 - 2 - 3~5~
+2 * 3 * 4~24~
+-5~-5~
+-(-5)~5~
++5~5~
++NULL~NULL~
++'a'~ORA-00932~
++TRUE~ORA-00932~
+-NULL~NULL~
+-'a'~ORA-00932~
+-999999999999999999~-999999999999999999~
+-999999999999999999 - 1~ORA-01426~
+999999999 * 999999999~999999998000000001~
+1000000000 * 1000000000~ORA-01426~
+TRUNC(7 / 0)~ORA-01476~
+TRUNC(NULL / 0)~NULL~
+MOD(NULL, 0)~NULL~
+ABS(-3)~3~
+SIGN(-3)~-1~
+1 + NULL~NULL~
+NULL * 2~NULL~
+1 + 'a'~ORA-00932~
+999999999999999999 * 2 * TRUNC(1 / 0)~ORA-01426~
+TRUNC(1 / 0) + 999999999999999999 * 2~ORA-01476~
+'a' + TRUNC(1 / 0)~ORA-01476~
+"#;
 
 #[test]
 fn numbers_are_computed_in_order(rt: HostRuntime) -> Result<(), Fail> {
-    all_give(&rt, rt.alloc(), &NUMBERS)
+    all_give(&rt, rt.alloc(), NUMBERS)
 }
 
 /// Texts, and functions.
-static TEXTS: [Row; 31] = [
-    ("'a' || 'b' || 'c'", "abc"),
-    ("'a' || NULL", "a"),
-    ("NULL || ''", "NULL"),
-    ("''", "NULL"),
-    ("'n ' || -5", "n -5"),
-    ("1 || 2", "12"),
-    ("'x' || TRUE", "ORA-00932"),
-    ("'1' || 2 - 2", "ORA-00932"),
-    ("NVL('', 'e')", "e"),
-    ("NVL(1, 2)", "1"),
-    ("NVL(1, TRUNC(1 / 0))", "ORA-01476"),
-    ("NVL(1, 'a')", "ORA-00932"),
-    ("UPPER('aB1')", "AB1"),
-    ("LOWER('aB1')", "ab1"),
-    ("LENGTH('abc')", "3"),
-    ("LENGTH('')", "NULL"),
-    ("SUBSTR('hello', 2)", "ello"),
-    ("SUBSTR('hello', 2, 3)", "ell"),
-    ("SUBSTR('hello', 0, 2)", "he"),
-    ("SUBSTR('hello', -3, 2)", "ll"),
-    ("SUBSTR('hello', 6)", "NULL"),
-    ("INSTR('hello', 'l')", "3"),
-    ("INSTR('hello', 'z')", "0"),
-    ("TO_CHAR(-12)", "-12"),
-    ("TO_NUMBER(' -12 ')", "-12"),
-    ("TO_NUMBER('1 2')", "ORA-01722"),
-    ("MOD(7)", "ORA-00932"),
-    ("MOD(7, 2, 1)", "ORA-00932"),
-    ("SUBSTR('a', 1, 1, 1)", "ORA-00932"),
-    ("ABS()", "ORA-00932"),
-    ("ABS(1, TRUNC(1 / 0))", "ORA-01476"),
-];
+static TEXTS: &str = r#"
+'a' || 'b' || 'c'~abc~
+'a' || NULL~a~
+NULL || ''~NULL~
+''~NULL~
+'n ' || -5~n -5~
+1 || 2~12~
+'x' || TRUE~ORA-00932~
+'1' || 2 - 2~ORA-00932~
+NVL('', 'e')~e~
+NVL(1, 2)~1~
+NVL(1, TRUNC(1 / 0))~ORA-01476~
+NVL(1, 'a')~ORA-00932~
+UPPER('aB1')~AB1~
+LOWER('aB1')~ab1~
+LENGTH('abc')~3~
+LENGTH('')~NULL~
+SUBSTR('hello', 2)~ello~
+SUBSTR('hello', 2, 3)~ell~
+SUBSTR('hello', 0, 2)~he~
+SUBSTR('hello', -3, 2)~ll~
+SUBSTR('hello', 6)~NULL~
+INSTR('hello', 'l')~3~
+INSTR('hello', 'z')~0~
+TO_CHAR(-12)~-12~
+TO_NUMBER(' -12 ')~-12~
+TO_NUMBER('1 2')~ORA-01722~
+MOD(7)~ORA-00932~
+MOD(7, 2, 1)~ORA-00932~
+SUBSTR('a', 1, 1, 1)~ORA-00932~
+ABS()~ORA-00932~
+ABS(1, TRUNC(1 / 0))~ORA-01476~
+"#;
 
 #[test]
 fn texts_are_joined_and_cut(rt: HostRuntime) -> Result<(), Fail> {
-    all_give(&rt, rt.alloc(), &TEXTS)
+    all_give(&rt, rt.alloc(), TEXTS)
 }
 
 /// Comparisons and logic. The right operand isn't computed after FALSE AND and TRUE OR.
-static TRUTHS: [Row; 33] = [
-    ("1 = 1", "TRUE"),
-    ("1 <> 1", "FALSE"),
-    ("1 < 2", "TRUE"),
-    ("2 <= 1", "FALSE"),
-    ("1 > 2", "FALSE"),
-    ("2 >= 2", "TRUE"),
-    ("NULL = NULL", "NULL"),
-    ("1 <> NULL", "NULL"),
-    ("'a' < 'ab'", "TRUE"),
-    ("'B' < 'a'", "TRUE"),
-    ("1 = '1'", "ORA-00932"),
-    ("TRUE = FALSE", "FALSE"),
-    ("TRUE < FALSE", "ORA-00932"),
-    ("NOT 1 = 1", "FALSE"),
-    ("NOT NULL", "NULL"),
-    ("NOT 1", "ORA-00932"),
-    ("TRUE AND TRUE", "TRUE"),
-    ("TRUE AND NULL", "NULL"),
-    ("FALSE AND NULL", "FALSE"),
-    ("NULL AND FALSE", "FALSE"),
-    ("NULL OR TRUE", "TRUE"),
-    ("NULL OR FALSE", "NULL"),
-    ("FALSE OR FALSE", "FALSE"),
-    ("FALSE AND TRUNC(1 / 0) = 1", "FALSE"),
-    ("TRUE OR TRUNC(1 / 0) = 1", "TRUE"),
-    ("NULL AND TRUNC(1 / 0) = 1", "ORA-01476"),
-    ("TRUNC(1 / 0) = 1 AND FALSE", "ORA-01476"),
-    ("FALSE AND 1", "FALSE"),
-    ("TRUE AND 1", "ORA-00932"),
-    ("1 AND FALSE", "ORA-00932"),
-    ("TRUE AND FALSE AND TRUNC(1 / 0) = 1 AND 2", "FALSE"),
-    ("FALSE OR NULL OR TRUE OR TRUNC(1 / 0) = 1", "TRUE"),
-    ("TRUE AND FALSE OR TRUE", "TRUE"),
-];
+static TRUTHS: &str = r#"
+1 = 1~TRUE~
+1 <> 1~FALSE~
+1 < 2~TRUE~
+2 <= 1~FALSE~
+1 > 2~FALSE~
+2 >= 2~TRUE~
+NULL = NULL~NULL~
+1 <> NULL~NULL~
+'a' < 'ab'~TRUE~
+'B' < 'a'~TRUE~
+1 = '1'~ORA-00932~
+TRUE = FALSE~FALSE~
+TRUE < FALSE~ORA-00932~
+NOT 1 = 1~FALSE~
+NOT NULL~NULL~
+NOT 1~ORA-00932~
+TRUE AND TRUE~TRUE~
+TRUE AND NULL~NULL~
+FALSE AND NULL~FALSE~
+NULL AND FALSE~FALSE~
+NULL OR TRUE~TRUE~
+NULL OR FALSE~NULL~
+FALSE OR FALSE~FALSE~
+FALSE AND TRUNC(1 / 0) = 1~FALSE~
+TRUE OR TRUNC(1 / 0) = 1~TRUE~
+NULL AND TRUNC(1 / 0) = 1~ORA-01476~
+TRUNC(1 / 0) = 1 AND FALSE~ORA-01476~
+FALSE AND 1~FALSE~
+TRUE AND 1~ORA-00932~
+1 AND FALSE~ORA-00932~
+TRUE AND FALSE AND TRUNC(1 / 0) = 1 AND 2~FALSE~
+FALSE OR NULL OR TRUE OR TRUNC(1 / 0) = 1~TRUE~
+TRUE AND FALSE OR TRUE~TRUE~
+"#;
 
 #[test]
 fn logic_has_three_values(rt: HostRuntime) -> Result<(), Fail> {
-    all_give(&rt, rt.alloc(), &TRUTHS)
+    all_give(&rt, rt.alloc(), TRUTHS)
 }
 
 /// BETWEEN, IN, LIKE and IS NULL.
-static TESTS: [Row; 35] = [
-    ("2 BETWEEN 1 AND 3", "TRUE"),
-    ("4 NOT BETWEEN 1 AND 3", "TRUE"),
-    ("NULL BETWEEN 1 AND 3", "NULL"),
-    ("2 BETWEEN NULL AND 1", "FALSE"),
-    ("2 BETWEEN NULL AND 3", "NULL"),
-    ("2 NOT BETWEEN NULL AND 1", "TRUE"),
-    ("'b' BETWEEN 'a' AND 'c'", "TRUE"),
-    ("0 BETWEEN 1 AND TRUNC(1 / 0)", "FALSE"),
-    ("2 BETWEEN 1 AND TRUNC(1 / 0)", "ORA-01476"),
-    ("0 BETWEEN 1 AND 'x'", "FALSE"),
-    ("2 BETWEEN 1 AND 'x'", "ORA-00932"),
-    ("2 IN (1, 2)", "TRUE"),
-    ("3 IN (1, 2)", "FALSE"),
-    ("3 IN (1, NULL)", "NULL"),
-    ("1 IN (NULL, 1)", "TRUE"),
-    ("NULL IN (1)", "NULL"),
-    ("1 IN (1, TRUNC(1 / 0))", "TRUE"),
-    ("2 IN (1, TRUNC(1 / 0))", "ORA-01476"),
-    ("1 IN (1, 'a')", "TRUE"),
-    ("1 IN ('a', 1)", "ORA-00932"),
-    ("3 NOT IN (1, 2)", "TRUE"),
-    ("3 NOT IN (1, NULL)", "NULL"),
-    ("1 NOT IN (1, NULL)", "FALSE"),
-    ("'hello' LIKE 'h%o'", "TRUE"),
-    ("'hello' LIKE 'h_llo'", "TRUE"),
-    ("'hello' LIKE 'hell'", "FALSE"),
-    ("'hello' NOT LIKE 'x%'", "TRUE"),
-    ("NULL LIKE 'x'", "NULL"),
-    ("NULL NOT LIKE 'x'", "NULL"),
-    ("'a' LIKE 1", "ORA-00932"),
-    ("NULL IS NULL", "TRUE"),
-    ("'' IS NULL", "TRUE"),
-    ("1 IS NULL", "FALSE"),
-    ("1 IS NOT NULL", "TRUE"),
-    ("TRUNC(1 / 0) IS NULL", "ORA-01476"),
-];
+static TESTS: &str = r#"
+2 BETWEEN 1 AND 3~TRUE~
+4 NOT BETWEEN 1 AND 3~TRUE~
+NULL BETWEEN 1 AND 3~NULL~
+2 BETWEEN NULL AND 1~FALSE~
+2 BETWEEN NULL AND 3~NULL~
+2 NOT BETWEEN NULL AND 1~TRUE~
+'b' BETWEEN 'a' AND 'c'~TRUE~
+0 BETWEEN 1 AND TRUNC(1 / 0)~FALSE~
+2 BETWEEN 1 AND TRUNC(1 / 0)~ORA-01476~
+0 BETWEEN 1 AND 'x'~FALSE~
+2 BETWEEN 1 AND 'x'~ORA-00932~
+2 IN (1, 2)~TRUE~
+3 IN (1, 2)~FALSE~
+3 IN (1, NULL)~NULL~
+1 IN (NULL, 1)~TRUE~
+NULL IN (1)~NULL~
+1 IN (1, TRUNC(1 / 0))~TRUE~
+2 IN (1, TRUNC(1 / 0))~ORA-01476~
+1 IN (1, 'a')~TRUE~
+1 IN ('a', 1)~ORA-00932~
+3 NOT IN (1, 2)~TRUE~
+3 NOT IN (1, NULL)~NULL~
+1 NOT IN (1, NULL)~FALSE~
+'hello' LIKE 'h%o'~TRUE~
+'hello' LIKE 'h_llo'~TRUE~
+'hello' LIKE 'hell'~FALSE~
+'hello' NOT LIKE 'x%'~TRUE~
+NULL LIKE 'x'~NULL~
+NULL NOT LIKE 'x'~NULL~
+'a' LIKE 1~ORA-00932~
+NULL IS NULL~TRUE~
+'' IS NULL~TRUE~
+1 IS NULL~FALSE~
+1 IS NOT NULL~TRUE~
+TRUNC(1 / 0) IS NULL~ORA-01476~
+"#;
 
 #[test]
 fn tests_go_by_their_formulas(rt: HostRuntime) -> Result<(), Fail> {
-    all_give(&rt, rt.alloc(), &TESTS)
+    all_give(&rt, rt.alloc(), TESTS)
 }
 
 /// What has no value in a statement of SQL where no names are known.
-static UNKNOWN: [Row; 12] = [
-    ("a", "ORA-00904"),
-    ("a.b", "ORA-00904"),
-    (":NEW.a", "ORA-00904"),
-    ("SQLCODE", "ORA-00904"),
-    ("INSERTING", "ORA-00904"),
-    ("SQL%ROWCOUNT", "ORA-00904"),
-    ("f(1)", "ORA-00904"),
-    ("f(TRUNC(1 / 0))", "ORA-00904"),
-    ("TRUNC(1)", "ORA-00904"),
-    ("p.MOD(1, 2)", "ORA-00904"),
-    ("COUNT(1)", "ORA-00904"),
-    ("FALSE AND a = 1", "FALSE"),
-];
+static UNKNOWN: &str = r#"
+a~ORA-00904~
+a.b~ORA-00904~
+:NEW.a~ORA-00904~
+SQLCODE~ORA-00904~
+INSERTING~ORA-00904~
+SQL%ROWCOUNT~ORA-00904~
+f(1)~ORA-00904~
+f(TRUNC(1 / 0))~ORA-00904~
+TRUNC(1)~ORA-00904~
+p.MOD(1, 2)~ORA-00904~
+COUNT(1)~ORA-00904~
+FALSE AND a = 1~FALSE~
+"#;
 
 #[test]
 fn what_has_no_value_is_refused(rt: HostRuntime) -> Result<(), Fail> {
-    all_give(&rt, rt.alloc(), &UNKNOWN)
+    all_give(&rt, rt.alloc(), UNKNOWN)
 }
 
 fn text(alloc: Global, content: &[u8]) -> Result<Value, NoMemory> {

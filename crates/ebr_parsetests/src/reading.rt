@@ -14,9 +14,6 @@ use std::fmt::Debug;
 use std::process::Abort;
 use std::test::Fail;
 
-/// A text, and the tree that it spells as it is printed; None where it spells none.
-pub type Row = (&'static str, Option<&'static str>);
-
 /// What a text is read as: all of it, or what stands first in it, printed with a number of tokens.
 #[derive(Clone, Copy)]
 pub enum By {
@@ -175,30 +172,51 @@ fn spelled(alloc: Global, by: By, text: &str) -> Result<Option<String>, NoMemory
     tree_of(alloc, by, tokens.as_slice())
 }
 
+/// The first row of a table, and the rows behind it; None where no row is left. A row is a text and what it gives, with
+/// `~` behind each. One literal is proved at once, and an array of texts row by row.
+pub fn first_row(table: &'static str) -> Option<(&'static str, &'static str, &'static str)> {
+    let Some((text, rest)) = table.split_once('~') else {
+        return None;
+    };
+    match rest.split_once('~') {
+        Some((given, rest)) => Some((text, given, rest)),
+        None => Some((text, "what the row lacks", "")),
+    }
+}
+
+/// A tree as it is printed; nothing stands for none.
+fn wanted_tree(tree: &str) -> Option<&str> {
+    if tree.is_empty() { None } else { Some(tree) }
+}
+
 /// What the text spells, where its row says otherwise.
-fn fault(alloc: Global, by: By, row: Row) -> Result<Option<String>, NoMemory> {
-    let (text, tree) = row;
+fn fault(alloc: Global, by: By, text: &str, tree: &str) -> Result<Option<String>, NoMemory> {
     let found = spelled(alloc, by, text)?;
-    if found.as_deref() == tree {
+    if found.as_deref() == wanted_tree(tree) {
         return Ok(None);
     }
     Ok(Some(format!(in alloc; "{text} spells {found:?}")?))
 }
 
 /// The first fault of the rows.
-fn first_fault(alloc: Global, by: By, rows: &[Row]) -> Result<Option<String>, NoMemory> {
-    for row in rows {
-        let found = fault(alloc, by, *row)?;
+fn first_fault(alloc: Global, by: By, table: &'static str) -> Result<Option<String>, NoMemory> {
+    let mut left = table;
+    for _ in 0..table.len() {
+        let Some((text, tree, rest)) = first_row(left) else {
+            return Ok(None);
+        };
+        let found = fault(alloc, by, text, tree)?;
         if found.is_some() {
             return Ok(found);
         }
+        left = rest;
     }
     Ok(None)
 }
 
-/// Each text of the rows spells the tree that stands beside it, or none.
-pub fn all_spell(rt: &impl Abort, alloc: Global, by: By, rows: &[Row]) -> Result<(), Fail> {
-    match first_fault(alloc, by, rows)? {
+/// Each text of the table spells the tree that stands beside it as it is printed, or none where nothing stands there.
+pub fn all_spell(rt: &impl Abort, alloc: Global, by: By, table: &'static str) -> Result<(), Fail> {
+    match first_fault(alloc, by, table)? {
         Some(fault) => panic!(rt; "{fault}"),
         None => Ok(()),
     }

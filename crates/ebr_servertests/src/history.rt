@@ -1,7 +1,9 @@
 //! What the history of a run has.
 
-use crate::run::{FIRST_CALLS, NO_FAULTS, TRY, UPGRADE, served};
+use crate::run::{FIRST_CALLS, NO_FAULTS, TRY, UPGRADE, release, served};
+use ebr_base::NoMemory;
 use ebr_server::{Answer, Ask, Entry};
+use std::alloc::Global;
 use std::test::Fail;
 
 /// What an entry is: its ask, and for a view the number of the edition in which its first object was made.
@@ -59,15 +61,28 @@ static UPGRADED: [Kind; 10] = [
     Kind::Leave,
 ];
 
-#[test]
-fn history_has_each_ask_with_what_its_edition_saw(rt: HostRuntime) -> Result<(), Fail> {
-    let rows: [(&[u8], &[Kind]); 2] = [(FIRST_CALLS, &FIRST), (UPGRADE, &UPGRADED)];
-    for (script, kinds) in rows {
-        let outcome = served(rt.alloc(), TRY, script, NO_FAULTS)?;
-        assert_eq!(rt; outcome.history.len(), kinds.len());
-        for (entry, kind) in outcome.history.as_slice().iter().zip(kinds) {
-            assert_eq!(rt; kind_of(entry), *kind);
+fn are(history: &[Entry], kinds: &[Kind]) -> bool {
+    if history.len() != kinds.len() {
+        return false;
+    }
+    for (entry, kind) in history.iter().zip(kinds) {
+        if kind_of(entry) != *kind {
+            return false;
         }
     }
+    true
+}
+
+fn leaves(alloc: Global, script: &[u8], kinds: &[Kind]) -> Result<bool, NoMemory> {
+    let outcome = served(alloc, TRY, script, NO_FAULTS)?;
+    let are = are(outcome.history.as_slice(), kinds);
+    release(outcome);
+    Ok(are)
+}
+
+#[test]
+fn history_has_each_ask_with_what_its_edition_saw(rt: HostRuntime) -> Result<(), Fail> {
+    assert!(rt; leaves(rt.alloc(), FIRST_CALLS, &FIRST)?);
+    assert!(rt; leaves(rt.alloc(), UPGRADE, &UPGRADED)?);
     Ok(())
 }

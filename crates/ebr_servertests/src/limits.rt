@@ -34,35 +34,55 @@ fn replies(alloc: Global, count: u32, last: &[u8]) -> Result<Bytes, NoMemory> {
     Ok(lines)
 }
 
+/// A piece so many times and once more, each with a name of its own: all but the last are done.
+fn fills(
+    alloc: Global,
+    count: u32,
+    head: &[u8],
+    tail: &[u8],
+    last: &[u8],
+) -> Result<bool, NoMemory> {
+    let script = many(alloc, count.saturating_add(1), head, tail)?;
+    let lines = replies(alloc, count, last)?;
+    prints(alloc, script.as_slice(), lines.as_slice())
+}
+
+const PROCEDURE_TAIL: &[u8] = b" IS BEGIN NULL; END;\n/\n";
+
 #[test]
 fn edition_sees_4096_objects(rt: HostRuntime) -> Result<(), Fail> {
     let alloc = rt.alloc();
-    let script = many(
-        alloc,
-        4097,
-        b"CREATE PROCEDURE p",
-        b" IS BEGIN NULL; END;\n/\n",
-    )?;
-    let lines = replies(alloc, 4096, b"EBR-0034\n")?;
-    prints(&rt, alloc, script.as_slice(), lines.as_slice())?;
+    assert!(rt;
+        fills(
+            alloc,
+            4096,
+            b"CREATE PROCEDURE p",
+            PROCEDURE_TAIL,
+            b"EBR-0034\n"
+        )?
+    );
     Ok(())
 }
 
 #[test]
 fn a_thousand_tables_live(rt: HostRuntime) -> Result<(), Fail> {
     let alloc = rt.alloc();
-    let script = many(alloc, 1001, b"CREATE TABLE t", b" (a NUMBER);\n")?;
-    let lines = replies(alloc, 1000, b"EBR-0037\n")?;
-    prints(&rt, alloc, script.as_slice(), lines.as_slice())?;
+    assert!(rt;
+        fills(
+            alloc,
+            1000,
+            b"CREATE TABLE t",
+            b" (a NUMBER);\n",
+            b"EBR-0037\n"
+        )?
+    );
     Ok(())
 }
 
 #[test]
 fn at_most_256_editions_live(rt: HostRuntime) -> Result<(), Fail> {
     let alloc = rt.alloc();
-    let script = many(alloc, 256, b"CREATE EDITION e", b";\n")?;
-    let lines = replies(alloc, 255, b"EBR-0035\n")?;
-    prints(&rt, alloc, script.as_slice(), lines.as_slice())?;
+    assert!(rt; fills(alloc, 255, b"CREATE EDITION e", b";\n", b"EBR-0035\n")?);
     Ok(())
 }
 
@@ -74,15 +94,13 @@ fn wide(alloc: Global, columns: u32) -> Result<Bytes, NoMemory> {
     Ok(script)
 }
 
+fn widens(alloc: Global, columns: u32, replies: &[u8]) -> Result<bool, NoMemory> {
+    prints(alloc, wide(alloc, columns)?.as_slice(), replies)
+}
+
 #[test]
 fn table_has_64_columns(rt: HostRuntime) -> Result<(), Fail> {
-    let alloc = rt.alloc();
-    prints(&rt, alloc, wide(alloc, 63)?.as_slice(), b"OK\nEBR-0036\n")?;
-    prints(
-        &rt,
-        alloc,
-        wide(alloc, 64)?.as_slice(),
-        b"EBR-0036\nORA-00942\n",
-    )?;
+    assert!(rt; widens(rt.alloc(), 63, b"OK\nEBR-0036\n")?);
+    assert!(rt; widens(rt.alloc(), 64, b"EBR-0036\nORA-00942\n")?);
     Ok(())
 }

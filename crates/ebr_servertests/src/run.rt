@@ -4,7 +4,6 @@ use ebr_base::{Bytes, List, NoMemory};
 use ebr_outside::{Fail, MemFile, MemHost, MemSink, MemSource};
 use ebr_server::{ExitCode, Outcome, serve};
 use std::alloc::Global;
-use std::process::Abort;
 
 pub type MemOutcome = Outcome<MemSource, MemSink>;
 
@@ -53,18 +52,35 @@ fn list_of(alloc: Global, fail: Option<Fail>) -> Result<List<Fail>, NoMemory> {
     Ok(list)
 }
 
+/// The file `s.sql` with these bytes.
+fn file_of(alloc: Global, script: &[u8], source: List<Fail>) -> Result<MemFile, NoMemory> {
+    let word = Bytes::from_slice(alloc, b"s.sql")?;
+    Ok(MemFile {
+        word,
+        bytes: Bytes::from_slice(alloc, script)?,
+        source,
+    })
+}
+
 /// The host in which `s.sql` has these bytes.
 fn host_of(alloc: Global, script: &[u8], faults: Faults) -> Result<MemHost, NoMemory> {
     let mut files = List::new(alloc);
-    files.push(MemFile {
-        word: Bytes::from_slice(alloc, b"s.sql")?,
-        bytes: Bytes::from_slice(alloc, script)?,
-        source: list_of(alloc, faults.source)?,
-    })?;
+    files.push(file_of(alloc, script, list_of(alloc, faults.source)?)?)?;
     let report = list_of(alloc, faults.report)?;
     let host = list_of(alloc, faults.host)?;
     Ok(MemHost::new(alloc, files, report, host))
 }
+
+fn words_of(alloc: Global, words: &[&[u8]]) -> Result<List<Bytes>, NoMemory> {
+    let mut owned = List::new(alloc);
+    for word in words {
+        owned.push(Bytes::from_slice(alloc, word)?)?;
+    }
+    Ok(owned)
+}
+
+/// Drops a value. It is generic so that for its caller the drop is one call.
+pub fn release<T: Drop>(_value: T) {}
 
 /// `serve` with these words, where `s.sql` has these bytes.
 pub fn served(
@@ -73,28 +89,61 @@ pub fn served(
     script: &[u8],
     faults: Faults,
 ) -> Result<MemOutcome, NoMemory> {
+    let owned = words_of(alloc, words)?;
     let mut host = host_of(alloc, script, faults)?;
-    let mut owned = List::new(alloc);
-    for word in words {
-        owned.push(Bytes::from_slice(alloc, word)?)?;
-    }
-    Ok(serve(alloc, owned.as_slice(), &mut host))
+    let outcome = serve(alloc, owned.as_slice(), &mut host);
+    release(host);
+    Ok(outcome)
 }
 
-/// A run ends with this code and this report.
-pub fn expect(rt: &impl Abort, outcome: &MemOutcome, code: ExitCode, report: &[u8]) {
-    assert_eq!(rt; outcome.code, code);
-    assert_eq!(rt; outcome.report.held(), report);
+/// Whether a run ended with this code and this report.
+pub fn ended(outcome: &MemOutcome, code: ExitCode, report: &[u8]) -> bool {
+    outcome.code == code && outcome.report.held() == report
 }
 
-/// A script is run to its end, with these replies.
-pub fn prints(
-    rt: &impl Abort,
-    alloc: Global,
-    script: &[u8],
-    replies: &[u8],
-) -> Result<(), NoMemory> {
+/// Whether a script is run to its end, with these replies.
+pub fn prints(alloc: Global, script: &[u8], replies: &[u8]) -> Result<bool, NoMemory> {
     let outcome = served(alloc, TRY, script, NO_FAULTS)?;
-    expect(rt, &outcome, ExitCode::Done, replies);
-    Ok(())
+    let done = ended(&outcome, ExitCode::Done, replies);
+    release(outcome);
+    Ok(done)
+}
+
+/// The first row of a table, and the rows behind it. A row is a title, a script and its replies, with `~` behind each.
+fn first_row(table: &'static str) -> Option<(&'static str, &'static str, &'static str)> {
+    let Some((_, rest)) = table.split_once('~') else {
+        return None;
+    };
+    let Some((script, rest)) = rest.split_once('~') else {
+        return None;
+    };
+    let Some((replies, rest)) = rest.split_once('~') else {
+        return None;
+    };
+    Some((script, replies, rest))
+}
+
+/// The rows behind the first one, or none where its replies are others.
+fn next_row(alloc: Global, table: &'static str) -> Result<Option<&'static str>, NoMemory> {
+    let Some((script, replies, rest)) = first_row(table) else {
+        return Ok(None);
+    };
+    if prints(alloc, script.as_bytes(), replies.as_bytes())? {
+        Ok(Some(rest))
+    } else {
+        Ok(None)
+    }
+}
+
+/// A table from the first row on whose replies are others; nothing where there is none. One literal is proved at once,
+/// and an array of texts row by row.
+pub fn wrong_from(alloc: Global, table: &'static str) -> Result<&'static str, NoMemory> {
+    let mut left = table;
+    for _ in 0..table.len() {
+        match next_row(alloc, left)? {
+            Some(rest) => left = rest,
+            None => return Ok(left),
+        }
+    }
+    Ok(left)
 }

@@ -1,10 +1,9 @@
 //! Scripts with the kinds of their pieces, and stored texts.
 
 use ebr_ast::Statement;
-use ebr_base::{Bytes, Code, NoMemory};
+use ebr_base::{Bytes, Code, List, NoMemory};
 use ebr_script::{Piece, PieceKind, pieces, stored, text_of};
 use std::alloc::Global;
-use std::process::Abort;
 use std::test::Fail;
 
 /// What a piece is: a tree of a kind, or the number of its code.
@@ -40,18 +39,34 @@ fn kind_of(piece: &Piece) -> Told {
 /// A piece that is expected: where it stands, and what it is.
 type Row = (u32, u32, Told);
 
-fn check(rt: &impl Abort, alloc: Global, script: &[u8], rows: &[Row]) -> Result<(), NoMemory> {
-    assert!(rt; script.len() < 100, "a short script");
-    let found = pieces(alloc, script)?;
-    assert_eq!(rt; found.len(), rows.len(), "pieces of {script:?}");
-    for (piece, row) in found.as_slice().iter().zip(rows) {
-        assert_eq!(rt;
-            (piece.from, piece.to, kind_of(piece)),
-            *row,
-            "in {script:?}"
-        );
+/// Whether a piece stands there and is so.
+fn is(piece: &Piece, row: &Row) -> bool {
+    (piece.from, piece.to, kind_of(piece)) == *row
+}
+
+fn all_are(found: &[Piece], rows: &[Row]) -> bool {
+    if found.len() != rows.len() {
+        return false;
     }
-    Ok(())
+    for (piece, row) in found.iter().zip(rows) {
+        if !is(piece, row) {
+            return false;
+        }
+    }
+    true
+}
+
+/// The pieces of a script, which may not be long.
+fn short_pieces(alloc: Global, script: &[u8]) -> Result<List<Piece>, NoMemory> {
+    if script.len() >= 100000 {
+        return Err(NoMemory);
+    }
+    pieces(alloc, script)
+}
+
+fn has_kinds(alloc: Global, script: &[u8], rows: &[Row]) -> Result<bool, NoMemory> {
+    let found = short_pieces(alloc, script)?;
+    Ok(all_are(found.as_slice(), rows))
 }
 
 static KINDS: [(&[u8], &[Row]); 21] = [
@@ -110,9 +125,8 @@ static KINDS: [(&[u8], &[Row]); 21] = [
 
 #[test]
 fn pieces_have_their_kinds_or_codes(rt: HostRuntime) -> Result<(), Fail> {
-    let alloc = rt.alloc();
     for (script, rows) in &KINDS {
-        check(&rt, alloc, script, rows)?;
+        assert!(rt; has_kinds(rt.alloc(), script, rows)?, "{script:?}");
     }
     Ok(())
 }
@@ -135,15 +149,24 @@ fn repeated(
 }
 
 /// What the first piece is.
-fn first_told(rt: &impl Abort, alloc: Global, script: &[u8]) -> Result<Told, NoMemory> {
-    assert!(rt; script.len() < 100000, "not too long");
-    match pieces(alloc, script)?.get(0) {
-        Some(piece) => Ok(kind_of(piece)),
-        None => panic!(rt; "no piece"),
+fn first_told(alloc: Global, script: &[u8]) -> Result<Option<Told>, NoMemory> {
+    let found = short_pieces(alloc, script)?;
+    match found.get(0) {
+        Some(piece) => Ok(Some(kind_of(piece))),
+        None => Ok(None),
     }
 }
 
-static LIMITS: [(&[u8], &[u8], usize, &[u8], Told); 7] = [
+/// Front, middle, how many times, back; and what the first piece is.
+type Limit = (&'static [u8], &'static [u8], usize, &'static [u8], Told);
+
+fn is_told(alloc: Global, row: &Limit) -> Result<bool, NoMemory> {
+    let (front, text, count, back, told) = *row;
+    let script = repeated(alloc, front, text, count, back)?;
+    Ok(first_told(alloc, script.as_slice())? == Some(told))
+}
+
+static LIMITS: [Limit; 7] = [
     (b"", b"a", 128, b"", Told::Ora(900)),
     (b"", b"a", 129, b"", Told::Ebr(23)),
     (b"'", b"a", 32767, b"'", Told::Ora(900)),
@@ -155,20 +178,16 @@ static LIMITS: [(&[u8], &[u8], usize, &[u8], Told); 7] = [
 
 #[test]
 fn long_words_and_strings_and_deep_nesting_are_refused(rt: HostRuntime) -> Result<(), Fail> {
-    let alloc = rt.alloc();
-    for (front, text, count, back, told) in &LIMITS {
-        let script = repeated(alloc, front, text, *count, back)?;
-        assert_eq!(rt;
-            first_told(&rt, alloc, script.as_slice())?,
-            *told,
-            "{count} times {text:?}"
-        );
+    for row in &LIMITS {
+        assert!(rt; is_told(rt.alloc(), row)?);
     }
     Ok(())
 }
 
-fn is_stored(rt: &impl Abort, alloc: Global, text: &[u8]) -> Result<bool, NoMemory> {
-    assert!(rt; text.len() < 100, "a short text");
+fn is_stored(alloc: Global, text: &[u8]) -> Result<bool, NoMemory> {
+    if text.len() >= 100 {
+        return Err(NoMemory);
+    }
     Ok(stored(alloc, text)?.is_some())
 }
 
@@ -187,24 +206,22 @@ static STORED: [(&[u8], bool); 7] = [
 
 #[test]
 fn stored_texts_create_objects(rt: HostRuntime) -> Result<(), Fail> {
-    let alloc = rt.alloc();
     for (text, stores) in &STORED {
-        assert_eq!(rt; is_stored(&rt, alloc, text)?, *stores, "{text:?}");
+        assert!(rt; is_stored(rt.alloc(), text)? == *stores, "{text:?}");
     }
     Ok(())
 }
 
-/// The first piece of the script has this stored text.
-fn keeps(rt: &impl Abort, alloc: Global, script: &[u8], text: &[u8]) -> Result<(), NoMemory> {
-    assert!(rt; script.len() < 100, "a short script");
+/// Whether the first piece of the script has this stored text.
+fn keeps(alloc: Global, script: &[u8], text: &[u8]) -> Result<bool, NoMemory> {
+    if script.len() >= 100 {
+        return Err(NoMemory);
+    }
     let found = pieces(alloc, script)?;
     match found.get(0) {
-        Some(piece) => {
-            assert!(rt; text_of(script, piece) == text, "{text:?} of {script:?}");
-        }
-        None => panic!(rt; "no piece"),
+        Some(piece) => Ok(text_of(script, piece) == text),
+        None => Ok(false),
     }
-    Ok(())
 }
 
 static TEXTS: [(&[u8], &[u8]); 4] = [
@@ -219,9 +236,8 @@ static TEXTS: [(&[u8], &[u8]); 4] = [
 
 #[test]
 fn the_stored_text_goes_from_the_first_token_to_the_last(rt: HostRuntime) -> Result<(), Fail> {
-    let alloc = rt.alloc();
     for (script, text) in &TEXTS {
-        keeps(&rt, alloc, script, text)?;
+        assert!(rt; keeps(rt.alloc(), script, text)?, "{script:?}");
     }
     Ok(())
 }

@@ -1,13 +1,8 @@
 //! The program: `serve` over the files and the standard output of its process. Its exit status is that of the code.
 #![tactic(auto)]
 
-mod command_line;
-#[cfg(test)]
-mod tests;
-
-use command_line::words;
 use ebr_base::NoMemory;
-use ebr_outside::{FileHost, OutSink, Sink};
+use ebr_outside::{FileHost, OutSink, Sink, words};
 use ebr_server::serve;
 use std::process::ExitCode;
 

@@ -1,9 +1,9 @@
-//! What no clause says: that the calls succeed with ample memory.
+//! A cursor over tokens, where memory is ample.
 
 ghost use Rattle.std.specs.Prelude.{◌<◌, length};
 
-use crate::{Kind, ReadStop, Tokens, is_same, kind_of, unreserved_words_are_names};
 use ebr_base::{List, NoMemory};
+use ebr_grammar::{Kind, ReadStop, Tokens, is_same, kind_of, unreserved_words_are_names};
 use ebr_lexer::{LexStop, Token, lex};
 use std::alloc::Global;
 use std::process::Abort;

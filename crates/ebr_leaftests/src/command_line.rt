@@ -1,6 +1,6 @@
 //! The words of the command line, as bytes of any length.
 
-use crate::command_line::words;
+use ebr_outside::words;
 use std::alloc::Global;
 use std::env::{Env, FillError};
 use std::test::Fail;

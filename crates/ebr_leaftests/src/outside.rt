@@ -1,0 +1,232 @@
+//! Sources, sinks and hosts in memory, and those that are files and the standard output.
+
+use crate::answers::release;
+use ebr_base::{Bytes, List, NoMemory};
+use ebr_outside::{
+    Fail, Failed, FileHost, Host, HostErr, MemFile, MemHost, MemSink, MemSource, Sink, Source,
+};
+use std::alloc::Global;
+
+/// The call of this number fails, and with `onward` each later one.
+fn failing(alloc: Global, at: u32, onward: bool) -> Result<List<Fail>, NoMemory> {
+    let mut failing = List::new(alloc);
+    failing.push(Fail { at, onward })?;
+    Ok(failing)
+}
+
+fn file(alloc: Global, word: &[u8], bytes: &[u8], source: List<Fail>) -> Result<MemFile, NoMemory> {
+    Ok(MemFile {
+        word: Bytes::from_slice(alloc, word)?,
+        bytes: Bytes::from_slice(alloc, bytes)?,
+        source,
+    })
+}
+
+/// The first bytes, at most four, of what a word names.
+fn first_bytes<H: Host>(alloc: Global, host: &mut H, word: &[u8]) -> Result<Bytes, HostErr> {
+    let word = Bytes::from_slice(alloc, word)?;
+    let mut source = host.source(&word)?;
+    let mut into = [0; 4];
+    let Ok(n) = source.read(&mut into) else {
+        return Err(HostErr::Failed);
+    };
+    Ok(Bytes::from_slice(alloc, &into[..n])?)
+}
+
+/// What a read answers, and what the buffer then holds.
+static READS: [(Result<usize, Failed>, &[u8]); 4] = [
+    (Ok(3), b"abc"),
+    (Err(Failed), b"abc"),
+    (Ok(2), b"dec"),
+    (Ok(0), b"dec"),
+];
+
+fn reads(source: &mut MemSource) -> bool {
+    let mut into = [b'-'; 3];
+    for (answer, held) in &READS {
+        if source.read(&mut into) != *answer || into.as_slice() != *held {
+            return false;
+        }
+    }
+    true
+}
+
+fn source_goes_on(alloc: Global) -> Result<bool, NoMemory> {
+    let failing = failing(alloc, 2, false)?;
+    let mut source = MemSource::new(Bytes::from_slice(alloc, b"abcde")?, failing);
+    let goes = reads(&mut source);
+    release(source);
+    Ok(goes)
+}
+
+#[test]
+fn a_source_goes_on_after_a_failed_read(rt: HostRuntime) -> Result<(), std::test::Fail> {
+    assert!(rt; source_goes_on(rt.alloc())?);
+    Ok(())
+}
+
+/// A piece, what its write answers, and what the sink then holds.
+type Write = (&'static [u8], Result<usize, Failed>, &'static [u8]);
+
+static WRITES: [Write; 4] = [
+    (b"one ", Ok(4), b"one "),
+    (b"two", Ok(3), b"one two"),
+    (b"three", Err(Failed), b"one two"),
+    (b"four", Err(Failed), b"one two"),
+];
+
+static LOST: [Write; 1] = [(b"lost", Err(Failed), b"")];
+
+static KEPT: [Write; 1] = [(b"kept", Ok(4), b"kept")];
+
+fn holds(sink: &MemSink, held: &[u8]) -> bool {
+    sink.held() == held
+}
+
+fn writes_row(sink: &mut MemSink, row: &Write) -> bool {
+    let (piece, answer, held) = *row;
+    !piece.is_empty() && sink.write(piece) == answer && holds(sink, held)
+}
+
+fn writes(sink: &mut MemSink, rows: &[Write]) -> bool {
+    for row in rows {
+        if !writes_row(sink, row) {
+            return false;
+        }
+    }
+    true
+}
+
+fn sink_keeps(alloc: Global) -> Result<bool, NoMemory> {
+    let mut sink = MemSink::new(alloc, failing(alloc, 3, true)?);
+    let keeps = writes(&mut sink, &WRITES);
+    release(sink);
+    Ok(keeps)
+}
+
+#[test]
+fn a_sink_keeps_what_it_had_when_writes_fail_onward(
+    rt: HostRuntime,
+) -> Result<(), std::test::Fail> {
+    assert!(rt; sink_keeps(rt.alloc())?);
+    Ok(())
+}
+
+/// A word, and the first bytes of what it names; None where the host fails.
+type Named = (&'static [u8], Option<&'static [u8]>);
+
+fn is(bytes: &Bytes, wanted: Option<&[u8]>) -> bool {
+    match wanted {
+        Some(wanted) => bytes.as_slice() == wanted,
+        None => false,
+    }
+}
+
+/// Whether a word names these bytes, or the host fails.
+fn names<H: Host>(alloc: Global, host: &mut H, row: &Named) -> bool {
+    let (word, wanted) = *row;
+    match first_bytes(alloc, host, word) {
+        Ok(bytes) => is(&bytes, wanted),
+        Err(HostErr::Failed) => wanted.is_none(),
+        Err(HostErr::NoMemory) => false,
+    }
+}
+
+fn all_name<H: Host>(alloc: Global, host: &mut H, rows: &[Named]) -> bool {
+    for row in rows {
+        if !names(alloc, host, row) {
+            return false;
+        }
+    }
+    true
+}
+
+fn files(alloc: Global) -> Result<List<MemFile>, NoMemory> {
+    let mut files = List::new(alloc);
+    files.push(file(alloc, b"a.sql", b"first", List::new(alloc))?)?;
+    files.push(file(alloc, b"a.sql", b"second", List::new(alloc))?)?;
+    files.push(file(alloc, b"b.sql", b"b", failing(alloc, 1, true)?)?)?;
+    Ok(files)
+}
+
+/// A host with these files, whose first report and whose third call fail.
+fn host(alloc: Global) -> Result<MemHost, NoMemory> {
+    let files = files(alloc)?;
+    let report = failing(alloc, 1, false)?;
+    Ok(MemHost::new(alloc, files, report, failing(alloc, 3, false)?))
+}
+
+static FILES: [Named; 5] = [
+    (b"a.sql", Some(b"firs")),
+    (b"a", None),
+    (b"a.sql", None),
+    (b"a.sql", Some(b"firs")),
+    (b"b.sql", None),
+];
+
+fn host_names(alloc: Global) -> Result<bool, NoMemory> {
+    let mut host = host(alloc)?;
+    let names = all_name(alloc, &mut host, &FILES);
+    release(host);
+    Ok(names)
+}
+
+#[test]
+fn a_host_gives_the_first_file_of_a_word(rt: HostRuntime) -> Result<(), std::test::Fail> {
+    assert!(rt; host_names(rt.alloc())?);
+    Ok(())
+}
+
+/// Whether the next report of a host takes the pieces so.
+fn reports(host: &mut MemHost, rows: &[Write]) -> bool {
+    let mut report = host.report();
+    let reports = writes(&mut report, rows);
+    release(report);
+    reports
+}
+
+fn first_report_fails(alloc: Global) -> Result<bool, NoMemory> {
+    let report = failing(alloc, 1, true)?;
+    let mut host = MemHost::new(alloc, List::new(alloc), report, List::new(alloc));
+    let fails = reports(&mut host, &LOST) && reports(&mut host, &KEPT);
+    release(host);
+    Ok(fails)
+}
+
+#[test]
+fn only_the_first_report_of_a_host_fails(rt: HostRuntime) -> Result<(), std::test::Fail> {
+    assert!(rt; first_report_fails(rt.alloc())?);
+    Ok(())
+}
+
+#[test]
+fn a_refusal_of_a_host_is_printed_by_its_cause(rt: HostRuntime) -> Result<(), std::test::Fail> {
+    let alloc = rt.alloc();
+    let memory = HostErr::from(NoMemory);
+    let text = format!(in alloc; "{}, {}", HostErr::Failed, memory)?;
+    assert_eq!(rt; text.as_str(), "the host failed, out of memory");
+    Ok(())
+}
+
+static SYSTEM: [Named; 6] = [
+    (b"/dev/zero", Some(b"\0\0\0\0")),
+    (b"/dev/null", Some(b"")),
+    (b"/", None),
+    (b"/dev/null/missing", None),
+    (b"/dev/nul\0l", None),
+    (b"\xff", None),
+];
+
+#[test]
+fn files_that_cannot_be_read_are_faults(rt: HostRuntime) -> Result<(), std::test::Fail> {
+    let mut host = FileHost::new(rt);
+    assert!(rt; all_name(rt.alloc(), &mut host, &SYSTEM));
+    Ok(())
+}
+
+#[test]
+fn standard_output_takes_bytes(rt: HostRuntime) -> Result<(), std::test::Fail> {
+    let mut report = FileHost::new(rt).report();
+    assert_eq!(rt; report.write(b"\n"), Ok(1));
+    Ok(())
+}
