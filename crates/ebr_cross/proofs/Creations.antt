@@ -16,11 +16,11 @@ use Rattle.ebr_cross.specs.declared.record.CatalogueRecord.{CatalogueRecord}
 use Rattle.ebr_cross.specs.declared.record.CatalogueRecord.TheVariants as made
 use Rattle.ebr_cross.specs.Catalogue.{Lists, visible, table_in}
 use Rattle.ebr_cross.specs.Kinds.{unit_key}
-use Rattle.ebr_cross.specs.Columns.{column_of, is_bad_table, table_of}
+use Rattle.ebr_columns.specs.Columns.{column_of, is_bad_table, table_of}
 use Rattle.ebr_cross.specs.Definitions.{recording, is_taken, create_table, object_of, name_refusals, tree_refusals, is_full, created_object, put_object}
 use Rattle.ebr_cross.specs.inside.Steps.{first_table_refusal, made_table}
 use Rattle.ebr_cross.proofs.Applied.{first-of-two, none-of-first}
-use Rattle.ebr_cross.proofs.TableTrees.{allowed, length-same}
+use Rattle.ebr_columns.proofs.TableTrees.{allowed, length-same}
 
 -- CREATE of an object is refused by its name or its tree
 pub named-refused : (c : Lists) (e : EditionNo) (replace : Bool) (k : ObjectKind) (key wanted : ObjectKey) (u : UnitTree) (o : Object) (code : Code) (r : Option Code) → key ≡ wanted

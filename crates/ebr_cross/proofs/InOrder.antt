@@ -13,7 +13,7 @@ use Rattle.ebr_base.specs.declared.object.Class.{Class}
 use Rattle.ebr_base.specs.declared.object.Class.TheVariants as class
 use Rattle.ebr_base.specs.declared.object.ObjectKey.{ObjectKey}
 use Rattle.ebr_base.specs.contracts.object.ObjectKeyOrd.TheImpl.{ghosts}
-use Rattle.ebr_cross.specs.Catalogue.{key_order}
+use Rattle.ebr_base.specs.Keys.{key_order}
 
 key : Class → List ℕ → ObjectKey
 key c n = record { class = c; name = n }
@@ -47,7 +47,7 @@ insert-now (x ∷ ks) k =
     by-order (map (λ (y : Bor ObjectKey). y.now)) (ghosts.cmp k.now x.now) (k ∷ x ∷ ks) (x ∷ ks) (x ∷ insert_key (λ (a b : Bor ObjectKey). ghosts.cmp a.now b.now) ks k)
     ∙ ap (λ zs. match_ordering (ghosts.cmp k.now x.now) (k.now ∷ x.now ∷ map (λ (y : Bor ObjectKey). y.now) ks) (x.now ∷ map (λ (y : Bor ObjectKey). y.now) ks) (x.now ∷ zs)) (insert-now ks k)
 
-fold-push : {A B : Type 0} (f : B → A → B) (b : B) (xs : List A) (x : A) → fold f b (xs ++ x ∷ []) ≡ f (fold f b xs) x
+pub fold-push : {A B : Type 0} (f : B → A → B) (b : B) (xs : List A) (x : A) → fold f b (xs ++ x ∷ []) ≡ f (fold f b xs) x
 fold-push f b [] x = refl
 fold-push f b (y ∷ xs) x = fold-push f (f b y) xs x
 

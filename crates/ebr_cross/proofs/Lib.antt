@@ -1,7 +1,8 @@
 pub mod Applied
-pub mod TableTrees
 pub mod TableIds
 pub mod SeenObjects
 pub mod Creations
 pub mod InOrder
-pub mod Distinct
+pub mod Placed
+pub mod OwnKeys
+pub mod Seen

@@ -7,7 +7,8 @@ use Rattle.std.proofs.lemmas.Bool.Decides.{nat_tests}
 use Rattle.ebr_base.specs.declared.numbers.TableId.{TableId}
 use Rattle.ebr_base.specs.declared.table.Column.{Column}
 use Rattle.ebr_base.specs.declared.table.TableDef.{TableDef}
-use Rattle.ebr_tables.specs.Tables.{AllTables, AreTables, IdsAscend, table_named, add_answer, remove_answer, with_column, without_table}
+use Rattle.ebr_base.specs.Keys.{table_named}
+use Rattle.ebr_tables.specs.Tables.{AllTables, AreTables, IdsAscend, add_answer, remove_answer, with_column, without_table}
 use Rattle.ebr_cross.specs.declared.catalogue.Catalogue.{Catalogue}
 use Rattle.ebr_cross.specs.declared.record.CatalogueRecord.TheVariants as made
 use Rattle.ebr_cross.specs.Catalogue.{Lists, kept, table_in}

@@ -30,14 +30,15 @@ use Rattle.ebr_ast.specs.declared.unit.ViewItem.{ViewItem}
 use Rattle.ebr_ast.specs.declared.view.Object.{Object}
 use Rattle.ebr_editions.specs.declared.entry.EditionEntry.{EditionEntry}
 use Rattle.ebr_editions.specs.Editions.{first_edition, is_edition, edition_named, named_parent, create_answer, drop_answer}
-use Rattle.ebr_editions.specs.Objects.{same_key, with_entry, next_stamp, actual_object, keys_of, visible_count, max_objects}
+use Rattle.ebr_base.specs.Keys.{same_key}
+use Rattle.ebr_editions.specs.Objects.{with_entry, next_stamp, actual_object, keys_of, visible_count, max_objects}
 use Rattle.ebr_tables.specs.Definitions.{has_repetition}
 use Rattle.ebr_tables.specs.Tables.{first_refusal, unless_refused, add_answer, remove_answer, next_id, kept_as}
 use Rattle.ebr_cross.specs.declared.catalogue.Catalogue.{Catalogue}
 use Rattle.ebr_cross.specs.declared.record.CatalogueRecord.{CatalogueRecord}
 use Rattle.ebr_cross.specs.declared.record.CatalogueRecord.TheVariants as made
 use Rattle.ebr_cross.specs.Catalogue.{Lists, ForLists, kept, visible, table_in}
-use Rattle.ebr_cross.specs.Columns.{column_type, is_bad_table, table_of}
+use Rattle.ebr_columns.specs.Columns.{column_type, is_bad_table, table_of}
 use Rattle.ebr_cross.specs.Kinds.{kind_of, name_of, key_of, unit_key, is_unit_class, is_of_kind}
 use Rattle.ebr_cross.specs.Records.{with_record}
 

@@ -1,19 +1,21 @@
 -- What each record leaves in the catalogue. A record is what a definition leaves for ever, so the catalogue of a database
 -- is read off its records in order, from the first lists on.
-use Rattle.std.specs.Prelude.{◌==◌, suc, ℕ, Bool, List, [], ◌∷◌, ◌++◌, Option, Some, None, option_map, find}
+use Rattle.std.specs.Prelude.{◌≡◌, ◌==◌, suc, ℕ, Bool, List, [], ◌∷◌, ◌++◌, Option, Some, None, option_map, find}
 use Rattle.std.specs.Option.{unwrap_or}
 use Rattle.ebr_base.specs.declared.numbers.EditionNo.{EditionNo}
 use Rattle.ebr_base.specs.declared.numbers.TableId.{TableId}
 use Rattle.ebr_base.specs.declared.object.ObjectKey.{ObjectKey}
 use Rattle.ebr_base.specs.declared.table.TableDef.{TableDef}
 use Rattle.ebr_ast.specs.declared.definition.ObjectKind.TheVariants as kind
+use Rattle.ebr_ast.specs.declared.view.EditionView.{EditionView}
 use Rattle.ebr_ast.specs.declared.view.Object.{Object}
 use Rattle.ebr_editions.specs.Editions.{Editions, new_edition, without_edition}
 use Rattle.ebr_editions.specs.Objects.{with_entry, without_both}
 use Rattle.ebr_tables.specs.Tables.{AllTables, with_column, without_table}
 use Rattle.ebr_cross.specs.declared.record.CatalogueRecord.{CatalogueRecord}
 use Rattle.ebr_cross.specs.declared.record.CatalogueRecord.TheVariants as made
-use Rattle.ebr_cross.specs.Catalogue.{Lists}
+use Rattle.ebr_cross.specs.declared.catalogue.Catalogue.{Catalogue}
+use Rattle.ebr_cross.specs.Catalogue.{Lists, HaveOwnKeys, IsViewOf, kept}
 use Rattle.ebr_cross.specs.Kinds.{key_of}
 
 -- one more edition, below its parent
@@ -46,3 +48,7 @@ with_record c (made.PackageGone e name) = record c { entries = without_both c.ed
 with_record c (made.Table d) = record c { tables = with_definition c.tables d }
 with_record c (made.Column id column) = record c { tables = with_column c.tables (table_name c.tables id) column }
 with_record c (made.TableGone id) = record c { tables = without_table c.tables (table_name c.tables id) }
+
+-- This is so of whichever lists a view is of, where a record led from them to what the catalogue keeps.
+abbrev pub ForChanged : Catalogue → EditionView → CatalogueRecord → (Lists → Type 0) → Type 0
+ForChanged now v r P = (c : Lists) → HaveOwnKeys c → IsViewOf c v.edition v → now ≡ kept (with_record c r) → P c

@@ -2,8 +2,9 @@
 
 ghost use Rattle.std.specs.Prelude.{◌≡◌, IfOk};
 ghost use Rattle.std.specs.Option.{option_copied};
-ghost use Rattle.ebr_cross.specs.Catalogue.{first_lists, kept, ForLists, visible, table_in};
+ghost use Rattle.ebr_cross.specs.Catalogue.{first_lists, kept, ForLists, HaveOwnKeys, visible, table_in};
 ghost use Rattle.ebr_cross.specs.Definitions.{outcome, set_edition, Applies};
+ghost use Rattle.ebr_cross.specs.Records.{with_record};
 
 use crate::record::CatalogueRecord;
 use ebr_ast::{Definition, Object};
@@ -41,7 +42,24 @@ impl Catalogue {
     /// `sessions` are the editions in which sessions are, which DROP EDITION spares. `text` is the stored text of the object
     /// that the definition creates, from its first token to its last; where it creates none it is not read.
     ///
-    /// Each refusal is named in `specs/Definitions.antt`, in the order in which they are tested. An `Err` changes nothing.
+    /// What refuses, in this order; an `Err` changes nothing:
+    ///
+    /// - CREATE EDITION: EBR-0031 the name is that of a living edition; ORA-38802 no such parent; EBR-0030 the parent has a
+    ///   child; EBR-0035 256 editions live.
+    /// - DROP EDITION: ORA-38802 no such edition; EBR-0032 it has a child; EBR-0033 it is the default or a session's;
+    ///   ORA-38811 an object is actual in it and CASCADE isn't there.
+    /// - ALTER DATABASE DEFAULT EDITION: ORA-38802.
+    /// - CREATE TABLE: ORA-00955 a table, or an object of class Unit that the edition sees, has the name; EBR-0029 a column
+    ///   named twice, a bad type or size, two primary keys, or a bad key; EBR-0036 more than 64 columns; EBR-0037 1,000
+    ///   tables live.
+    /// - ALTER TABLE ADD: ORA-00942 no such table; EBR-0029; EBR-0036. DROP TABLE: ORA-00942.
+    /// - CREATE of an object: ORA-00955 a table has the name (class Unit alone); ORA-00955, of a trigger ORA-04081, the key is
+    ///   visible and may not be replaced by this kind; ORA-00942 what a trigger stands on isn't there; of a view, ORA-00942
+    ///   no such table, ORA-00904 no such column, EBR-0027 a column or a name twice or a list of another length, EBR-0028
+    ///   another view on the table; EBR-0034 the edition would see more than 4,096 objects.
+    /// - ALTER TRIGGER: ORA-04080 no such trigger; EBR-0034.
+    /// - DROP of an object: ORA-04080 no such trigger, ORA-00942 no such view, ORA-04043 none of another kind.
+    #[tactic(auto, using(crate::proofs::OwnKeys::own_kept_ok))]
     pub fn apply(
         &mut self,
         alloc: Global,
@@ -50,7 +68,8 @@ impl Catalogue {
         what: &Definition,
         text: &Bytes,
     ) -> Result<CatalogueRecord, Stop>
-        ensures { Applies self.old self.new (λ c. outcome c e sessions.now what.now text.now) result }
+        ensures applies { Applies self.old self.new (λ c. outcome c e sessions.now what.now text.now) result }
+        ensures own_keys { ForLists self.old (λ c. HaveOwnKeys c → IfOk result (λ r. HaveOwnKeys (with_record c r))) }
     {
         match what {
             Definition::CreateEdition { name, parent } => {

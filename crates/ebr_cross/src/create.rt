@@ -9,16 +9,16 @@ ghost use Rattle.ebr_cross.specs.Kinds as kinds;
 ghost use Rattle.ebr_cross.specs.inside.Steps.{base_refusals};
 
 use crate::catalogue::Catalogue;
-use crate::columns::repeats_a_name;
 use crate::kinds::{is_of_kind, unit_key};
 use ebr_ast::{EditioningView, ObjectKind, Trigger, UnitTree, ViewItem};
 use ebr_base::{Class, CloneIn, Code, Column, EditionNo, List, Name, NoMemory, ObjectKey};
+use ebr_columns::repeats_a_name;
 use std::alloc::Global;
 
 impl Catalogue {
     /// The code by which the CREATE of an object is refused, before the number of visible objects is tested: ORA-00955, for a
     /// trigger ORA-04081, where its name is taken; and what `trigger_refusal` and `view_refusal` say.
-    pub fn creation_refusal(
+    pub(crate) fn creation_refusal(
         &self,
         alloc: Global,
         e: EditionNo,

@@ -15,7 +15,7 @@ use std::alloc::Global;
 
 impl Catalogue {
     /// CREATE EDITION. Refusals: those of `Chain::create`.
-    pub fn create_edition(
+    pub(crate) fn create_edition(
         &mut self,
         alloc: Global,
         name: &Name,
@@ -44,7 +44,7 @@ impl Catalogue {
 
     /// DROP EDITION. Refusals: those of `Chain::drop_leaf`, EBR-0033 where it is the default or a session's edition,
     /// ORA-38811 where an object is actual in it and CASCADE isn't there.
-    pub fn drop_edition(
+    pub(crate) fn drop_edition(
         &mut self,
         sessions: &[EditionNo],
         name: &Name,
@@ -109,7 +109,7 @@ impl Catalogue {
     }
 
     /// ALTER DATABASE DEFAULT EDITION. Refusal: ORA-38802 where no living edition has the name.
-    pub fn set_default(&mut self, name: &Name) -> Result<CatalogueRecord, Stop>
+    pub(crate) fn set_default(&mut self, name: &Name) -> Result<CatalogueRecord, Stop>
         ensures { Applies self.old self.new (λ c. spec.default_edition c name.now) result }
     {
         match self.edition_named(name) {

@@ -19,7 +19,7 @@ use std::alloc::Global;
 impl Catalogue {
     /// CREATE of a unit or an editioning view. Refusals: those of `creation_refusal`, and EBR-0034 where the edition would see
     /// more than 4,096 objects.
-    pub fn create_object(
+    pub(crate) fn create_object(
         &mut self,
         alloc: Global,
         e: EditionNo,
@@ -59,7 +59,7 @@ impl Catalogue {
 
     /// ALTER TRIGGER. Refusals: ORA-04080 where the edition sees no such trigger, EBR-0034 where it would see more than 4,096
     /// objects.
-    pub fn alter_trigger(
+    pub(crate) fn alter_trigger(
         &mut self,
         alloc: Global,
         e: EditionNo,
@@ -124,7 +124,7 @@ impl Catalogue {
 
     /// DROP of an object. Refusal where the edition sees none of that kind and name: ORA-04080 for a trigger, ORA-00942 for a
     /// view, ORA-04043 for every other. DROP PACKAGE takes the body along, where it is visible.
-    pub fn drop_object(
+    pub(crate) fn drop_object(
         &mut self,
         alloc: Global,
         e: EditionNo,

@@ -3,20 +3,20 @@
 ghost use Rattle.std.specs.Prelude.{◌≡◌, Some, IfOk, IfSome};
 ghost use Rattle.ebr_tables.specs.Tables.{kept_as};
 ghost use Rattle.ebr_cross.specs.Catalogue.{ForLists, table_in};
-ghost use Rattle.ebr_cross.specs.Columns as columns_spec;
+ghost use Rattle.ebr_columns.specs.Columns as columns_spec;
 ghost use Rattle.ebr_cross.specs.Definitions.{Applies};
 ghost use Rattle.ebr_cross.specs.Definitions as spec;
 ghost use Rattle.ebr_cross.specs.Records.{table_name};
 ghost use Rattle.ebr_cross.specs.inside.Steps.{first_table_refusal, Creates, made_table, id_in};
 
 use crate::catalogue::Catalogue;
-use crate::columns::{column_names, column_type, is_bad_table, key_names, table_of};
 use crate::kinds::unit_key;
 use crate::record::CatalogueRecord;
 use ebr_ast::{ColumnTree, DeclaredType};
 use ebr_base::{
     CloneIn, Code, ColType, Column, EditionNo, Name, NoMemory, Stop, TableDef, TableId,
 };
+use ebr_columns::{column_names, column_type, is_bad_table, key_names, table_of};
 use ebr_tables::with_key_not_null;
 use std::alloc::Global;
 
@@ -26,7 +26,7 @@ const MAX_COLUMNS: usize = 64;
 impl Catalogue {
     /// CREATE TABLE. Refusals, in this order: ORA-00955 where a table, or an object of class Unit that the edition sees, has
     /// the name; EBR-0029 of a bad table; EBR-0036 where there are more than 64 columns; EBR-0037 where 1,000 tables live.
-    pub fn create_table(
+    pub(crate) fn create_table(
         &mut self,
         alloc: Global,
         e: EditionNo,
@@ -98,7 +98,7 @@ impl Catalogue {
 
     /// ALTER TABLE ADD. Refusals: ORA-00942 where no table has the name, EBR-0029 of a bad column, EBR-0036 where the table
     /// has 64 columns.
-    pub fn add_column(
+    pub(crate) fn add_column(
         &mut self,
         alloc: Global,
         table: &Name,
@@ -152,7 +152,7 @@ impl Catalogue {
     }
 
     /// DROP TABLE. Refusal: ORA-00942 where no table has the name.
-    pub fn drop_table(&mut self, name: &Name) -> Result<CatalogueRecord, Stop>
+    pub(crate) fn drop_table(&mut self, name: &Name) -> Result<CatalogueRecord, Stop>
         ensures { Applies self.old self.new (λ c. spec.drop_table c name.now) result }
     {
         let Some(id) = self.table_id(name) else {

@@ -2,22 +2,40 @@
 
 ghost use Rattle.std.specs.Prelude.{◌≡◌, map, IfOk};
 ghost use Rattle.std.specs.List.{filter_map};
-ghost use Rattle.ebr_cross.specs.Catalogue.{ForLists, View, in_order, visible};
+ghost use Rattle.ebr_ast.specs.Views.{IsInOrder};
+ghost use Rattle.ebr_cross.specs.Catalogue.{ForLists, HaveOwnKeys, View, in_order, visible};
+ghost use Rattle.ebr_cross.specs.inside.Places.{Shows};
 
 use crate::catalogue::Catalogue;
 use ebr_ast::{EditionView, Object};
-use ebr_base::{CloneIn, EditionNo, List, NoMemory, ObjectKey, Shared, TableDef};
+use ebr_base::{CloneIn, EditionNo, List, MAX_COUNT, NoMemory, ObjectKey, Shared, TableDef};
 use ebr_tables::Tables;
 use std::alloc::Global;
 use std::collections::BTreeSet;
 
 /// All that an edition sees: the visible objects in order of class and then of name, shared with the catalogue, and copies
-/// of the living tables in order of id.
+/// of the living tables in order of id. It finds no memory where there are 4,294,967,295 visible objects or more.
 pub fn view_of(c: &Catalogue, alloc: Global, e: EditionNo) -> Result<EditionView, NoMemory>
-    ensures { ForLists c.now (λ lists. IfOk result (λ view. view ≡ View lists e)) }
+    ensures view { ForLists c.now (λ lists. IfOk result (λ view. view ≡ View lists e)) }
+    ensures order { ForLists c.now (λ lists. HaveOwnKeys lists → IfOk result (λ view. IsInOrder view)) }
 {
     let keys = in_order(alloc, c.actuals.keys())?;
     let objects = objects_under(alloc, c, e, keys)?;
+    with_objects(alloc, c, e, objects)
+}
+
+/// A view of objects and of copies of the living tables.
+pub(crate) fn with_objects(
+    alloc: Global,
+    c: &Catalogue,
+    e: EditionNo,
+    objects: List<Shared<Object>>,
+) -> Result<EditionView, NoMemory>
+    ensures { ForLists c.now (λ lists. IfOk result (λ view. Shows lists e objects view)) }
+{
+    if objects.len() >= MAX_COUNT {
+        return Err(NoMemory);
+    }
     Ok(EditionView {
         edition: e,
         objects,

@@ -1,8 +1,7 @@
 -- Histories with one more entry.
 use Rattle.std.proofs.Common.{◌≡◌, ◌≢◌, List, [], ◌∷◌, ◌++◌, refl, sym, ap, ◌∙◌, subst, append_assoc, append-nil, ◌<◌}
-use Rattle.std.specs.Prelude.{Option, Some, None, IsSome, vec_len, vec_capacity}
+use Rattle.std.specs.Prelude.{vec_len, vec_capacity}
 use Rattle.ebr_base.specs.declared.numbers.EditionNo.{EditionNo}
-use Rattle.ebr_cross.specs.Catalogue.{Lists}
 use Rattle.ebr_server.specs.declared.ask.Ask.{Ask}
 use Rattle.ebr_server.specs.declared.ask.Ask.TheVariants.{Begin, Ddl, SetEdition, EndCall, Leave}
 use Rattle.ebr_server.specs.declared.ask.Answer.{Answer}
@@ -10,10 +9,10 @@ use Rattle.ebr_server.specs.declared.ask.Answer.TheVariants.{Done, NoMemory}
 use Rattle.ebr_server.specs.declared.ask.Entry.{Entry}
 use Rattle.ebr_server.specs.declared.engine.Engine.{Engine}
 use Rattle.ebr_server.specs.Records.{catalogue_of}
-use Rattle.ebr_server.specs.Machine.{Database, Session, Replied, Reply, the_session, start}
+use Rattle.ebr_server.specs.Machine.{Database, Session, Reply, the_session, start}
 use Rattle.ebr_server.specs.History.{After, Legal, Answered, IsLive, next}
-use Rattle.ebr_server.specs.inside.Engine.{IsOpen, Answers, IsSpelled, Keeps, LeavesReply, ForHeld, entries, entry_of}
-use Rattle.ebr_server.proofs.Replies.{IsReply, is_reply, in_edition}
+use Rattle.ebr_server.specs.inside.Engine.{IsOpen, Answers, HasOrder, IsSpelled, Keeps, LeavesReply, ForHeld, entries, entry_of}
+use Rattle.ebr_server.proofs.Replies.{IsReply, is_reply, reply_order, in_edition}
 
 pub After-append : (db : Database) (h : List Entry) (x : Entry) → After db (h ++ x ∷ []) ≡ next (After db h) x
 After-append db [] x = refl
@@ -76,6 +75,7 @@ module _ (old new : Engine) (ask : Ask) (answer : Answer) (h : IsOpen old) (r : 
   answers_stays stays spells = let is = replied stays spells in record {
     entry = r.entry;
     legal = legal_by is.goes_on is.answer_is;
+    order = reply_order new.current answer (catalogue_of db.records) e ask left;
     leaves = λ same. absurd (stays same);
     stays_open = λ memory stays. record {
       legal = goes_on is.goes_on is.answer_is;
@@ -92,6 +92,7 @@ answers_leave old new answer h r =
     record {
       entry = r.entry;
       legal = legal_by old new Leave answer h r (λ is. by_done (sym done ∙ is)) same;
+      order = subst HasOrder (sym done) tt;
       leaves = λ is. done;
       stays_open = λ memory stays. absurd (stays refl);
     }

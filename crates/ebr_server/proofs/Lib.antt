@@ -9,3 +9,4 @@ pub mod Steps
 pub mod Pieces
 pub mod Ends
 pub mod Outcomes
+pub mod NextViews

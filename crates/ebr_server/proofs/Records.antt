@@ -21,12 +21,13 @@ use Rattle.ebr_ast.specs.declared.definition.ObjectKind.TheVariants as kind
 use Rattle.ebr_ast.specs.declared.unit.UnitTree.{UnitTree}
 use Rattle.ebr_ast.specs.declared.view.Object.{Object}
 use Rattle.ebr_editions.specs.Editions.{line_of, named_parent, create_answer, drop_answer}
-use Rattle.ebr_editions.specs.Objects.{ObjectEntry, is_entry_of, is_in, same_class, same_key, last_entry, last_object, nearest, entry_or, with_entry, next_stamp, without_both, Visible}
+use Rattle.ebr_base.specs.Keys.{same_class, same_key}
+use Rattle.ebr_editions.specs.Objects.{ObjectEntry, is_entry_of, is_in, last_entry, last_object, nearest, entry_or, with_entry, next_stamp, without_both, Visible}
 use Rattle.ebr_tables.specs.Tables.{first_refusal, unless_refused, add_answer, remove_answer}
 use Rattle.ebr_cross.specs.declared.record.CatalogueRecord.{CatalogueRecord}
 use Rattle.ebr_cross.specs.declared.record.CatalogueRecord.TheVariants as made
 use Rattle.ebr_cross.specs.Catalogue.{Lists, first_lists, visible, table_in}
-use Rattle.ebr_cross.specs.Columns.{column_type, table_of}
+use Rattle.ebr_columns.specs.Columns.{column_type, table_of}
 use Rattle.ebr_cross.specs.Definitions as spec
 use Rattle.ebr_cross.specs.Kinds.{kind_of, name_of, key_of}
 use Rattle.ebr_cross.specs.Records.{with_record, with_object}

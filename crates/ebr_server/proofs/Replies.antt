@@ -1,6 +1,6 @@
 -- One step of the machine, by what the engine holds before it.
 use Rattle.std.proofs.Common.{ℕ, ◌≡◌, ◌≢◌, List, [], ◌∷◌, ◌++◌, refl, sym, ap, ◌∙◌, subst}
-use Rattle.std.specs.Prelude.{Option, Some, None, Result, Ok, Err}
+use Rattle.std.specs.Prelude.{Some, Result, Ok, Err}
 use Rattle.ebr_base.specs.declared.code.Code.{Code}
 use Rattle.ebr_base.specs.declared.numbers.EditionNo.{EditionNo}
 use Rattle.ebr_ast.specs.declared.definition.Definition.{Definition}
@@ -14,8 +14,8 @@ use Rattle.ebr_server.specs.declared.ask.Answer.{Answer}
 use Rattle.ebr_server.specs.declared.ask.Answer.TheVariants as answer
 use Rattle.ebr_server.specs.declared.engine.Current.{Current}
 use Rattle.ebr_server.specs.Records.{Record, record_of, catalogue_of}
-use Rattle.ebr_server.specs.Machine.{Database, Session, Replied, Reply, defined, edition_set, reply_in, the_session}
-use Rattle.ebr_server.specs.inside.Engine.{Keeps, Holds, Leaves, LeavesDefined, LeavesSet, LeavesReply, IsSpelled}
+use Rattle.ebr_server.specs.Machine.{Database, Session, Replied, Reply, defined, edition_set, the_session}
+use Rattle.ebr_server.specs.inside.Engine.{Keeps, Holds, HasOrder, Leaves, LeavesDefined, LeavesSet, LeavesReply, IsSpelled}
 use Rattle.ebr_server.proofs.Records.{catalogue_of-append, spelled, reads_back}
 
 -- the database of these records, with the one session in an edition
@@ -71,3 +71,22 @@ module _ (new : Current) (x : Answer) (records : List Record) (e : EditionNo) wh
   is_reply (SetEdition name) stays spells h = is_set (set_edition (catalogue_of records).editions.made name) h
   is_reply (EndCall failed) stays spells h = same_records answer.Done (λ is. cc) e h
   is_reply Leave stays spells h = absurd (stays refl)
+
+-- a view that an ask leaves answered is in order
+has_order : (new : Current) (x wanted : Answer) (c : Lists) (e : EditionNo) → Leaves new x wanted c e → HasOrder x
+has_order new x wanted c e h = subst HasOrder (sym h.answer_is) h.order
+
+pub reply_order : (new : Current) (x : Answer) (c : Lists) (e : EditionNo) (ask : Ask) → LeavesReply ask new x c e → HasOrder x
+reply_order new x c e Begin h = has_order new x _ c e h
+reply_order new x c e (Ddl what text) h = by (outcome c e (e ∷ []) what text) h
+  where
+    by : (o : Result CatalogueRecord Code) → LeavesDefined new x c e o → HasOrder x
+    by (Ok r) h = has_order new x answer.Done (with_record c r) e h
+    by (Err code) h = has_order new x (answer.Refused code 0 []) c e h
+reply_order new x c e (SetEdition name) h = by (set_edition c.editions.made name) h
+  where
+    by : (o : Result EditionNo Code) → LeavesSet new x c e o → HasOrder x
+    by (Ok d) h = has_order new x answer.Done c d h
+    by (Err code) h = has_order new x (answer.Refused code 0 []) c e h
+reply_order new x c e (EndCall failed) h = has_order new x answer.Done c e h
+reply_order new x c e Leave h = has_order new x answer.Done c e h

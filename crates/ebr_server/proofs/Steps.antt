@@ -4,6 +4,7 @@ use Rattle.std.proofs.Common.{inl, inr, ℕ, ◌≡◌, ◌≢◌, ◌≤◌, Li
 use Rattle.ebr_outside.specs.Faults.{Rises}
 use Rattle.ebr_base.specs.declared.code.Code.{Code}
 use Rattle.ebr_ast.specs.declared.view.EditionView.{EditionView}
+use Rattle.ebr_ast.specs.Views.{IsInOrder}
 use Rattle.ebr_server.specs.declared.ask.Ask.{Ask}
 use Rattle.ebr_server.specs.declared.ask.Ask.TheVariants.{Begin}
 use Rattle.ebr_server.specs.declared.ask.Answer.{Answer}
@@ -17,7 +18,7 @@ use Rattle.ebr_server.specs.History.{Mine, GoesOn, EndsRun}
 use Rattle.ebr_server.specs.Forms.{Called, called_object}
 use Rattle.ebr_server.specs.Sessions.{Step, call_after, run_call, unit_named, asked, then_run, printing, printing_result, result_line}
 use Rattle.ebr_server.specs.Program.{IsPrefix, RanOut}
-use Rattle.ebr_server.specs.inside.Engine.{IsOpen, Answers, entries}
+use Rattle.ebr_server.specs.inside.Engine.{IsOpen, Answers, HasOrder, entries}
 use Rattle.ebr_server.specs.inside.Output.{Output, WritesOn, Prints, PrintsPart}
 use Rattle.ebr_server.specs.inside.Worker.{RunsOn, Quits, CanQuit, QuitStep, Does, Asks, WasAnswered, WasEnded}
 use Rattle.ebr_server.proofs.Runs.{RunsOn-asked, RunsOn-printing, RunsOn-writes, RanOut-asked, CanQuit-asked, Quits-here, Quits-writes, IsPrefix-refl}
@@ -156,6 +157,10 @@ pub call-View : (name : List ℕ) (x : Answer) (v w : EditionView) (called : Cal
 call-View name x v w called is told same =
     ap (call_after name) is ∙ ap (λ (u : EditionView). run_call (called_object (unit_named name u.objects))) (sym same) ∙ ap run_call (sym told)
 
+-- a view that was answered is in order
+pub order-View : (x : Answer) (v w : EditionView) → HasOrder x → x ≡ answer.View v → w ≡ v → IsInOrder w
+order-View x v w order is same = subst IsInOrder (sym same) (subst HasOrder is order)
+
 -- an answer that is neither a view nor a refusal
 pub call-otherwise : (name : List ℕ) (x : Answer) → ((v : EditionView) → x ≢ answer.View v) → ((c : Code) (s : ℕ) (l : List (List ℕ)) → x ≢ answer.Refused c s l) → call_after name x ≡ printing []
 call-otherwise name (answer.View v) no_view no_refusal = absurd (no_view v refl)
@@ -175,6 +180,7 @@ pub was_answered : (a : Ask) (x : Answer) (e e' : Engine) (o o' : Output) → Wr
 was_answered a x e e' o o' w r none on = record {
   asks = record { entry = r.entry; writes = w; all_written = none; legal = r.legal };
   goes_on = on;
+  order = r.order;
   is_open = r.stays_open (not_memory x on);
 }
   where

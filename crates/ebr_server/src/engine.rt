@@ -1,8 +1,9 @@
 //! The engine: it answers one ask at a time, and keeps the history of all of them.
 
-ghost use Rattle.std.specs.Prelude.{◌≡◌, ◌≢◌, ◌<◌, ◌≤◌, ◌+◌, [], ◌∷◌, ◌++◌, IfOk, OnOk, OnErr, IsOk, vec_len, vec_capacity};
-ghost use Rattle.ebr_cross.specs.Catalogue.{View, first_lists};
+ghost use Rattle.std.specs.Prelude.{◌≡◌, ◌≢◌, ◌<◌, ◌≤◌, ◌+◌, [], ◌∷◌, ◌++◌, IfOk, IfSome, OnOk, OnErr, IsOk, vec_len, vec_capacity};
+ghost use Rattle.ebr_cross.specs.Catalogue.{Lists, HaveOwnKeys, IsViewOf, first_lists, kept};
 ghost use Rattle.ebr_cross.specs.Definitions.{outcome, set_edition};
+ghost use Rattle.ebr_cross.specs.Records.{with_record};
 ghost use Rattle.ebr_editions.specs.Editions.{first_edition};
 ghost use Rattle.ebr_server.specs.inside.Engine.{ForHeld, Holds, LeavesDefined, LeavesReply, LeavesSet};
 ghost use Rattle.ebr_server.specs.declared.ask.Answer.TheVariants.{Refused};
@@ -11,7 +12,7 @@ ghost use Rattle.ebr_server.specs.declared.ask.Ask.TheVariants.{Leave};
 use crate::ask::{Answer, Ask, Entry};
 use ebr_ast::{Definition, EditionView};
 use ebr_base::{Bytes, CloneIn, Code, EditionNo, List, Name, NoMemory, SessionId, Shared, Stop};
-use ebr_cross::{Catalogue, view_of};
+use ebr_cross::{Catalogue, CatalogueRecord, view_after, view_of};
 use std::alloc::Global;
 
 /// The one session.
@@ -137,9 +138,9 @@ fn reply_to(alloc: Global, current: &mut Current, ask: &Ask) -> Result<Answer, N
     }
 }
 
-/// All that the session's edition sees. It is made once, and then shared until it changes.
+/// All that the session's edition sees. It is made once, shared, and after a definition made from the one before.
 fn view(alloc: Global, current: &mut Current) -> Result<Shared<EditionView>, NoMemory>
-    ensures view { ForHeld current.old (λ c e. IfOk result (λ v. v ≡ View c e)) }
+    ensures view { ForHeld current.old (λ c e. IfOk result (λ v. IsViewOf c e v)) }
     ensures holds { ForHeld current.old (λ c e. Holds current.new c e) }
 {
     if let Some(view) = &current.view {
@@ -161,12 +162,28 @@ fn define(
 {
     let e = current.edition;
     match current.catalogue.apply(alloc, e, &[e], what, text) {
-        Ok(_) => {
-            current.view = None;
+        Ok(record) => {
+            current.view = next_view(alloc, &current.catalogue, &current.view, &record);
             Ok(Answer::Done)
         }
         Err(Stop::Raised(code)) => Ok(refusal(alloc, code)),
         Err(Stop::NoMemory) => Err(NoMemory),
+    }
+}
+
+/// The view after a definition, where there was one before. Where there is no memory for it, it is made at the next call.
+fn next_view(
+    alloc: Global,
+    catalogue: &Catalogue,
+    view: &Option<Shared<EditionView>>,
+    record: &CatalogueRecord,
+) -> Option<Shared<EditionView>>
+    ensures { (c : Lists) (e : EditionNo) → HaveOwnKeys c → IfSome view.now (λ v. IsViewOf c e v) → catalogue.now ≡ kept (with_record c record.now)
+        → IfSome result (λ v. IsViewOf (with_record c record.now) e v) }
+{
+    match view {
+        Some(view) => view_after(catalogue, alloc, view, record).ok(),
+        None => None,
     }
 }
 

@@ -3,13 +3,14 @@
 ghost use Rattle.std.specs.Prelude.{◌≡◌};
 ghost use Rattle.std.specs.Option.{option_copied};
 ghost use Rattle.ebr_exprtree.specs.declared.expression.Expr.{out-Expr};
-ghost use Rattle.ebr_cross.specs.Kinds.{is_unit_class};
+ghost use Rattle.ebr_ast.specs.Views.{IsInOrder};
 ghost use Rattle.ebr_server.specs.Forms as spec;
-ghost use Rattle.ebr_server.specs.Sessions.{unit_named, is_unit_named};
+ghost use Rattle.ebr_server.specs.Sessions.{unit_named};
 ghost use Rattle.ebr_server.specs.inside.Calls.{called_in};
 
-use ebr_ast::{Block, Decl, EditionView, Expr, Handler, Object, Stmt, Subprogram, UnitTree};
+use ebr_ast::{Block, Decl, EditionView, Expr, Handler, Stmt, Subprogram, UnitTree};
 use ebr_base::{Bytes, Class, Name, Shared};
+use ebr_names::object;
 
 /// What a call of a unit is, borrowed from its tree.
 #[derive(Drop)]
@@ -24,35 +25,12 @@ pub enum Called<'a> {
 
 /// What a call of a name is, by what the edition sees.
 pub fn call_in<'a>(view: &'a EditionView, name: &Name) -> Called<'a>
+    requires { IsInOrder view.now }
     ensures { called_in result ≡ spec.called_object (unit_named name.now view.now.objects) }
 {
-    match unit_named(view.objects.as_slice(), name) {
-        Some(object) => called_unit(&object.get().tree),
+    match object(view, Class::Unit, name) {
+        Some(object) => called_unit(&object.tree),
         None => Called::Missing,
-    }
-}
-
-/// The object of class Unit of a name. Its work is linear in the number of objects.
-fn unit_named<'a>(objects: &'a [Shared<Object>], name: &Name) -> Option<&'a Shared<Object>>
-    ensures { option_copied result ≡ unit_named name.now objects.now }
-{
-    objects
-        .iter()
-        .find(|object| is_unit_named(object.get(), name))
-}
-
-fn is_unit_named(object: &Object, name: &Name) -> bool
-    ensures { result ≡ is_unit_named name.now object.now }
-{
-    is_unit_class(object.key.class) && *name == object.key.name
-}
-
-fn is_unit_class(class: Class) -> bool
-    ensures { result ≡ is_unit_class class }
-{
-    match class {
-        Class::Unit => true,
-        Class::Body | Class::Trigger => false,
     }
 }
 

@@ -1,6 +1,5 @@
 -- What the steps of definitions answer.
 use Rattle.std.specs.Prelude.{◌≡◌, ℕ, Bool, true, false, not, is_some, nat_lt, List, [], ◌∷◌, length, Option, Some, None, option_map, Result, Ok, Err}
-use Rattle.std.specs.Str.{bytes_eq}
 use Rattle.ebr_base.specs.declared.code.Code.{Code}
 use Rattle.ebr_base.specs.declared.code.Code.TheVariants.{Ora, Ebr}
 use Rattle.ebr_base.specs.declared.code.Stop.{Stop}
@@ -12,13 +11,13 @@ use Rattle.ebr_ast.specs.declared.definition.ColumnTree.{ColumnTree}
 use Rattle.ebr_base.specs.declared.object.ObjectKey.{ObjectKey}
 use Rattle.ebr_editions.specs.Objects.{hide_answer}
 use Rattle.ebr_ast.specs.declared.unit.EditioningView.{EditioningView}
-use Rattle.ebr_tables.specs.Definitions.{has_repetition}
-use Rattle.ebr_tables.specs.Tables.{first_refusal, create_answer, table_named, kept_as}
+use Rattle.ebr_base.specs.Keys.{table_named}
+use Rattle.ebr_tables.specs.Tables.{first_refusal, create_answer, kept_as}
 use Rattle.ebr_cross.specs.declared.catalogue.Catalogue.{Catalogue}
 use Rattle.ebr_cross.specs.declared.record.CatalogueRecord.{CatalogueRecord}
 use Rattle.ebr_cross.specs.declared.record.CatalogueRecord.TheVariants as made
 use Rattle.ebr_cross.specs.Catalogue.{Lists, table_in}
-use Rattle.ebr_cross.specs.Columns.{is_bad_table}
+use Rattle.ebr_columns.specs.Columns.{is_bad_table}
 use Rattle.ebr_cross.specs.Definitions.{recording, is_taken, has_columns}
 
 -- the refusals of CREATE TABLE before the number of tables is tested
@@ -43,11 +42,6 @@ id_in c name = option_map (λ (t : TableDef). t.id) (table_named name c.tables.l
 -- the record of a drop of a visible key
 abbrev pub hidden : Lists → EditionNo → ObjectKey → CatalogueRecord → Result CatalogueRecord Code
 hidden c e key r = recording (λ stamp. r) (hide_answer c.editions.made c.entries e key)
-
--- the names as they are, where none stands twice
-abbrev pub IsDistinct : List (List ℕ) → Option (List (List ℕ)) → Type 0
-IsDistinct names None = has_repetition bytes_eq names ≡ true
-IsDistinct names (Some keys) = (keys ≡ names) × (has_repetition bytes_eq names ≡ false)
 
 -- the refusals of CREATE EDITIONING VIEW by its table
 abbrev pub base_refusals : Lists → EditioningView → List (Bool × Code)

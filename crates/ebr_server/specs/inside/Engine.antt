@@ -1,11 +1,12 @@
 -- What the engine keeps: its history is legal, and it holds the catalogue of the database.
-use Rattle.std.specs.Prelude.{ℕ, ◌≡◌, ◌≢◌, ◌<◌, List, [], ◌∷◌, ◌++◌, Option, Some, None, IfSome, Result, Ok, Err, vec_len, vec_capacity}
+use Rattle.std.specs.Prelude.{ℕ, ◌≡◌, ◌≢◌, ◌<◌, List, [], ◌∷◌, ◌++◌, Some, IfSome, Result, Ok, Err, vec_len, vec_capacity}
 use Rattle.ebr_base.specs.declared.code.Code.{Code}
 use Rattle.ebr_base.specs.declared.numbers.EditionNo.{EditionNo}
 use Rattle.ebr_ast.specs.declared.definition.Statement.{Statement}
 use Rattle.ebr_ast.specs.declared.definition.Statement.TheVariants as statement
 use Rattle.ebr_cross.specs.declared.record.CatalogueRecord.{CatalogueRecord}
-use Rattle.ebr_cross.specs.Catalogue.{Lists, kept}
+use Rattle.ebr_ast.specs.Views.{IsInOrder}
+use Rattle.ebr_cross.specs.Catalogue.{Lists, HaveOwnKeys, IsViewOf, kept}
 use Rattle.ebr_cross.specs.Catalogue as catalogue
 use Rattle.ebr_cross.specs.Definitions.{outcome, set_edition}
 use Rattle.ebr_cross.specs.Records.{with_record}
@@ -28,16 +29,23 @@ entries e = e.history.items
 abbrev pub entry_of : Ask → Answer → Entry
 entry_of ask answer = record { session = the_session; ask = ask; answer = answer }
 
--- The catalogue is kept of these lists, the session is in this edition, and the view, where it was made, is all that the
--- edition sees.
+-- The catalogue is kept of these lists, in which objects stand under their own keys, the session is in this edition, and
+-- the view, where there is one, is all that the edition sees.
 pub record Holds (now : Current) (c : Lists) (e : EditionNo) : Type 0 where
   pub catalogue_is : now.catalogue ≡ kept c
+  pub own_keys : HaveOwnKeys c
   pub edition_is : now.edition ≡ e
-  pub view_is : IfSome now.view (λ v. v ≡ catalogue.View c e)
+  pub view_is : IfSome now.view (λ v. IsViewOf c e v)
+
+-- The objects of a view that was answered stand in order.
+abbrev pub HasOrder : Answer → Type 0
+HasOrder (View v) = IsInOrder v
+HasOrder answer = Unit {0}
 
 -- This was answered, and then the lists and the session's edition are these.
 pub record Leaves (new : Current) (answer wanted : Answer) (c : Lists) (e : EditionNo) : Type 0 where
   pub answer_is : answer ≡ wanted
+  pub order : HasOrder wanted
   pub holds : Holds new c e
 
 -- what a definition leaves, by its outcome
@@ -87,5 +95,6 @@ pub record IsOpen (e : Engine) : Type 0 where
 pub record Answers (old new : Engine) (ask : Ask) (answer : Answer) : Type 0 where
   pub entry : entries new ≡ entries old ++ entry_of ask answer ∷ []
   pub legal : Legal start (entries new)
+  pub order : HasOrder answer
   pub leaves : ask ≡ Leave → answer ≡ Done
   pub stays_open : answer ≢ NoMemory → ask ≢ Leave → IsOpen new

@@ -1,9 +1,8 @@
 -- How a session's run fits a history: facts that the worker keeps from one ask to the next.
-use Rattle.std.specs.Prelude.{ℕ, zero, suc, ◌≡◌, ◌≢◌, ◌≤◌, List, [], ◌∷◌, ◌++◌, length, Option, Some, None, Result, Ok, Err, false, codes}
+use Rattle.std.specs.Prelude.{ℕ, zero, suc, ◌≡◌, ◌≢◌, ◌≤◌, List, [], ◌∷◌, ◌++◌, length, Option, Some, None, Result, Ok, Err}
 use Rattle.ebr_outside.specs.Faults.{Rises}
-use Rattle.ebr_base.specs.Code.{code_text}
 use Rattle.ebr_server.specs.declared.ask.Ask.{Ask}
-use Rattle.ebr_server.specs.declared.ask.Ask.TheVariants.{Leave, EndCall}
+use Rattle.ebr_server.specs.declared.ask.Ask.TheVariants.{Leave}
 use Rattle.ebr_server.specs.declared.ask.Answer.{Answer}
 use Rattle.ebr_server.specs.declared.ask.Answer.TheVariants.{Done}
 use Rattle.ebr_server.specs.declared.ask.Entry.{Entry}
@@ -12,9 +11,9 @@ use Rattle.ebr_server.specs.declared.worker.Halt.{Halt}
 use Rattle.ebr_server.specs.declared.worker.Halt.TheVariants.{SinkFault, NoMemory, Answered}
 use Rattle.ebr_server.specs.Machine.{the_session, start}
 use Rattle.ebr_server.specs.History.{Mine, asks, answers, GoesOn, EndsRun, AllGoOn, Legal}
-use Rattle.ebr_server.specs.Sessions.{State, Step, Printed, leaving, run_pieces, SessionRun, then_run, printing, printing_result, line_of, asked, call_after, run_call}
+use Rattle.ebr_server.specs.Sessions.{State, Step, Printed, leaving, run_pieces, SessionRun, then_run}
 use Rattle.ebr_server.specs.Program.{IsPrefix, RanOut, printed_before_last}
-use Rattle.ebr_server.specs.inside.Engine.{IsOpen, entries}
+use Rattle.ebr_server.specs.inside.Engine.{IsOpen, HasOrder, entries}
 use Rattle.ebr_server.specs.inside.Output.{Output, printed, WritesOn}
 
 -- what the answers to a session were
@@ -105,6 +104,7 @@ pub record HasAsked (ask : Ask) (answer : Answer) (old_engine : Engine) (old : O
 pub record WasAnswered (ask : Ask) (answer : Answer) (old_engine : Engine) (old : Output) (engine : Engine) (new : Output) : Type 0 where
   pub asks : HasAsked ask answer old_engine old engine new
   pub goes_on : GoesOn answer
+  pub order : HasOrder answer
   pub is_open : ask ≢ Leave → IsOpen engine
 
 -- The session has ended.

@@ -1,6 +1,6 @@
 use Rattle.std.proofs.Common.{◌≡◌, not, ◌&&◌, drop}
 use Rattle.std.specs.List.{list_any}
-use Rattle.ebr_editions.specs.Objects.{same_key}
+use Rattle.ebr_base.specs.Keys.{same_key}
 use Rattle.ebr_cross.specs.Catalogue.{ForLists, visible}
 use Rattle.ebr_cross.specs.Definitions.{shows_table, has_other_view}
 use Rattle.ebr_cross.proofs.catalogue.Catalogue.has_other_view.Given as goal

@@ -3,7 +3,7 @@ use Rattle.std.specs.Prelude.{codes}
 use Rattle.std.proofs.lemmas.Result.{err_from_is_err_and}
 use Rattle.ebr_server.specs.declared.ask.Ask.TheVariants.{EndCall}
 use Rattle.ebr_server.specs.Sessions.{call_after, line_of, printing_result}
-use Rattle.ebr_server.proofs.Steps.{Does-not-asked, Does-call, Does-prints, Does-printing, Does-nothing, Does-part, call-View, call-otherwise}
+use Rattle.ebr_server.proofs.Steps.{Does-not-asked, Does-call, Does-prints, Does-printing, Does-nothing, Does-part, call-View, call-otherwise, order-View}
 use Rattle.ebr_server.proofs.worker.Worker.call.Goals as goal
 
 pub returns-in_err-view : goal.returns-in_err-view
@@ -44,3 +44,6 @@ pub returns : goal.returns
 returns g c =
     let was = c.in_ok-view.ensures in
     Does-call (Ok tt) _ _ _ _ _ _ _ _ _ was (call-otherwise c.args.name.now _ c.in_default.not-View c.in_default.not-Refused) (Does-nothing _ _ (was.is_open (λ e. cc)))
+
+pub call_in-requires : goal.call_in-requires
+call_in-requires g c = order-View _ _ _ c.in_ok-view.ensures.order c.in-View.is c.get.ensures

@@ -1,0 +1,6 @@
+use Rattle.std.proofs.Common.{IfOk, subst}
+use Rattle.ebr_cross.specs.inside.Places.{Shows}
+use Rattle.ebr_cross.proofs.changed.with_key.Goals as goal
+
+pub returns : goal.returns
+returns c = λ up lists h. subst (λ objects. IfOk c.shared.result (λ v. Shows lists c.args.view.now.edition objects v)) (c.in_ok-objects.ensures up lists h) (c.shared.ensures lists h)

@@ -1,6 +1,0 @@
-use Rattle.std.proofs.Common.{◌≡◌, ◌++◌, drop, map}
-use Rattle.ebr_cross.specs.Columns.{column_of}
-use Rattle.ebr_cross.proofs.columns.columns_of.Given as goal
-
-abbrev pub invariant-loop-column : goal.invariant-loop-column
-invariant-loop-column l = l.made ++ map column_of (drop l.column-index l.columns) ≡ map column_of l.columns
