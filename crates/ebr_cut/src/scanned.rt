@@ -1,7 +1,6 @@
 //! The tokens of a piece, its fault, and where its stored text ends.
 
 ghost use Rattle.std.specs.Prelude.{◌≡◌, ◌≤◌, ◌<◌, ℕ, List as Sequence, length, take, false, IfOk, All, AllPairs};
-ghost use Rattle.std.specs.Str.{bytes_eq};
 ghost use Rattle.ebr_lexer.specs.Lexis.{LiesWithin, Precedes};
 ghost use Rattle.ebr_cut.specs.declared.scanned.Scanned.{Scanned};
 ghost use Rattle.ebr_cut.specs.Scans.{Scans, IfTokens, KeepsTokens, StandsInFront, end_of, is_word, opens, closes, count_behind, is_too_deep, with_depth, stored};

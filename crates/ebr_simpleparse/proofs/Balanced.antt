@@ -14,7 +14,7 @@ use Rattle.ebr_grammar.proofs.Laws.{which, if_some}
 use Rattle.ebr_exprtree.specs.declared.expression.Expr.{Expr}
 use Rattle.ebr_exprparse.specs.declared.level.Level.{Level}
 use Rattle.ebr_exprparse.specs.declared.level.Level.TheVariants.{Whole, Sum}
-use Rattle.ebr_exprparse.specs.Expressions.{grammar, sum_alone, disjunction, more_conjunctions, conjoined_tree, conjunction, more_negations, negated_tree, negation, comparison, comparison_tail, signed, sign, test, membership, null_test, pattern, range, range_end, in_list, closed_list, sum, more_terms, addend, operator, term, more_factors, factor, primary, reference, constant, row_column, row_image, closed, name_tail, trunc_tail, trunc_arguments, trunc_end, trunc_call, divisor, inner, inner_sum, sql_attribute, statement_attribute, attribute, member as member_tail, given, arguments, list, more_items, SpellsExpr}
+use Rattle.ebr_exprparse.specs.Expressions.{grammar, sum_alone, disjunction, more_conjunctions, conjoined_tree, conjunction, more_negations, negated_tree, negation, comparison, comparison_tail, signed, sign, test, membership, null_test, pattern, range, range_end, in_list, closed_list, sum, more_terms, addend, operator, term, more_factors, factor, primary, reference, constant, row_column, row_image, closed, name_tail, trunc_tail, trunc_arguments, trunc_end, trunc_call, divisor, inner, inner_sum, sql_attribute, statement_attribute, attribute, member as member_tail, maybe_arguments, arguments, list, more_items, SpellsExpr}
 use Rattle.ebr_grammar.specs.Forms.{sees}
 use Rattle.ebr_simpleparse.specs.Looking.{closes}
 use Rattle.ebr_simpleparse.proofs.Closing.{at_left, at_right, at_comma}
@@ -180,7 +180,7 @@ module _ {K : Type 0} {V : K → Type 0} (grammar : (k : K) → Production K V (
       ap (λ (d : ℕ). closes d (ts ++ rest)) none ∙ passes (SpellsWithin grammar n) (even_within n) (grammar k) 0 0 (level k) ts a s depth rest ∙ ap (λ (d : ℕ). closes d rest) (sym none)
 
 is_level : (l : Level) → ends (grammar l) 0 ≡ Some 0
-unfolding same name_kinds names_but grammar sum_alone disjunction more_conjunctions conjoined_tree conjunction more_negations negated_tree negation comparison comparison_tail signed sign test membership null_test pattern range range_end in_list closed_list sum more_terms addend operator term more_factors factor primary reference constant row_column row_image closed name_tail trunc_tail trunc_arguments trunc_end trunc_call divisor inner inner_sum sql_attribute statement_attribute attribute member_tail given arguments list more_items
+unfolding same name_kinds names_but grammar sum_alone disjunction more_conjunctions conjoined_tree conjunction more_negations negated_tree negation comparison comparison_tail signed sign test membership null_test pattern range range_end in_list closed_list sum more_terms addend operator term more_factors factor primary reference constant row_column row_image closed name_tail trunc_tail trunc_arguments trunc_end trunc_call divisor inner inner_sum sql_attribute statement_attribute attribute member_tail maybe_arguments arguments list more_items
 is_level Whole = refl
 is_level Sum = refl
 

@@ -21,7 +21,7 @@ use Rattle.ebr_exprtree.specs.declared.expression.Comparison.{Comparison}
 use Rattle.ebr_exprtree.specs.declared.expression.Expr.{Expr}
 use Rattle.ebr_exprtree.specs.declared.expression.Expr.TheVariants as e
 use Rattle.ebr_exprparse.specs.declared.level.Level.TheVariants.{Whole}
-use Rattle.ebr_exprparse.specs.Expressions.{P, Read, signs as comparison_signs, begins, goes_on, grammar, hints, disjunction, more_conjunctions, conjoined_tree, conjunction, more_negations, negated_tree, negation, comparison, comparison_tail, signed, sign, test, membership, null_test, pattern, range, range_end, in_list, closed_list, sum, more_terms, operators, addend, operator, term, more_factors, factor, primary, reference, constant, constants, row_column, row_image, closed, name_tail, trunc_tail, trunc_arguments, trunc_end, trunc_call, divisor, inner, inner_sum, sql_attribute, statement_attribute, attribute, member as member_tail, given, arguments, list, more_items, SpellsExpr}
+use Rattle.ebr_exprparse.specs.Expressions.{P, Read, signs as comparison_signs, begins, goes_on, grammar, hints, disjunction, more_conjunctions, conjoined_tree, conjunction, more_negations, negated_tree, negation, comparison, comparison_tail, signed, sign, test, membership, null_test, pattern, range, range_end, in_list, closed_list, sum, more_terms, operators, addend, operator, term, more_factors, factor, primary, reference, constant, constants, row_column, row_image, closed, name_tail, trunc_tail, trunc_arguments, trunc_end, trunc_call, divisor, inner, inner_sum, sql_attribute, statement_attribute, attribute, member as member_tail, maybe_arguments, arguments, list, more_items, SpellsExpr}
 use Rattle.ebr_exprparse.proofs.Whole.{reads_expressions}
 use Rattle.ebr_simpleparse.specs.Looking.{closes, signs, tests, has_one_item, name_ends, begins_bound}
 use Rattle.ebr_simpleparse.proofs.Closing.{at_last_right, at_last_comma}
@@ -200,7 +200,7 @@ module _ (factors terms tail negations conjunctions rest : List Token) where
   factor_first ts x (inr (inr s)) = (primary_first ts x s).0
 
 comparison_unlike : (ts rest : List Token) → Has comparison ts → sees tests (ts ++ rest) ≡ false
-unfolding same name_kinds names_but begins goes_on hints comparison comparison_tail signed sign test membership null_test pattern range range_end in_list closed_list sum more_terms addend operator term more_factors factor primary reference constant row_column row_image closed name_tail trunc_tail trunc_arguments trunc_end trunc_call divisor inner inner_sum sql_attribute statement_attribute attribute member_tail given arguments list more_items
+unfolding same name_kinds names_but begins goes_on hints comparison comparison_tail signed sign test membership null_test pattern range range_end in_list closed_list sum more_terms addend operator term more_factors factor primary reference constant row_column row_image closed name_tail trunc_tail trunc_arguments trunc_end trunc_call divisor inner inner_sum sql_attribute statement_attribute attribute member_tail maybe_arguments arguments list more_items
 comparison_unlike ts rest h =
     sees-apart tests (first hints comparison) (ts ++ rest) refl (sees-append (first hints comparison) ts rest (some_by comparison refl tt refl ts h))
 
@@ -225,15 +225,15 @@ ends_there : (kinds : List Kind) (ts : List Token) → among kinds name_ends ≡
 ends_there kinds ts a e holds = not_false ts holds (end_first ts (sees-among kinds name_ends ts a e))
 
 factors_begin : (ts : List Token) → Has more_factors ts → (sees (k.Star ∷ []) ts ≡ true) ⊎ (ts ≡ [])
-unfolding same name_kinds names_but begins goes_on hints more_factors factor primary reference constant row_column row_image closed name_tail trunc_tail trunc_arguments trunc_end trunc_call divisor inner inner_sum sql_attribute statement_attribute attribute member_tail given arguments list more_items
+unfolding same name_kinds names_but begins goes_on hints more_factors factor primary reference constant row_column row_image closed name_tail trunc_tail trunc_arguments trunc_end trunc_call divisor inner inner_sum sql_attribute statement_attribute attribute member_tail maybe_arguments arguments list more_items
 factors_begin ts h = elim (begun_by more_factors refl tt ts h) [ inl seen ↦ inl seen | inr none ↦ inr none.1 ]
 
 negations_begin : (ts : List Token) → Has more_negations ts → (sees (k.And ∷ []) ts ≡ true) ⊎ (ts ≡ [])
-unfolding same name_kinds names_but begins goes_on hints more_negations negated_tree negation comparison comparison_tail signed sign test membership null_test pattern range range_end in_list closed_list sum more_terms addend operator term more_factors factor primary reference constant row_column row_image closed name_tail trunc_tail trunc_arguments trunc_end trunc_call divisor inner inner_sum sql_attribute statement_attribute attribute member_tail given arguments list more_items
+unfolding same name_kinds names_but begins goes_on hints more_negations negated_tree negation comparison comparison_tail signed sign test membership null_test pattern range range_end in_list closed_list sum more_terms addend operator term more_factors factor primary reference constant row_column row_image closed name_tail trunc_tail trunc_arguments trunc_end trunc_call divisor inner inner_sum sql_attribute statement_attribute attribute member_tail maybe_arguments arguments list more_items
 negations_begin ts h = elim (begun_by more_negations refl tt ts h) [ inl seen ↦ inl seen | inr none ↦ inr none.1 ]
 
 conjunctions_begin : (ts : List Token) → Has more_conjunctions ts → (sees (k.Or ∷ []) ts ≡ true) ⊎ (ts ≡ [])
-unfolding same name_kinds names_but begins goes_on hints more_conjunctions conjoined_tree conjunction more_negations negated_tree negation comparison comparison_tail signed sign test membership null_test pattern range range_end in_list closed_list sum more_terms addend operator term more_factors factor primary reference constant row_column row_image closed name_tail trunc_tail trunc_arguments trunc_end trunc_call divisor inner inner_sum sql_attribute statement_attribute attribute member_tail given arguments list more_items
+unfolding same name_kinds names_but begins goes_on hints more_conjunctions conjoined_tree conjunction more_negations negated_tree negation comparison comparison_tail signed sign test membership null_test pattern range range_end in_list closed_list sum more_terms addend operator term more_factors factor primary reference constant row_column row_image closed name_tail trunc_tail trunc_arguments trunc_end trunc_call divisor inner inner_sum sql_attribute statement_attribute attribute member_tail maybe_arguments arguments list more_items
 conjunctions_begin ts h = elim (begun_by more_conjunctions refl tt ts h) [ inl seen ↦ inl seen | inr none ↦ inr none.1 ]
 
 sign_begins : (ts : List Token) (c : Comparison) → Spells (SpellsAny grammar) sign ts c → sees comparison_signs ts ≡ true
@@ -409,8 +409,8 @@ module _ (d : Token) (is_range : member (kind_of d) (k.Range ∷ []) ≡ true) w
         at_items ts x s.0 s.1 t s.6.0 (e ∙ ap (λ (v : List Token). x ++ v) s.4) is m s.6.1 s.6.2 s.2 s.5
         (subst (λ (v : List Token). closes 0 (joins v factors terms tail negations conjunctions ++ d ∷ []) ≡ true) s.4 (paren_holds ts x y t e is m holds).1)
 
-    at_given : (ts : List Token) (found : Option (List Expr)) → Spells (SpellsAny grammar) given ts found → begins_bound (joins ts factors terms tail negations conjunctions ++ d ∷ []) ≡ true → Has disjunction (joins ts factors terms tail negations conjunctions)
-    unfolding given
+    at_given : (ts : List Token) (found : Option (List Expr)) → Spells (SpellsAny grammar) maybe_arguments ts found → begins_bound (joins ts factors terms tail negations conjunctions ++ d ∷ []) ≡ true → Has disjunction (joins ts factors terms tail negations conjunctions)
+    unfolding maybe_arguments
     at_given ts found (inl s) holds =
         has_all ts factors terms tail negations conjunctions (at_arguments ts s.1.0 s.1.1 s.1.5.0 s.1.4 s.1.5.1 s.1.5.2 s.1.3 s.1.6 holds) has_factors has_terms has_tail has_negations has_conjunctions
     at_given ts found (inr s) holds =

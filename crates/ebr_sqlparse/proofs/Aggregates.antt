@@ -53,8 +53,8 @@ module _ (given : Level → Form Read) (t p q : Token) (n : List ℕ) (es : List
   unfolding expressions.arguments
   arguments_are = inr (es, q ∷ [], x ∷ [], tt, refl, list_is, (q, refl, closes, refl), refl)
 
-  given_are : By expressions.given (p ∷ es ++ q ∷ []) (Some (x ∷ []))
-  unfolding expressions.given
+  given_are : By expressions.maybe_arguments (p ∷ es ++ q ∷ []) (Some (x ∷ []))
+  unfolding expressions.maybe_arguments
   given_are = inl (x ∷ [], (p ∷ [], es ++ q ∷ [], tt, x ∷ [], refl, (p, refl, opens, refl), arguments_are, refl), refl)
 
   tail_is : By expressions.name_tail (p ∷ es ++ q ∷ []) (λ first. e.Call (path first None) (x ∷ []))

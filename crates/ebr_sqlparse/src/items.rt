@@ -2,7 +2,7 @@
 
 ghost use Rattle.std.specs.Prelude.{Some, ◌≡◌, IfOk};
 ghost use Rattle.ebr_grammar.specs.Outcome.{Reads};
-ghost use Rattle.ebr_grammar.specs.Reading.{and_then, with_first};
+ghost use Rattle.ebr_grammar.specs.Reading.{with_first};
 ghost use Rattle.ebr_exprtree.specs.declared.expression.Expr.{out-Expr};
 ghost use Rattle.ebr_sqlparse.specs.Productions as productions;
 ghost use Rattle.ebr_sqlparse.specs.Items as spec;

@@ -2,7 +2,6 @@
 
 ghost use Rattle.std.specs.Prelude.{◌≡◌};
 ghost use Rattle.ebr_grammar.specs.Forms.{sees};
-ghost use Rattle.ebr_grammar.specs.Kinds.{name_kinds};
 ghost use Rattle.ebr_simpleparse.specs.Declarations.{declaration_begins};
 ghost use Rattle.ebr_stmtparse.specs.Statements as spec;
 

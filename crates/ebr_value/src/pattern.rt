@@ -2,7 +2,7 @@
 //!
 //! Oracle Database SQL Language Reference 19c, Pattern-matching Conditions. There is no escape character.
 
-ghost use Rattle.std.specs.Prelude.{◌≡◌, ◌∷◌, ◌≤◌, ◌+◌, true, length, drop, IfSome, ◌==◌, ◌||◌};
+ghost use Rattle.std.specs.Prelude.{◌≡◌, ◌∷◌, ◌≤◌, ◌+◌, true, length, IfSome, ◌==◌, ◌||◌};
 ghost use Rattle.std.specs.List.{prefix_len, list_all};
 ghost use Rattle.ebr_value.specs.Patterns.{like, likeness};
 ghost use Rattle.ebr_value.specs.inside.Parts.{in_part, fits};
