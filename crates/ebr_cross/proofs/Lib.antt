@@ -4,5 +4,6 @@ pub mod SeenObjects
 pub mod Creations
 pub mod InOrder
 pub mod Placed
+pub mod NewEdition
 pub mod OwnKeys
 pub mod Seen

@@ -14,7 +14,7 @@ use Rattle.ebr_ast.specs.declared.view.Object.{Object}
 use Rattle.ebr_ast.specs.Views as views
 use Rattle.ebr_ast.specs.Views.{IsInOrder}
 use Rattle.ebr_editions.specs.declared.entry.EditionEntry.{EditionEntry}
-use Rattle.ebr_editions.specs.Editions.{is_numbered, parent_entry, parent_of, line_up, line_of, gone}
+use Rattle.ebr_editions.specs.Editions.{Editions, IsLine, is_numbered, parent_entry, parent_of, leaf, line_up, line_of, gone}
 use Rattle.ebr_editions.specs.Objects.{ObjectEntry, with_key, nearest, is_in, is_entry_of, next_stamp, with_entry, last_entry, last_object, keys_of}
 use Rattle.ebr_cross.specs.declared.record.CatalogueRecord.{CatalogueRecord}
 use Rattle.ebr_cross.specs.declared.record.CatalogueRecord.TheVariants as made
@@ -22,9 +22,10 @@ use Rattle.ebr_cross.specs.declared.catalogue.Catalogue.{Catalogue}
 use Rattle.ebr_editions.specs.Held.{ForEntries}
 use Rattle.ebr_cross.specs.Catalogue.{Lists, ForLists, HaveOwnKeys, IsViewOf, View, in_order, kept, visible}
 use Rattle.ebr_cross.specs.Kinds.{key_of}
-use Rattle.ebr_cross.specs.Records.{with_object, with_record}
+use Rattle.ebr_cross.specs.Records.{with_child, with_object, with_record}
 use Rattle.ebr_cross.specs.inside.Places.{as_list, placed, with_seen, Shows, StandAround}
 use Rattle.ebr_cross.proofs.InOrder.{fold-push}
+use Rattle.ebr_cross.proofs.NewEdition.{line-before-leaf}
 use Rattle.ebr_cross.proofs.OwnKeys.{key_total, key-exact, same-order, same-turned, seen-under, own-kept}
 use Rattle.ebr_cross.proofs.Placed.{sorted-insert, insert-there, any-insert, sorted-seen, seen-placed, seen-nothing}
 
@@ -243,6 +244,16 @@ after-edition-gone c r d w v is seen order copy =
 
 pub after-default : (c : Lists) (r : CatalogueRecord) (d : EditionNo) (w v : EditionView) → r ≡ made.Default d → w ≡ View c w.edition → IsInOrder w → v ≡ w → IsViewOf (with_record c r) w.edition v
 after-default c r d w v is seen order copy = still c (with_record c r) w v (ap (λ q. View (with_record c q) w.edition) is) seen order copy
+
+pub after-edition : (c : Lists) (r : CatalogueRecord) (name : List ℕ) (parent : EditionNo) (chain : Editions) (w v : EditionView) → r ≡ made.Edition name parent → chain ≡ (with_record c r).editions → IsLine chain → w.edition.0 < (leaf chain.made).0
+    → w ≡ View c w.edition → IsInOrder w → v ≡ w → IsViewOf (with_record c r) w.edition v
+unfolding seen-along
+after-edition c r name parent chain w v is now line before seen order copy =
+    let after : chain ≡ with_child c.editions name parent = now ∙ ap (λ q. (with_record c q).editions) is in
+    still c (with_record c r) w v
+    (ap (λ q. View (with_record c q) w.edition) is
+    ∙ ap (seen-along c w.edition) (line-before-leaf c.editions name parent w.edition (subst IsLine after line) (subst (λ (x : Editions). w.edition.0 < (leaf x.made).0) after before)))
+    seen order copy
 
 -- tables alone changed
 pub after-table : (c n : Lists) (w v : EditionView) → HaveOwnKeys n → (View n w.edition).objects ≡ (View c w.edition).objects → w ≡ View c w.edition → Shows n w.edition w.objects v → IsViewOf n w.edition v

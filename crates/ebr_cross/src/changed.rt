@@ -5,6 +5,7 @@ ghost use Rattle.std.specs.List.Sorted.{IsStrictlySortedBy, IsBinarySearchResult
 ghost use Rattle.ebr_base.specs.Keys.{key_order};
 ghost use Rattle.ebr_ast.specs.declared.definition.ObjectKind.TheVariants as kind;
 ghost use Rattle.ebr_ast.specs.Views.{key_of as object_key, IsInOrder};
+ghost use Rattle.ebr_editions.specs.Editions.{leaf, IsLine};
 ghost use Rattle.ebr_cross.specs.declared.record.CatalogueRecord.TheVariants as made;
 ghost use Rattle.ebr_cross.specs.Catalogue.{ForLists, HaveOwnKeys, IsViewOf, View};
 ghost use Rattle.ebr_cross.specs.Kinds as kinds_spec;
@@ -17,6 +18,7 @@ use crate::record::CatalogueRecord;
 use crate::view::{view_of, with_objects};
 use ebr_ast::{EditionView, Object, ObjectKind};
 use ebr_base::{CloneIn, EditionNo, List, Name, NoMemory, ObjectKey, Shared};
+use ebr_editions::Chain;
 use std::alloc::Global;
 use std::cmp::Ordering;
 
@@ -33,10 +35,26 @@ pub fn view_after(
 ) -> Result<Shared<EditionView>, NoMemory>
     ensures { ForChanged c.now view.now record.now (λ lists. IfOk result (λ v. IsViewOf (with_record lists record.now) view.now.edition v)) }
 {
+    let seen = view.get();
     match record {
         CatalogueRecord::EditionGone(_) => view.clone_in(alloc),
         CatalogueRecord::Default(_) => view.clone_in(alloc),
-        _ => changed(c, alloc, view.get(), record),
+        CatalogueRecord::Edition { .. } if is_before_leaf(&c.chain, seen.edition) => {
+            view.clone_in(alloc)
+        }
+        _ => changed(c, alloc, seen, record),
+    }
+}
+
+/// Whether an edition was made no later than the leaf's parent. The leaf then isn't in its line, since a parent has a smaller
+/// number than its child.
+fn is_before_leaf(chain: &Chain, e: EditionNo) -> bool
+    ensures before { IsTrue result → e.0 < (leaf chain.now.made).0 }
+    ensures line { IsLine chain.now }
+{
+    match chain.parent(chain.leaf()) {
+        Some(parent) => e.0 <= parent.0,
+        None => false,
     }
 }
 
