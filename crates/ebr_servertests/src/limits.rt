@@ -64,6 +64,41 @@ fn edition_sees_4096_objects(rt: HostRuntime) -> Result<(), Fail> {
     Ok(())
 }
 
+/// A child sees as many objects as there may be, and then also one that its parent gets: it may alter none, until it drops
+/// one.
+fn overfull(alloc: Global) -> Result<Bytes, NoMemory> {
+    let mut script = Bytes::from_slice(
+        alloc,
+        b"CREATE TABLE t (a NUMBER);
+CREATE TRIGGER r BEFORE INSERT ON t FOR EACH ROW BEGIN NULL; END;
+/
+CREATE EDITION v2;
+ALTER SESSION SET EDITION = v2;
+",
+    )?;
+    script.extend(many(alloc, 4095, b"CREATE PROCEDURE p", PROCEDURE_TAIL)?.as_slice())?;
+    script.extend(
+        b"ALTER TRIGGER r DISABLE;
+ALTER SESSION SET EDITION = ora$base;
+CREATE PROCEDURE q IS BEGIN NULL; END;
+/
+ALTER SESSION SET EDITION = v2;
+ALTER TRIGGER r ENABLE;
+DROP PROCEDURE q;
+ALTER TRIGGER r ENABLE;
+",
+    )?;
+    Ok(script)
+}
+
+#[test]
+fn overfull_edition_alters_no_trigger(rt: HostRuntime) -> Result<(), Fail> {
+    let alloc = rt.alloc();
+    let lines = replies(alloc, 4103, b"EBR-0034\nOK\nOK\n")?;
+    assert!(rt; prints(alloc, overfull(alloc)?.as_slice(), lines.as_slice())?);
+    Ok(())
+}
+
 #[test]
 fn a_thousand_tables_live(rt: HostRuntime) -> Result<(), Fail> {
     let alloc = rt.alloc();
