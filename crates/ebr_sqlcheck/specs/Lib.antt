@@ -1,0 +1,10 @@
+pub mod Types
+pub mod Checked
+pub mod Sources
+pub mod Targets
+pub mod Names
+pub mod Functions
+pub mod Operands
+pub mod Aggregates
+pub mod Statements
+pub mod inside

@@ -1,0 +1,31 @@
+//! The checks of a SQL statement against what an edition sees.
+//!
+//! What is used above: `check_sql` finds what `checked_with` of `specs/Statements.antt` says, for a statement of a session.
+//! For a statement inside a unit, `Variables` tells what a name is that is no column, and `check_query`, `check_insert`,
+//! `check_update` and `check_delete` are `query_check` and so on; `relations` and `column_meant` tell the sources of a query
+//! and which column a name is, and `typed` the type of an expression.
+//!
+//! That calls succeed with ample memory is tested alone (`ebr_parsetests`).
+#![tactic(auto)]
+
+mod aggregate;
+mod change;
+mod check;
+mod function;
+mod mention;
+mod query;
+mod relation;
+mod target;
+mod typing;
+mod value_type;
+mod variables;
+mod verdict;
+
+pub use change::{check_delete, check_insert, check_update};
+pub use check::{check_sql, check_tree};
+pub use mention::names_in;
+pub use query::check_query;
+pub use relation::{Meant, Relation, column_meant, relations};
+pub use typing::typed;
+pub use value_type::{ValueType, type_of_column, type_of_value};
+pub use variables::{Binds, Variables};

@@ -1,0 +1,226 @@
+//! The sources of a statement.
+
+ghost use Rattle.std.specs.Prelude.{◌≡◌, IfOk};
+ghost use Rattle.std.specs.Option.{option_copied, unwrap_or};
+ghost use Rattle.std.specs.List.{list_any};
+ghost use Rattle.ebr_base.specs.Answers.{Answers};
+ghost use Rattle.ebr_ast.specs.Views.{IsInOrder};
+ghost use Rattle.ebr_names.specs.Columns.{column_named};
+ghost use Rattle.ebr_sqlcheck.specs.Sources as sources;
+ghost use Rattle.ebr_sqlcheck.specs.Names as names;
+ghost use Rattle.ebr_sqlcheck.specs.Statements as statements;
+
+use crate::value_type::{ValueType, first_known, type_of_column};
+use crate::verdict::AMBIGUOUS;
+use ebr_ast::{EditionView, Source};
+use ebr_base::{ColType, List, Name, NoMemory, Stop};
+use ebr_exprtree::Path;
+use ebr_names::{ViewColumn, columns};
+use std::alloc::Global;
+use std::marker::Model;
+
+/// A source as a statement sees it: what it is called, and its columns.
+#[derive(Drop)]
+pub struct Relation<'a> {
+    alias: &'a [u8],
+    columns: List<ViewColumn>,
+}
+
+impl<'a> Model for Relation<'a> {
+    ghost use Rattle.ebr_sqlcheck.specs.Sources.{Relation as Seen};
+
+    ghost Value = { Seen };
+
+    ghost view = { λ r. record { alias = r.alias.now; columns = r.columns } };
+}
+
+/// Whether a name is a column, and of how many sources.
+#[derive(Clone, Copy, Debug, PartialEq, Eq)]
+pub enum Meant {
+    Nothing,
+    /// A column of this type, of one source.
+    Column(ValueType),
+    Several,
+}
+
+/// What a source is called: its alias, or its name where it has none.
+fn alias_of(source: &Source) -> &[u8]
+    ensures { result.now ≡ sources.alias_of source.now }
+{
+    match source {
+        Source::Dual => b"DUAL",
+        Source::Named { name, alias } => name_or_alias(name, alias),
+    }
+}
+
+/// The alias, or the name where there is none.
+pub fn name_or_alias<'a>(name: &'a Name, alias: &'a Option<Name>) -> &'a [u8]
+    ensures { result.now ≡ unwrap_or alias.now name.now }
+{
+    match alias {
+        Some(alias) => alias.as_slice(),
+        None => name.as_slice(),
+    }
+}
+
+impl<'a> Relation<'a> {
+    fn is_called(&self, alias: &[u8]) -> bool
+        ensures { result ≡ sources.is_called alias.now self.now }
+    {
+        alias == self.alias
+    }
+
+    /// Its columns.
+    pub fn columns(&self) -> &[ViewColumn]
+        ensures { result.now ≡ self.now.columns }
+    {
+        self.columns.as_slice()
+    }
+
+    /// The type of a column.
+    fn column(&self, name: &Name) -> Option<ValueType>
+        ensures { result ≡ names.column_in name.now self.now }
+    {
+        match find_column(self.columns.as_slice(), name) {
+            Some(column) => Some(type_of_column(column.ty)),
+            None => None,
+        }
+    }
+
+    /// The type of the column that a name is: `n` is a column, and `n.m` one of the source that is called n.
+    fn named(&self, path: &Path) -> Option<ValueType>
+        ensures { result ≡ names.named_in path.now.name path.now.member self.now }
+    {
+        match &path.member {
+            None => self.column(&path.name),
+            Some(member) => self.member(&path.name, member),
+        }
+    }
+
+    fn member(&self, alias: &Name, name: &Name) -> Option<ValueType>
+        ensures { result ≡ names.named_in alias.now (Some name.now) self.now }
+    {
+        if self.is_called(alias.as_slice()) {
+            self.column(name)
+        } else {
+            None
+        }
+    }
+}
+
+/// The column of a name.
+pub fn find_column<'c>(columns: &'c [ViewColumn], name: &Name) -> Option<&'c ViewColumn>
+    ensures { option_copied result ≡ column_named name.now columns.now }
+{
+    columns.iter().find(|column| *name == column.name)
+}
+
+/// The one column of DUAL.
+#[tactic(auto, unfolding(ebr_base::specs::Word::is_letter, ebr_base::specs::Word::is_word_byte, ebr_base::specs::Word::is_reserved))]
+fn dual_columns(alloc: Global) -> Result<List<ViewColumn>, NoMemory>
+    ensures { IfOk result (λ columns. columns ≡ sources.dual_columns) }
+{
+    let mut columns = List::new(alloc);
+    if let Some(name) = Name::of(alloc, b"DUMMY")? {
+        columns.push(ViewColumn {
+            name,
+            place: 0,
+            ty: ColType::Text(1),
+        })?;
+    }
+    Ok(columns)
+}
+
+fn columns_of(alloc: Global, v: &EditionView, source: &Source) -> Result<List<ViewColumn>, Stop>
+    requires { IsInOrder v.now }
+    ensures { Answers result (sources.columns_of v.now source.now) }
+{
+    match source {
+        Source::Dual => Ok(dual_columns(alloc)?),
+        Source::Named { name, .. } => columns(alloc, v, name),
+    }
+}
+
+/// A source, none of those before it having its alias.
+#[tactic(auto, unfolding(crate::specs::Sources::next_relation))]
+fn next_relation<'a>(
+    alloc: Global,
+    v: &EditionView,
+    source: &'a Source,
+    before: &[Relation<'_>],
+) -> Result<Relation<'a>, Stop>
+    requires { IsInOrder v.now }
+    ensures { Answers result (sources.next_relation v.now before.now source.now) }
+{
+    let columns = columns_of(alloc, v, source)?;
+    let alias = alias_of(source);
+    if has_alias(before, alias) {
+        return Err(Stop::Raised(AMBIGUOUS));
+    }
+    Ok(Relation { alias, columns })
+}
+
+fn has_alias(relations: &[Relation<'_>], alias: &[u8]) -> bool
+    ensures { result ≡ list_any (sources.is_called alias.now) relations.now }
+{
+    relations.iter().any(|relation| relation.is_called(alias))
+}
+
+/// The sources of a query, in order.
+///
+/// Refused, source after source: ORA-00942 where the name means neither an editioning view nor a table, or the view's base
+/// isn't a table; ORA-00904 where the base has lost a column of the view; EBR-0018 where a source before it has its alias.
+///
+/// Oracle Database SQL Language Reference 19c, SELECT.
+pub fn relations<'a>(
+    alloc: Global,
+    v: &EditionView,
+    list: &'a [Source],
+) -> Result<List<Relation<'a>>, Stop>
+    requires { IsInOrder v.now }
+    ensures { Answers result (sources.relations_of v.now list.now) }
+{
+    let mut found = List::new(alloc);
+    for source in list {
+        let relation = next_relation(alloc, v, source, found.as_slice())?;
+        found.push(relation)?;
+    }
+    Ok(found)
+}
+
+/// The one source of an UPDATE or a DELETE. It is refused as a query's source is.
+pub fn only_relation<'a>(
+    alloc: Global,
+    v: &EditionView,
+    table: &'a Name,
+    alias: &'a Option<Name>,
+) -> Result<Relation<'a>, Stop>
+    requires { IsInOrder v.now }
+    ensures { Answers result (statements.only_relation v.now table.now alias.now) }
+{
+    let columns = columns(alloc, v, table)?;
+    Ok(Relation {
+        alias: name_or_alias(table, alias),
+        columns,
+    })
+}
+
+/// Whether a name is a column, and of how many of the sources.
+///
+/// `n` may be a column n of any source, and `n.m` is a column m of the source that is called n.
+pub fn column_meant(relations: &[Relation<'_>], path: &Path) -> Meant
+    ensures { result ≡ names.column_meant relations.now path.now }
+{
+    let mut found = None;
+    for relation in relations {
+        let named = relation.named(path);
+        if named.is_some() && found.is_some() {
+            return Meant::Several;
+        }
+        found = first_known(found, named);
+    }
+    match found {
+        Some(ty) => Meant::Column(ty),
+        None => Meant::Nothing,
+    }
+}
