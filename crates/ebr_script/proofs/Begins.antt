@@ -57,11 +57,11 @@ behind_session = k.Set ▸ k.Edition ▸ k.Equal ▸ sql.name
 
 pub session_is_alter : (ts : List Token) (n : List ℕ) → SpellsSession ts n → sees (k.Alter ∷ []) ts ≡ true
 unfolding session
-session_is_alter ts n s = first_is sql.given k.Alter (k.Session ▸ behind_session) ts n s
+session_is_alter ts n s = first_is sql.SpellsPart k.Alter (k.Session ▸ behind_session) ts n s
 
 session_is_second : (ts : List Token) (n : List ℕ) → SpellsSession ts n → sees (k.Session ∷ []) (drop 1 ts) ≡ true
 unfolding session
-session_is_second ts n s = first_is sql.given k.Session behind_session (drop 1 ts) n (behind sql.given k.Alter (k.Session ▸ behind_session) ts n s)
+session_is_second ts n s = first_is sql.SpellsPart k.Session behind_session (drop 1 ts) n (behind sql.SpellsPart k.Alter (k.Session ▸ behind_session) ts n s)
 
 pub session_begins : (ts : List Token) (n : List ℕ) → SpellsSession ts n → begins_session ts ≡ true
 unfolding begins_session

@@ -40,8 +40,8 @@ unfoldable pub arguments : P (List Expr)
 arguments = word k.RightParen [] ∣ expressions ◂ k.RightParen
 
 -- [( [e {, e}] )]
-unfoldable pub given : P (Option (List Expr))
-given = maybe (k.LeftParen ▸ arguments)
+unfoldable pub maybe_arguments : P (Option (List Expr))
+maybe_arguments = maybe (k.LeftParen ▸ arguments)
 
 -- what is called, and its arguments where parentheses stand
 abbrev pub Called : Type 0
@@ -49,7 +49,7 @@ Called = Path × Option (List Expr)
 
 -- n [. n] [( [e {, e}] )]
 unfoldable pub call : P Called
-call = both (λ p arguments. (p, arguments)) path given
+call = both (λ p arguments. (p, arguments)) path maybe_arguments
 
 -- ---- targets
 

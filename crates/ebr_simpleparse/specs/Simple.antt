@@ -26,7 +26,7 @@ use Rattle.ebr_ast.specs.declared.statement.Target.TheVariants as target_of
 use Rattle.ebr_sqlparse.specs.Parts.{select_list_part, query_rest_part, insert_part, update_part, delete_part, transaction_part}
 use Rattle.ebr_simpleparse.specs.declared.simple.TheConstants.{SIMPLE_WORDS}
 use Rattle.ebr_simpleparse.specs.Productions.{P, expr}
-use Rattle.ebr_simpleparse.specs.Paths.{path, given, new_column, targets}
+use Rattle.ebr_simpleparse.specs.Paths.{path, maybe_arguments, new_column, targets}
 
 -- ---- SQL
 
@@ -127,7 +127,7 @@ new_assignment = both (λ n x. s.Assign (target_of.New n) x) new_column assigned
 -- behind a name with its member
 unfoldable pub assignment_or_call : P (Path → Stmt)
 assignment_or_call = led (k.Assign ∷ []) (made (λ x p. s.Assign (target_of.Name p) x) assigned)
-    ∣ made (λ arguments p. s.Call p arguments) (given ◂ k.Semicolon)
+    ∣ made (λ arguments p. s.Call p arguments) (maybe_arguments ◂ k.Semicolon)
 
 unfoldable pub named_statement : P Stmt
 named_statement = both (λ p f. f p) path assignment_or_call

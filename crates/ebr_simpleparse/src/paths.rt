@@ -75,8 +75,11 @@ fn arguments(alloc: Global, tokens: &mut Tokens<'_>) -> Result<List<Shared<Expr>
 }
 
 /// `[( [e {, e}] )]`.
-pub fn given(alloc: Global, tokens: &mut Tokens<'_>) -> Result<Option<List<Shared<Expr>>>, ReadStop>
-    ensures { Reads (productions.reads_by grammar.given tokens.old) result tokens.new }
+pub fn maybe_arguments(
+    alloc: Global,
+    tokens: &mut Tokens<'_>,
+) -> Result<Option<List<Shared<Expr>>>, ReadStop>
+    ensures { Reads (productions.reads_by grammar.maybe_arguments tokens.old) result tokens.new }
 {
     if tokens.eat(Kind::LeftParen) {
         Ok(Some(arguments(alloc, tokens)?))
@@ -95,8 +98,8 @@ pub fn read_call(
     ensures { Reads (productions.reads_by grammar.call tokens.old) result tokens.new }
 {
     let path = path(alloc, tokens)?;
-    let given = given(alloc, tokens)?;
-    Ok((path, given))
+    let arguments = maybe_arguments(alloc, tokens)?;
+    Ok((path, arguments))
 }
 
 /// `NEW . n`, behind the colon.

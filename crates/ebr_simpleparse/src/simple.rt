@@ -6,7 +6,7 @@ ghost use Rattle.ebr_grammar.specs.Reading.{with_first};
 ghost use Rattle.ebr_simpleparse.specs.Productions as productions;
 ghost use Rattle.ebr_simpleparse.specs.Simple as grammar;
 
-use crate::paths::{given, new_column, path, targets};
+use crate::paths::{maybe_arguments, new_column, path, targets};
 use ebr_ast::{CursorStmt, Expr, Path, Query, SelectList, SqlStmt, Stmt, Target};
 use ebr_base::Shared;
 use ebr_exprparse::read_expression;
@@ -253,9 +253,9 @@ fn assignment_or_call(alloc: Global, tokens: &mut Tokens<'_>, path: Path) -> Res
         let value = assigned(alloc, tokens)?;
         Ok(Stmt::Assign(Target::Name(path), value))
     } else {
-        let given = given(alloc, tokens)?;
+        let arguments = maybe_arguments(alloc, tokens)?;
         tokens.expect(Kind::Semicolon)?;
-        Ok(Stmt::Call(path, given))
+        Ok(Stmt::Call(path, arguments))
     }
 }
 

@@ -18,22 +18,22 @@ use Rattle.ebr_sqlparse.specs.Items.{SpellsWhat, read_what}
 abbrev pub P : Type 0 → Type 1
 P C = Production Part (λ _. ItemKind) C
 
-abbrev pub given : Part → Form ItemKind
-given _ = SpellsWhat
+abbrev pub SpellsPart : Part → Form ItemKind
+SpellsPart _ = SpellsWhat
 
-abbrev pub given_reader : Part → Reader ItemKind
-given_reader _ = read_what
+abbrev pub part_reader : Part → Reader ItemKind
+part_reader _ = read_what
 
 abbrev pub hints : Hints Part
 hints = record { begins = λ _. k.Count ∷ expressions.begins Whole; goes_on = λ _. expressions.goes_on Whole }
 
 -- The tokens spell the tree by the production.
 abbrev pub SpelledBy : {C : Type 0} → P C → Form C
-SpelledBy g ts c = Spells given g ts c
+SpelledBy g ts c = Spells SpellsPart g ts c
 
 -- What reading by the production gives.
 abbrev pub reads_by : {C : Type 0} → P C → Reader C
-reads_by g ts = reads hints given_reader g ts
+reads_by g ts = reads hints part_reader g ts
 
 -- e
 abbrev pub expr : P Expr

@@ -7,9 +7,9 @@ pub returns-in_err-path : goal.returns-in_err-path
 unfolding call
 returns-in_err-path c = simp steps (search rules)
 
-pub returns-in_err-given : goal.returns-in_err-given
+pub returns-in_err-arguments : goal.returns-in_err-arguments
 unfolding call
-returns-in_err-given c = simp steps (search rules)
+returns-in_err-arguments c = simp steps (search rules)
 
 pub returns : goal.returns
 unfolding call

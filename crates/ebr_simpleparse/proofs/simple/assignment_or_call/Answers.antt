@@ -11,9 +11,9 @@ pub returns-in_ok-value : goal.returns-in_ok-value
 unfolding assignment_or_call
 returns-in_ok-value c = simp steps (search rules)
 
-pub returns-in_err-given : goal.returns-in_err-given
+pub returns-in_err-arguments : goal.returns-in_err-arguments
 unfolding assignment_or_call
-returns-in_err-given c = simp steps (search rules)
+returns-in_err-arguments c = simp steps (search rules)
 
 pub returns-in_err-expect : goal.returns-in_err-expect
 unfolding assignment_or_call
