@@ -24,3 +24,5 @@ mod sql;
 mod statements;
 #[cfg(test)]
 mod units;
+#[cfg(test)]
+mod units_checked;

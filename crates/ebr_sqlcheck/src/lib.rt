@@ -23,9 +23,13 @@ mod verdict;
 
 pub use change::{check_delete, check_insert, check_update};
 pub use check::{check_sql, check_tree};
+pub use function::{given, taken, takes_any_type, takes_count};
 pub use mention::names_in;
 pub use query::check_query;
-pub use relation::{Meant, Relation, column_meant, relations};
-pub use typing::typed;
-pub use value_type::{ValueType, type_of_column, type_of_value};
+pub use relation::{Meant, Relation, column_meant, only_relation, relations};
+pub use target::named_type;
+pub use typing::{adds, compares, sum_type, typed};
+pub use value_type::{
+    ValueType, alike, first_known, is_plain, type_in, type_of_column, type_of_text, type_of_value,
+};
 pub use variables::{Binds, Variables};

@@ -25,7 +25,7 @@ pub fn must_fit(fits: bool) -> Result<(), Code>
 }
 
 /// Whether a comparison takes an operand of a type: BOOLEAN has `=` and `<>` alone.
-fn compares(comparison: Comparison, ty: Option<ValueType>) -> bool
+pub fn compares(comparison: Comparison, ty: Option<ValueType>) -> bool
     ensures { result ≡ spec.compares comparison ty }
 {
     match comparison {
@@ -35,7 +35,7 @@ fn compares(comparison: Comparison, ty: Option<ValueType>) -> bool
 }
 
 /// Whether an operand of a type stands beside an operator of a sum.
-fn adds(operator: AdditiveOperator, ty: Option<ValueType>) -> bool
+pub fn adds(operator: AdditiveOperator, ty: Option<ValueType>) -> bool
     ensures { result ≡ spec.adds operator ty }
 {
     match operator {
@@ -44,7 +44,7 @@ fn adds(operator: AdditiveOperator, ty: Option<ValueType>) -> bool
     }
 }
 
-fn sum_type(operator: AdditiveOperator) -> ValueType
+pub fn sum_type(operator: AdditiveOperator) -> ValueType
     ensures { result ≡ spec.sum_type operator }
 {
     match operator {

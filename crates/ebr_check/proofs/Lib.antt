@@ -1,0 +1,5 @@
+pub mod Laws
+pub mod Within
+pub mod Blocks
+pub mod Parts
+mod Validity

@@ -1,0 +1,5 @@
+pub mod Caught
+pub mod Statements
+pub mod Units
+pub mod Verdict
+pub mod Reads

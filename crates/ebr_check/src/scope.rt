@@ -1,0 +1,289 @@
+//! The names and the pragmas of one scope.
+
+ghost use Rattle.std.specs.Prelude.{◌≡◌, ◌∷◌, ◌++◌, [], false, Some, map, filter_map, IfOk, OnOk};
+ghost use Rattle.std.specs.Option.{option_copied};
+ghost use Rattle.std.specs.List.{list_all, list_any};
+ghost use Rattle.std.specs.Str.{bytes_eq};
+ghost use Rattle.ebr_names.specs.Headers.{declaration_in};
+ghost use Rattle.ebr_rules.specs.Sites as site;
+ghost use Rattle.ebr_rules.specs.Rules as rules;
+ghost use Rattle.ebr_scope.specs.Declarations as declarations;
+ghost use Rattle.ebr_check.specs.Units as units;
+ghost use Rattle.ebr_rules.specs.Noted.{noted};
+
+use ebr_ast::{Decl, PackageItem, Parameter, Subprogram};
+use ebr_base::{List, Name, NoMemory, Shared, rest_from};
+use ebr_rules::must;
+use ebr_scope::{Field, decl_name, item_name};
+use std::alloc::Global;
+
+/// Whether all names are different.
+fn are_distinct(names: &[&Name]) -> bool
+    ensures { result ≡ rules.are_distinct (map (λ n. n.now) names.now) }
+{
+    for (at, name) in names.iter().enumerate() {
+        if is_among(name, rest_from(names, at + 1)) {
+            return false;
+        }
+    }
+    true
+}
+
+fn is_among(name: &Name, names: &[&Name]) -> bool
+    ensures { result ≡ list_any (bytes_eq name.now) (map (λ n. n.now) names.now) }
+{
+    for other in names {
+        if *name == **other {
+            return true;
+        }
+    }
+    false
+}
+
+/// The names that declarations declare.
+fn declared<'a>(alloc: Global, list: &'a [Decl]) -> Result<List<&'a Name>, NoMemory>
+    ensures { IfOk result (λ names. map (λ n. n.now) names ≡ filter_map declarations.decl_name list.now) }
+{
+    let mut names = List::new(alloc);
+    for declaration in list {
+        if let Some(name) = decl_name(declaration) {
+            names.push(name)?;
+        }
+    }
+    Ok(names)
+}
+
+/// The names of a block's declarations are different.
+pub fn declares(alloc: Global, list: &[Decl], least: &mut Option<u8>) -> Result<(), NoMemory>
+    ensures { OnOk result (least.new ≡ noted (site.Declares (filter_map declarations.decl_name list.now) ∷ []) least.old) }
+{
+    let names = declared(alloc, list)?;
+    must(least, 5, are_distinct(names.as_slice()));
+    Ok(())
+}
+
+/// The names of parameters are different.
+pub fn declares_parameters(
+    alloc: Global,
+    list: &[Parameter],
+    least: &mut Option<u8>,
+) -> Result<(), NoMemory>
+    ensures { OnOk result (least.new ≡ noted (site.Declares (map units.parameter_name list.now) ∷ []) least.old) }
+{
+    let mut names = List::new(alloc);
+    for parameter in list {
+        names.push(&parameter.name)?;
+    }
+    must(least, 5, are_distinct(names.as_slice()));
+    Ok(())
+}
+
+/// The names of a specification are different.
+pub fn declares_items(
+    alloc: Global,
+    list: &[PackageItem],
+    least: &mut Option<u8>,
+) -> Result<(), NoMemory>
+    ensures { OnOk result (least.new ≡ noted (site.Declares (filter_map declarations.item_name list.now) ∷ []) least.old) }
+{
+    let mut names = List::new(alloc);
+    for item in list {
+        if let Some(name) = item_name(item) {
+            names.push(name)?;
+        }
+    }
+    must(least, 5, are_distinct(names.as_slice()));
+    Ok(())
+}
+
+/// The names of a package's body, declarations and subprograms, are different.
+pub fn declares_body(
+    alloc: Global,
+    list: &[Decl],
+    subprograms: &[Subprogram],
+    least: &mut Option<u8>,
+) -> Result<(), NoMemory>
+    ensures { OnOk result (least.new ≡ noted (site.Declares (filter_map declarations.decl_name list.now ++ map units.head_name (map units.head_of_subprogram subprograms.now)) ∷ []) least.old) }
+{
+    let mut names = declared(alloc, list)?;
+    for subprogram in subprograms {
+        names.push(&subprogram.head.name)?;
+    }
+    must(least, 5, are_distinct(names.as_slice()));
+    Ok(())
+}
+
+/// The fields of a loop's record have different names.
+pub fn loops(
+    alloc: Global,
+    fields: Option<&Shared<List<Field>>>,
+    least: &mut Option<u8>,
+) -> Result<(), NoMemory>
+    ensures { OnOk result (least.new ≡ noted (site.Loops (option_copied fields.entry) ∷ []) least.old) }
+{
+    match fields {
+        Some(fields) => differ(alloc, fields.get().as_slice(), least),
+        None => Ok(()),
+    }
+}
+
+fn differ(alloc: Global, fields: &[Field], least: &mut Option<u8>) -> Result<(), NoMemory>
+    ensures { OnOk result (least.new ≡ noted (site.Loops (Some fields.now) ∷ []) least.old) }
+{
+    let mut names = List::new(alloc);
+    for field in fields {
+        if let Some(name) = &field.name {
+            names.push(name)?;
+        }
+    }
+    must(least, 9, are_distinct(names.as_slice()));
+    Ok(())
+}
+
+// ---- pragmas
+
+/// Declarations, lent.
+fn lent(alloc: Global, list: &[Decl]) -> Result<List<&Decl>, NoMemory>
+    ensures { IfOk result (λ lent. map (λ d. d.now) lent ≡ list.now) }
+{
+    let mut lent = List::new(alloc);
+    for declaration in list {
+        lent.push(declaration)?;
+    }
+    Ok(lent)
+}
+
+/// The declarations of a specification.
+fn declarations_in(alloc: Global, items: &[PackageItem]) -> Result<List<&Decl>, NoMemory>
+    ensures { IfOk result (λ lent. map (λ d. d.now) lent ≡ filter_map declaration_in items.now) }
+{
+    let mut lent = List::new(alloc);
+    for item in items {
+        if let PackageItem::Decl(declaration) = item {
+            lent.push(declaration)?;
+        }
+    }
+    Ok(lent)
+}
+
+fn is_autonomous(declaration: &Decl) -> bool
+    ensures { result ≡ rules.is_autonomous declaration.now }
+{
+    match declaration {
+        Decl::Autonomous => true,
+        Decl::Variable { .. }
+        | Decl::Exception(_)
+        | Decl::ExceptionInit(_, _)
+        | Decl::Cursor(_, _) => false,
+    }
+}
+
+fn has_autonomous(list: &[&Decl]) -> bool
+    ensures { result ≡ rules.has_autonomous (map (λ d. d.now) list.now) }
+{
+    for declaration in list {
+        if is_autonomous(declaration) {
+            return true;
+        }
+    }
+    false
+}
+
+/// Whether AUTONOMOUS_TRANSACTION stands so often as it may: once at most, and not at all where it may not stand.
+fn autonomous_stands(outermost: bool, list: &[&Decl]) -> bool
+    ensures { result ≡ rules.autonomous_stands outermost (map (λ d. d.now) list.now) }
+{
+    for (at, declaration) in list.iter().enumerate() {
+        if is_autonomous(declaration) {
+            return outermost && !has_autonomous(rest_from(list, at + 1));
+        }
+    }
+    true
+}
+
+fn is_exception_named(name: &Name, declaration: &Decl) -> bool
+    ensures { result ≡ rules.is_exception_named name.now declaration.now }
+{
+    match declaration {
+        Decl::Exception(declared) => *name == *declared,
+        Decl::Variable { .. } | Decl::ExceptionInit(_, _) | Decl::Autonomous | Decl::Cursor(_, _) =>
+            false,
+    }
+}
+
+fn has_exception(list: &[&Decl], name: &Name) -> bool
+    ensures { result ≡ list_any (rules.is_exception_named name.now) (map (λ d. d.now) list.now) }
+{
+    for declaration in list {
+        if is_exception_named(name, declaration) {
+            return true;
+        }
+    }
+    false
+}
+
+/// Whether an exception may have a number.
+fn is_exception_number(number: u64) -> bool
+    ensures { result ≡ rules.is_exception_number number }
+{
+    1 <= number && number <= 20999 && number != 1403
+}
+
+fn init_stands(list: &[&Decl], declaration: &Decl) -> bool
+    ensures { result ≡ rules.init_stands (map (λ d. d.now) list.now) declaration.now }
+{
+    match declaration {
+        Decl::ExceptionInit(name, number) => {
+            is_exception_number(*number) && has_exception(list, name)
+        }
+        Decl::Variable { .. } | Decl::Exception(_) | Decl::Autonomous | Decl::Cursor(_, _) => true,
+    }
+}
+
+fn inits_stand(list: &[&Decl]) -> bool
+    ensures { result ≡ list_all (rules.init_stands (map (λ d. d.now) list.now)) (map (λ d. d.now) list.now) }
+{
+    for declaration in list {
+        if !init_stands(list, declaration) {
+            return false;
+        }
+    }
+    true
+}
+
+fn lent_pragmas(outermost: bool, list: &[&Decl], least: &mut Option<u8>)
+    ensures { least.new ≡ noted (site.Pragmas outermost (map (λ d. d.now) list.now) ∷ []) least.old }
+{
+    must(
+        least,
+        10,
+        autonomous_stands(outermost, list) && inits_stand(list),
+    );
+}
+
+/// The pragmas among declarations.
+pub fn pragmas(
+    alloc: Global,
+    outermost: bool,
+    list: &[Decl],
+    least: &mut Option<u8>,
+) -> Result<(), NoMemory>
+    ensures { OnOk result (least.new ≡ noted (site.Pragmas outermost list.now ∷ []) least.old) }
+{
+    let lent = lent(alloc, list)?;
+    lent_pragmas(outermost, lent.as_slice(), least);
+    Ok(())
+}
+
+/// The pragmas of a specification.
+pub fn item_pragmas(
+    alloc: Global,
+    list: &[PackageItem],
+    least: &mut Option<u8>,
+) -> Result<(), NoMemory>
+    ensures { OnOk result (least.new ≡ noted (site.Pragmas false (filter_map declaration_in list.now) ∷ []) least.old) }
+{
+    let lent = declarations_in(alloc, list)?;
+    lent_pragmas(false, lent.as_slice(), least);
+    Ok(())
+}

@@ -1,0 +1,4 @@
+pub mod Laws
+pub mod EachSite
+pub mod Least
+mod Examples

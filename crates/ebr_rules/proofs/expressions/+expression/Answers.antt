@@ -1,0 +1,216 @@
+use Rattle.std.proofs.Common.{◌≡◌, suc, ◌+◌, [], ◌∷◌, ◌++◌, Some, drop, map, refl, arith, rules}
+use Rattle.std.proofs.lemmas.Grind.{common_steps}
+use Rattle.std.proofs.lemmas.List.{length-map}
+use Rattle.ebr_exprtree.specs.declared.expression.Expr.TheViews.{the_lemmas}
+use Rattle.ebr_exprtree.specs.declared.expression.Comparison.TheVariants as comparison
+use Rattle.ebr_sqlcheck.specs.Functions.{taken}
+use Rattle.ebr_sqlcheck.specs.Operands.{sum_type}
+use Rattle.ebr_sqlcheck.specs.Types.{first_known}
+use Rattle.ebr_scope.specs.Lent.{env}
+use Rattle.ebr_rules.specs.Sites.{Fits}
+use Rattle.ebr_rules.specs.Expressions.{reading_of, term_of, sites_of, type_of, wanted, all_wanted, compared, all_compared, added_sites, sum_from, one_type, operands_from, passed, arguments}
+use Rattle.ebr_rules.proofs.Laws.{reading_of-out, term_of-out, noted_append, more, more_with}
+use Rattle.ebr_rules.proofs.expressions.+expression.Goals as goal
+
+pub expression-returns-in-Number-clause-told : goal.expression-returns-in-Number-clause-told
+expression-returns-in-Number-clause-told t c = search (rules, the_lemmas, reading_of-out, noted_append)
+
+pub expression-returns-in-Number-clause-least : goal.expression-returns-in-Number-clause-least
+expression-returns-in-Number-clause-least t c = search (rules, the_lemmas, reading_of-out, noted_append)
+
+pub expression-returns-in-Text-clause-told : goal.expression-returns-in-Text-clause-told
+expression-returns-in-Text-clause-told t c = search (rules, the_lemmas, reading_of-out, noted_append)
+
+pub expression-returns-in-Text-clause-least : goal.expression-returns-in-Text-clause-least
+expression-returns-in-Text-clause-least t c = search (rules, the_lemmas, reading_of-out, noted_append)
+
+pub expression-returns-in-Null-clause-told : goal.expression-returns-in-Null-clause-told
+expression-returns-in-Null-clause-told t c = search (rules, the_lemmas, reading_of-out, noted_append)
+
+pub expression-returns-in-Null-clause-least : goal.expression-returns-in-Null-clause-least
+expression-returns-in-Null-clause-least t c = search (rules, the_lemmas, reading_of-out, noted_append)
+
+pub expression-returns-in-Boolean-clause-told : goal.expression-returns-in-Boolean-clause-told
+expression-returns-in-Boolean-clause-told t c = search (rules, the_lemmas, reading_of-out, noted_append)
+
+pub expression-returns-in-Boolean-clause-least : goal.expression-returns-in-Boolean-clause-least
+expression-returns-in-Boolean-clause-least t c = search (rules, the_lemmas, reading_of-out, noted_append)
+
+pub expression-returns-in-Name-clause-told : goal.expression-returns-in-Name-clause-told
+expression-returns-in-Name-clause-told t c = search (rules, the_lemmas, reading_of-out, noted_append)
+
+pub expression-returns-in-Name-clause-least : goal.expression-returns-in-Name-clause-least
+expression-returns-in-Name-clause-least t c = search (rules, the_lemmas, reading_of-out, noted_append)
+
+pub expression-returns-in-Call-clause-told : goal.expression-returns-in-Call-clause-told
+expression-returns-in-Call-clause-told t c = search (rules, the_lemmas, reading_of-out, noted_append, length-map)
+
+pub expression-returns-in-Call-clause-least : goal.expression-returns-in-Call-clause-least
+expression-returns-in-Call-clause-least t c = search (rules, the_lemmas, reading_of-out, noted_append, length-map)
+
+pub expression-returns-in-Quotient-clause-told : goal.expression-returns-in-Quotient-clause-told
+expression-returns-in-Quotient-clause-told t c = search (rules, the_lemmas, reading_of-out, noted_append)
+
+pub expression-returns-in-Quotient-clause-least : goal.expression-returns-in-Quotient-clause-least
+expression-returns-in-Quotient-clause-least t c = search (rules, the_lemmas, reading_of-out, noted_append)
+
+pub expression-returns-in-Row-clause-told : goal.expression-returns-in-Row-clause-told
+expression-returns-in-Row-clause-told t c = search (rules, the_lemmas, reading_of-out, noted_append)
+
+pub expression-returns-in-Row-clause-least : goal.expression-returns-in-Row-clause-least
+expression-returns-in-Row-clause-least t c = search (rules, the_lemmas, reading_of-out, noted_append)
+
+pub expression-returns-in-SqlCode-clause-told : goal.expression-returns-in-SqlCode-clause-told
+expression-returns-in-SqlCode-clause-told t c = search (rules, the_lemmas, reading_of-out, noted_append)
+
+pub expression-returns-in-SqlCode-clause-least : goal.expression-returns-in-SqlCode-clause-least
+expression-returns-in-SqlCode-clause-least t c = search (rules, the_lemmas, reading_of-out, noted_append)
+
+pub expression-returns-in-Firing-clause-told : goal.expression-returns-in-Firing-clause-told
+expression-returns-in-Firing-clause-told t c = search (rules, the_lemmas, reading_of-out, noted_append)
+
+pub expression-returns-in-Firing-clause-least : goal.expression-returns-in-Firing-clause-least
+expression-returns-in-Firing-clause-least t c = search (rules, the_lemmas, reading_of-out, noted_append)
+
+pub expression-returns-in-Attribute-clause-told : goal.expression-returns-in-Attribute-clause-told
+expression-returns-in-Attribute-clause-told t c = search (rules, the_lemmas, reading_of-out, noted_append)
+
+pub expression-returns-in-Attribute-clause-least : goal.expression-returns-in-Attribute-clause-least
+expression-returns-in-Attribute-clause-least t c = search (rules, the_lemmas, reading_of-out, noted_append)
+
+pub expression-returns-in-Plus-clause-told : goal.expression-returns-in-Plus-clause-told
+expression-returns-in-Plus-clause-told t c = search (rules, the_lemmas, reading_of-out, noted_append)
+
+pub expression-returns-in-Plus-clause-least : goal.expression-returns-in-Plus-clause-least
+expression-returns-in-Plus-clause-least t c = search (rules, the_lemmas, reading_of-out, noted_append)
+
+pub expression-returns-in-Minus-clause-told : goal.expression-returns-in-Minus-clause-told
+expression-returns-in-Minus-clause-told t c = search (rules, the_lemmas, reading_of-out, noted_append)
+
+pub expression-returns-in-Minus-clause-least : goal.expression-returns-in-Minus-clause-least
+expression-returns-in-Minus-clause-least t c = search (rules, the_lemmas, reading_of-out, noted_append)
+
+pub expression-returns-in-Product-clause-told : goal.expression-returns-in-Product-clause-told
+expression-returns-in-Product-clause-told t c = search (rules, the_lemmas, reading_of-out, noted_append)
+
+pub expression-returns-in-Product-clause-least : goal.expression-returns-in-Product-clause-least
+expression-returns-in-Product-clause-least t c = search (rules, the_lemmas, reading_of-out, noted_append)
+
+pub expression-returns-in-Sum-clause-told : goal.expression-returns-in-Sum-clause-told
+expression-returns-in-Sum-clause-told t c = search (rules, the_lemmas, reading_of-out, noted_append)
+
+pub expression-returns-in-Sum-clause-least : goal.expression-returns-in-Sum-clause-least
+expression-returns-in-Sum-clause-least t c = search (rules, the_lemmas, reading_of-out, noted_append)
+
+pub expression-returns-in-Compare-clause-told : goal.expression-returns-in-Compare-clause-told
+expression-returns-in-Compare-clause-told t c = search (rules, the_lemmas, reading_of-out, noted_append)
+
+pub expression-returns-in-Compare-clause-least : goal.expression-returns-in-Compare-clause-least
+expression-returns-in-Compare-clause-least t c = search (rules, the_lemmas, reading_of-out, noted_append)
+
+pub expression-returns-in-IsNull-clause-told : goal.expression-returns-in-IsNull-clause-told
+expression-returns-in-IsNull-clause-told t c = search (rules, the_lemmas, reading_of-out, noted_append)
+
+pub expression-returns-in-IsNull-clause-least : goal.expression-returns-in-IsNull-clause-least
+expression-returns-in-IsNull-clause-least t c = search (rules, the_lemmas, reading_of-out, noted_append)
+
+pub expression-returns-in-Between-clause-told : goal.expression-returns-in-Between-clause-told
+expression-returns-in-Between-clause-told t c = search (rules, the_lemmas, reading_of-out, noted_append)
+
+pub expression-returns-in-Between-clause-least : goal.expression-returns-in-Between-clause-least
+expression-returns-in-Between-clause-least t c = search (rules, the_lemmas, reading_of-out, noted_append)
+
+pub expression-returns-in-In-clause-told : goal.expression-returns-in-In-clause-told
+expression-returns-in-In-clause-told t c = search (rules, the_lemmas, reading_of-out, noted_append)
+
+pub expression-returns-in-In-clause-least : goal.expression-returns-in-In-clause-least
+expression-returns-in-In-clause-least t c = search (rules, the_lemmas, reading_of-out, noted_append)
+
+pub expression-returns-in-Like-clause-told : goal.expression-returns-in-Like-clause-told
+expression-returns-in-Like-clause-told t c = search (rules, the_lemmas, reading_of-out, noted_append)
+
+pub expression-returns-in-Like-clause-least : goal.expression-returns-in-Like-clause-least
+expression-returns-in-Like-clause-least t c = search (rules, the_lemmas, reading_of-out, noted_append)
+
+pub expression-returns-in-Not-clause-told : goal.expression-returns-in-Not-clause-told
+expression-returns-in-Not-clause-told t c = search (rules, the_lemmas, reading_of-out, noted_append)
+
+pub expression-returns-in-Not-clause-least : goal.expression-returns-in-Not-clause-least
+expression-returns-in-Not-clause-least t c = search (rules, the_lemmas, reading_of-out, noted_append)
+
+pub expression-returns-in-And-clause-told : goal.expression-returns-in-And-clause-told
+expression-returns-in-And-clause-told t c = search (rules, the_lemmas, reading_of-out, noted_append)
+
+pub expression-returns-in-And-clause-least : goal.expression-returns-in-And-clause-least
+expression-returns-in-And-clause-least t c = search (rules, the_lemmas, reading_of-out, noted_append)
+
+pub expression-returns-in-Or-clause-told : goal.expression-returns-in-Or-clause-told
+expression-returns-in-Or-clause-told t c = search (rules, the_lemmas, reading_of-out, noted_append)
+
+pub expression-returns-in-Or-clause-least : goal.expression-returns-in-Or-clause-least
+expression-returns-in-Or-clause-least t c = search (rules, the_lemmas, reading_of-out, noted_append)
+
+pub expression-returns-in-Place-clause-told : goal.expression-returns-in-Place-clause-told
+expression-returns-in-Place-clause-told t c = search (rules, the_lemmas, reading_of-out, noted_append)
+
+pub expression-returns-in-Place-clause-least : goal.expression-returns-in-Place-clause-least
+expression-returns-in-Place-clause-least t c = search (rules, the_lemmas, reading_of-out, noted_append)
+
+pub expression-returns-in-Bind-clause-told : goal.expression-returns-in-Bind-clause-told
+expression-returns-in-Bind-clause-told t c = search (rules, the_lemmas, reading_of-out, noted_append)
+
+pub expression-returns-in-Bind-clause-least : goal.expression-returns-in-Bind-clause-least
+expression-returns-in-Bind-clause-least t c = search (rules, the_lemmas, reading_of-out, noted_append)
+
+pub wanted-returns : goal.wanted-returns
+wanted-returns t c = search (rules, noted_append)
+
+pub compared-returns : goal.compared-returns
+compared-returns t c = search (rules, noted_append)
+
+pub added_to-returns : goal.added_to-returns
+added_to-returns t c = search (rules, noted_append, term_of-out)
+
+pub all_wanted-loop-e-preserved : goal.all_wanted-loop-e-preserved
+all_wanted-loop-e-preserved t c =
+    let e : drop c.loop-e.e-index c.as_slice-e-items.result.now ≡ c.e-item.result ∷ drop (c.loop-e.e-index + 1) c.as_slice-e-items.result.now = grind (arith, common_steps) in
+    more (λ es. all_wanted c.args.ty (map reading_of es) (env c.args.place.now c.args.known.now)) (λ x. wanted c.args.ty (reading_of x) (env c.args.place.now c.args.known.now)) (λ x xs. refl)
+    _ _ _ _ _ _ e c.loop-e.invariant (search rules)
+
+pub all_compared-loop-e-preserved : goal.all_compared-loop-e-preserved
+all_compared-loop-e-preserved t c =
+    let e : drop c.loop-e.e-index c.as_slice-e-items.result.now ≡ c.e-item.result ∷ drop (c.loop-e.e-index + 1) c.as_slice-e-items.result.now = grind (arith, common_steps) in
+    more (λ es. all_compared comparison.Equal c.args.ty (map reading_of es) (env c.args.place.now c.args.known.now)) (λ x. compared comparison.Equal c.args.ty (reading_of x) (env c.args.place.now c.args.known.now)) (λ x xs. refl)
+    _ _ _ _ _ _ e c.loop-e.invariant (search rules)
+
+pub sum_from-loop-addend-preserved : goal.sum_from-loop-addend-preserved
+sum_from-loop-addend-preserved t c =
+    let e : drop c.loop-addend.addend-index c.as_slice-addend-items.result.now ≡ c.addend-item.result ∷ drop (c.loop-addend.addend-index + 1) c.as_slice-addend-items.result.now = grind (arith, common_steps) in
+    record {
+      told = search (rules, term_of-out);
+      least = more_with (λ ty ts. (sum_from ty (map term_of ts) (env c.args.place.now c.args.known.now)).sites) (λ ty x. added_sites ty (term_of x) (env c.args.place.now c.args.known.now)) (λ ty x. Some (sum_type (term_of x).operator)) (λ s x xs. refl)
+          _ _ _ _ _ _ _ _ e c.loop-addend.invariant.least (search rules) (search (rules, term_of-out));
+    }
+
+pub one_type-loop-e-preserved : goal.one_type-loop-e-preserved
+one_type-loop-e-preserved t c =
+    let e : drop c.loop-e.e-index c.as_slice-e-items.result.now ≡ c.e-item.result ∷ drop (c.loop-e.e-index + 1) c.as_slice-e-items.result.now = grind (arith, common_steps) in
+    record {
+      told = search rules;
+      least = more_with (λ ty es. (one_type ty (map reading_of es) (env c.args.place.now c.args.known.now)).sites)
+          (λ ty x. sites_of (reading_of x) (env c.args.place.now c.args.known.now) ++ Fits ty (type_of (reading_of x) (env c.args.place.now c.args.known.now)) ∷ [])
+          (λ ty x. first_known ty (type_of (reading_of x) (env c.args.place.now c.args.known.now))) (λ s x xs. refl)
+          _ _ _ _ _ _ _ _ e c.loop-e.invariant.least (search (rules, noted_append)) (search rules);
+    }
+
+pub operands_of-loop-at-preserved : goal.operands_of-loop-at-preserved
+operands_of-loop-at-preserved t c =
+    let e : drop c.loop-at.at c.as_slice-e-items.result.now ≡ c.e-item.result ∷ drop (c.loop-at.at + 1) c.as_slice-e-items.result.now = grind (arith, common_steps) in
+    more_with (λ at es. operands_from c.args.f at (map reading_of es) (env c.args.place.now c.args.known.now)) (λ at x. wanted (taken c.args.f at) (reading_of x) (env c.args.place.now c.args.known.now)) (λ at x. suc at) (λ s x xs. refl)
+    _ _ _ _ _ _ _ _ e c.loop-at.invariant (search rules) (search rules)
+
+pub arguments-loop-e-preserved : goal.arguments-loop-e-preserved
+arguments-loop-e-preserved t c =
+    let e : drop c.loop-e.e-index c.as_slice-e-items.result.now ≡ c.e-item.result ∷ drop (c.loop-e.e-index + 1) c.as_slice-e-items.result.now = grind (arith, common_steps) in
+    more_with (λ ps es. arguments (map reading_of es) ps (env c.args.place.now c.args.known.now)) (λ ps x. sites_of (reading_of x) (env c.args.place.now c.args.known.now) ++ passed (env c.args.place.now c.args.known.now) ps (reading_of x (env c.args.place.now c.args.known.now)).told) (λ ps x. drop 1 ps) (λ s x xs. refl)
+    _ _ _ _ _ _ _ _ e c.loop-e.invariant (search (rules, noted_append)) (search rules)

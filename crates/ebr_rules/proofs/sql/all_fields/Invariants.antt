@@ -1,0 +1,7 @@
+use Rattle.std.proofs.Common.{◌≡◌, ◌++◌, drop, flat_map}
+use Rattle.ebr_rules.specs.Columns.{relation_fields}
+use Rattle.ebr_rules.proofs.sql.all_fields.Given as goal
+
+abbrev pub invariant-loop-relation : goal.invariant-loop-relation
+invariant-loop-relation l =
+    l.fields ++ flat_map relation_fields (drop l.relation-index l.relations) ≡ flat_map relation_fields l.relations

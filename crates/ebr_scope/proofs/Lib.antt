@@ -1,0 +1,4 @@
+mod Entries
+mod Before
+mod Shown
+mod Examples

@@ -1,0 +1,30 @@
+-- What the code has of a name, as what it means.
+use Rattle.std.specs.Prelude.{List, Option}
+use Rattle.ebr_ast.specs.declared.unit.Head.{Head}
+use Rattle.ebr_scope.specs.declared.meaning.Meaning.TheVariants as found
+use Rattle.ebr_scope.specs.declared.meaning.Meaning as lending
+use Rattle.ebr_scope.specs.declared.place.Place.{Place}
+use Rattle.ebr_scope.specs.Meanings.{Meaning, Variable, Constant, Parameter, Exception, Cursor, Record, Subprogram, Scope}
+use Rattle.ebr_scope.specs.Around.{Env}
+
+abbrev pub lent : lending.Meaning → Meaning
+lent (found.Variable t) = Variable t
+lent (found.Constant t) = Constant t
+lent (found.Parameter m t) = Parameter m t
+lent found.Exception = Exception
+lent found.Cursor = Cursor
+lent found.Record = Record
+lent (found.Subprogram h) = Subprogram h.now
+
+-- what is known at a place
+abbrev pub env : Place → Scope → Env
+env p scope = record {
+  view = p.seen.now.view;
+  scope = scope;
+  in_loop = p.in_loop;
+  in_handler = p.in_handler;
+  outermost = p.outermost;
+  result = p.gives;
+  timing = p.timing;
+  columns = p.columns.now;
+}

@@ -1,0 +1,6 @@
+pub mod Visible
+pub mod Meanings
+pub mod Declarations
+pub mod Names
+pub mod Around
+pub mod Lent

@@ -1,0 +1,21 @@
+//! Names in code: what is declared around a piece of code, and what names stand for there.
+//!
+//! What is used above: `meant`, `plain`, `called`, `applied` and `raised` are the words of these names of `specs/Names.antt`
+//! over what the edition sees and the declared names (`Scopes`, the innermost first).
+#![tactic(auto)]
+
+mod column;
+mod field;
+mod lookup;
+mod meaning;
+mod place;
+mod scopes;
+
+pub use column::{column_type_of, declared_type, parameter_type, result_type};
+pub use field::Field;
+pub use lookup::{
+    applied, called, decl_name, item_name, meant, plain, raised, variable, visible_items,
+};
+pub use meaning::{Meaning, is_out, is_target, variable_type};
+pub use place::{Place, Seen};
+pub use scopes::Scopes;
