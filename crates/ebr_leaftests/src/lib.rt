@@ -28,6 +28,8 @@ mod outside;
 #[cfg(test)]
 mod tables;
 #[cfg(test)]
+mod transactions;
+#[cfg(test)]
 mod value;
 #[cfg(test)]
 mod versions;

@@ -3,6 +3,7 @@
 use Rattle.std.specs.Prelude.{ℕ, zero, suc, Bool, not, ◌&&◌, ◌==◌, ◌<◌, ◌≤◌, ◌≡◌, false, if◌then◌else◌, List, [], ◌∷◌, ◌++◌, length, filter, find, Option, Some, None, option_map, Result, Ok, Err}
 use Rattle.std.specs.List.{list_any}
 use Rattle.ebr_base.specs.declared.numbers.TheConstants.{MAX_COUNT}
+use Rattle.ebr_base.specs.declared.numbers.TableId.{TableId}
 use Rattle.ebr_base.specs.declared.row.RowId.{RowId}
 use Rattle.ebr_base.specs.declared.row.TxId.{TxId}
 use Rattle.ebr_locks.specs.declared.locks.Held.{Held}
@@ -34,6 +35,10 @@ holder_of row taken = option_map (λ l. l.1) (find (λ l. same_row l.0 row) take
 
 abbrev pub is_of : TxId → Lock → Bool
 is_of tx l = same_tx l.1 tx
+
+-- a transaction but this one holds a row of the table
+abbrev pub is_held_in : TableId → TxId → List Lock → Bool
+is_held_in table but taken = list_any (λ (l : Lock). l.0.table.0 == table.0 && not (is_of but l)) taken
 
 -- the locks of one transaction, in the order in which it took them
 abbrev pub locks_of : TxId → List Lock → List Lock

@@ -1,6 +1,6 @@
 //! Row locks: which transaction holds which row.
 //!
-//! What is used above: `take`, `holder`, `held` and `release_to` of `Locks` answer and change as `specs/Locks.antt`
+//! What is used above: `take`, `holder`, `held`, `holds_in` and `release_to` of `Locks` answer and change as `specs/Locks.antt`
 //! defines it over the plain list of locks, and no row is locked twice (`AreLocks`). `reserve` makes the room that a
 //! `take` uses up.
 //!

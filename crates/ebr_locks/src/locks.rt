@@ -2,9 +2,9 @@
 
 ghost use Rattle.std.specs.Prelude.{◌≡◌, ◌≤◌, ◌<◌, ◌+◌, [], length, take, find, Some, IfOk, OnOk, OnErr};
 ghost use Rattle.std.specs.Option.{option_copied};
-ghost use Rattle.ebr_locks.specs.Locks.{HasRoom, AreLocks, same_row, holder_of, locks_of, others_than, take_answer, after_take, released};
+ghost use Rattle.ebr_locks.specs.Locks.{HasRoom, AreLocks, same_row, holder_of, locks_of, others_than, take_answer, after_take, released, is_held_in};
 
-use ebr_base::{MAX_COUNT, NoMemory, RowId, TxId};
+use ebr_base::{MAX_COUNT, NoMemory, RowId, TableId, TxId};
 use std::alloc::Global;
 use std::marker::Model;
 
@@ -89,6 +89,15 @@ impl Locks {
         ensures { result ≡ length (locks_of tx self.now.taken) }
     {
         self.taken.iter().filter(|lock| lock.1 == tx).count() as u32
+    }
+
+    /// Whether a transaction but this one holds a row of the table.
+    pub fn holds_in(&self, table: TableId, but: TxId) -> bool
+        ensures { result ≡ is_held_in table but self.now.taken }
+    {
+        self.taken
+            .iter()
+            .any(|lock| lock.0.table == table && lock.1 != but)
     }
 
     /// Frees the rows that a transaction took after its first `mark`. The locks of others stay.

@@ -87,11 +87,11 @@ or_more true u v h e = refl
 or_more false u v h e = h e
 
 -- a table that was added is there with others too
-is_added-append : (t : TableId) (xs ys : List Table) → is_added xs t ≡ true → is_added (xs ++ ys) t ≡ true
+pub is_added-append : (t : TableId) (xs ys : List Table) → is_added xs t ≡ true → is_added (xs ++ ys) t ≡ true
 is_added-append t [] ys e = cc
 is_added-append t (x ∷ xs) ys e = or_more (is_table x.id t) (is_added xs t) (is_added (xs ++ ys) t) (is_added-append t xs ys) e
 
-OfAdded-append : (xs ys : List Table) (changes : List Change) → OfAdded xs changes → OfAdded (xs ++ ys) changes
+pub OfAdded-append : (xs ys : List Table) (changes : List Change) → OfAdded xs changes → OfAdded (xs ++ ys) changes
 OfAdded-append xs ys changes all =
     All-weaker (λ (c : Change). is_added xs c.row.table ≡ true) (λ (c : Change). is_added (xs ++ ys) c.row.table ≡ true) (λ c. is_added-append c.row.table xs ys) changes all
 
@@ -105,7 +105,7 @@ find-append t [] ys e = cc
 find-append t (x ∷ xs) ys e =
     found_before (is_table x.id t) (is_added xs t) x (find (λ (x : Table). is_table x.id t) xs) (find (λ (x : Table). is_table x.id t) (xs ++ ys)) (find-append t xs ys) e
 
-key_places-append : (t : TableId) (xs ys : List Table) → is_added xs t ≡ true → key_places (xs ++ ys) t ≡ key_places xs t
+pub key_places-append : (t : TableId) (xs ys : List Table) → is_added xs t ≡ true → key_places (xs ++ ys) t ≡ key_places xs t
 key_places-append t xs ys e = ap (λ (o : Option Table). unwrap_or (option_map (λ (x : Table). x.key) o) []) (find-append t xs ys e)
 
 -- keys differ with another table too, since no row is in that one

@@ -35,7 +35,7 @@ any_step true u c kept e = sym (last_or_is_some c kept)
 any_step false u c kept e = e
 
 -- a list changes a row just where it has a last change of it
-changes_row_is : (row : RowId) (cs : List Change) → changes_row row cs ≡ is_some (last_change row cs)
+pub changes_row_is : (row : RowId) (cs : List Change) → changes_row row cs ≡ is_some (last_change row cs)
 changes_row_is row [] = refl
 changes_row_is row (c ∷ cs) = any_step (is_of row c) (changes_row row cs) c (filter (is_of row) cs) (changes_row_is row cs)
 

@@ -1,5 +1,5 @@
 -- The least of some numbers, taken piece by piece.
-use Rattle.std.proofs.Common.{◌≡◌, ℕ, suc, ◌+◌, ◌<◌, ◌≤◌, ◌⊎◌, inl, inr, ⊎_elim, Bool, true, false, cond, List, [], ◌∷◌, ◌++◌, Option, Some, None, min, map, drop, get_or, length, refl, sym, ap, ◌∙◌, subst, arith, ltb, option_map}
+use Rattle.std.proofs.Common.{◌≡◌, ℕ, suc, ◌+◌, ◌<◌, ◌≤◌, ◌⊎◌, inl, inr, ⊎_elim, Bool, true, false, cond, List, [], ◌∷◌, ◌++◌, Option, Some, None, min, max, map, drop, get_or, length, refl, sym, ap, ◌∙◌, subst, arith, ltb, option_map}
 use Rattle.std.specs.Prelude.{All, Contains, filter}
 use Rattle.std.specs.List.{AllByRecursion}
 use Rattle.std.proofs.lemmas.Bool.{cases_lt, ltb-true, ltb-false, lt-ltb, false≢true, false_from_ne_true}
@@ -9,7 +9,7 @@ use Rattle.std.proofs.lemmas.List.Elements.{filter-append, All-filter, All-conta
 use Rattle.ebr_base.specs.declared.numbers.TableId.{TableId}
 use Rattle.ebr_base.specs.declared.numbers.RowNo.{RowNo}
 use Rattle.ebr_base.specs.declared.row.Change.{Change}
-use Rattle.ebr_versions.specs.Data.{lesser, least, is_in, row_numbers, next_number_in, next_number, changes_in, row_no}
+use Rattle.ebr_versions.specs.Data.{lesser, least, is_in, row_numbers, next_number_in, next_number, changes_in, row_no, greatest, greatest_number_in, greatest_number}
 use Rattle.ebr_versions.specs.Laws.{NextRowIsNext, NoRowIsAfter}
 
 min_assoc : (a b c : ℕ) → min (min a b) c ≡ min a (min b c)
@@ -25,7 +25,7 @@ least-append : (xs ys : List ℕ) → least (xs ++ ys) ≡ lesser (least xs) (le
 least-append [] ys = refl
 least-append (x ∷ xs) ys = ap (lesser (Some x)) (least-append xs ys) ∙ sym (lesser_assoc (Some x) (least xs) (least ys))
 
-next_number_in-append : (xs ys : List Change) (t : TableId) (after : ℕ) → next_number_in (xs ++ ys) t after ≡ lesser (next_number_in xs t after) (next_number_in ys t after)
+pub next_number_in-append : (xs ys : List Change) (t : TableId) (after : ℕ) → next_number_in (xs ++ ys) t after ≡ lesser (next_number_in xs t after) (next_number_in ys t after)
 next_number_in-append xs ys t after =
     ap (λ cs. least (filter (ltb after) (map (λ (c : Change). c.row.row.0) cs))) (filter-append (is_in t) xs ys)
     ∙ ap (λ ns. least (filter (ltb after) ns)) (map-append (λ (c : Change). c.row.row.0) (filter (is_in t) xs) (filter (is_in t) ys))
@@ -76,7 +76,7 @@ lesser_some : (n : ℕ) (o : Option ℕ) → lesser (Some n) o ≡ None → ⊥
 lesser_some n None e = cc
 lesser_some n (Some k) e = cc
 
-least_none : (ns : List ℕ) → least ns ≡ None → ns ≡ []
+pub least_none : (ns : List ℕ) → least ns ≡ None → ns ≡ []
 least_none [] e = refl
 least_none (n ∷ ns) e = absurd (lesser_some n (least ns) e)
 
@@ -90,7 +90,7 @@ module _ (p : ℕ → Bool) (Q : ℕ → Type 0) where
   unfiltered [] h = tt
   unfiltered (n ∷ ns) h = let parts = unfiltered_one (p n) n (filter p ns) h in (parts.0, unfiltered ns parts.1)
 
-least_above : (after m : ℕ) (ns : List ℕ) → least (filter (ltb after) ns) ≡ Some m → Contains ns m × (after < m) × All (λ n. after < n → m ≤ n) ns
+pub least_above : (after m : ℕ) (ns : List ℕ) → least (filter (ltb after) ns) ≡ Some m → Contains ns m × (after < m) × All (λ n. after < n → m ≤ n) ns
 least_above after m ns e =
     let among = least_among m (filter (ltb after) ns) e in
     let one = All-contains (Contains ns) (filter (ltb after) ns) m (All-filter (ltb after) (Contains ns) ns (All-contains_itself ns)) among in
@@ -119,3 +119,26 @@ next_row_is_next commits t after r e = least_above after.0 r.0 (row_numbers t (c
 
 pub no_row_is_after : NoRowIsAfter
 no_row_is_after commits t after e = none_above after.0 (row_numbers t (changes_in commits)) (row_no_none (next_number commits t after.0) e)
+
+max_assoc : (a b c : ℕ) → max (max a b) c ≡ max a (max b c)
+max_assoc a b c = omega arith
+
+greatest-append : (xs ys : List ℕ) → greatest (xs ++ ys) ≡ max (greatest xs) (greatest ys)
+greatest-append [] ys = omega arith
+greatest-append (x ∷ xs) ys = ap (max x) (greatest-append xs ys) ∙ sym (max_assoc x (greatest xs) (greatest ys))
+
+pub greatest_number_in-append : (xs ys : List Change) (t : TableId) → greatest_number_in (xs ++ ys) t ≡ max (greatest_number_in xs t) (greatest_number_in ys t)
+greatest_number_in-append xs ys t =
+    ap (λ cs. greatest (map (λ (c : Change). c.row.row.0) cs)) (filter-append (is_in t) xs ys)
+    ∙ ap greatest (map-append (λ (c : Change). c.row.row.0) (filter (is_in t) xs) (filter (is_in t) ys))
+    ∙ greatest-append (row_numbers t xs) (row_numbers t ys)
+
+-- the step of the loop over the commits
+pub greatest_number_more : (commits : List (List Change)) (i : ℕ) (changes : List Change) (t : TableId) (so_far : ℕ) → i < length commits → changes ≡ get_or commits i changes
+    → max (greatest_number (drop (i + 1) commits) t) (max (greatest_number_in changes t) so_far) ≡ max (greatest_number (drop i commits) t) so_far
+greatest_number_more commits i changes t so_far h e =
+    let joined : greatest_number (drop i commits) t ≡ max (greatest_number_in changes t) (greatest_number (drop (i + 1) commits) t) =
+    ap (λ cs. greatest_number cs t) (drop_more commits i changes h ∙ ap (λ c. c ∷ drop (i + 1) commits) (sym e))
+    ∙ greatest_number_in-append changes (changes_in (drop (i + 1) commits)) t
+    in
+    omega arith

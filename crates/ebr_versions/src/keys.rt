@@ -59,7 +59,7 @@ pub fn has_key(commits: &[List<Change>], places: &[u16], row: RowId, key: &[Valu
 }
 
 /// Whether the values at these places are the key.
-fn is_key_of(values: &[Value], places: &[u16], key: &[Value]) -> bool
+pub fn is_key_of(values: &[Value], places: &[u16], key: &[Value]) -> bool
     requires { length places.now ≡ length key.now }
     ensures { IsTrue result ↔ (key_of places.now values.now ≡ key.now) }
 {
@@ -82,7 +82,7 @@ fn is_value_at(values: &[Value], place: u16, value: &Value) -> bool
 }
 
 /// Whether two values are equal as data.
-fn is_same(a: &Value, b: &Value) -> bool
+pub fn is_same(a: &Value, b: &Value) -> bool
     ensures { IsTrue result ↔ (a.now ≡ b.now) }
 {
     match (a, b) {

@@ -14,5 +14,7 @@ mod rows;
 mod table;
 mod versions;
 
+pub use keys::is_key_of;
 pub use laws::{next_rows, reads};
+pub use rows::{changes_row, greatest_number_in, last_change, lesser, next_number_in};
 pub use versions::Versions;

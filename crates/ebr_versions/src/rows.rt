@@ -3,7 +3,7 @@
 ghost use Rattle.std.specs.Prelude.{◌≡◌, ◌≤◌, length, find, reverse, position};
 ghost use Rattle.std.specs.Option.{option_copied};
 ghost use Rattle.ebr_base.specs.declared.numbers.TheConstants.{MAX_COUNT};
-ghost use Rattle.ebr_versions.specs.Data.{is_of, Latest, At, changes_row, changed_since, lesser, next_number_in, next_number, next_row};
+ghost use Rattle.ebr_versions.specs.Data.{is_of, last_change, Latest, At, changes_row, changed_since, lesser, next_number_in, next_number, next_row, greatest_number_in, greatest_number, row_no};
 
 use ebr_base::{Change, List, RowId, RowNo, TableId, Value};
 
@@ -12,15 +12,22 @@ pub fn latest(commits: &[List<Change>], row: RowId) -> Option<&List<Value>>
     ensures { option_copied result ≡ Latest commits.now row }
 {
     for i in (0..commits.len()).rev() {
-        if let Some(change) = last_change(commits[i].as_slice(), row) {
+        if let Some(change) = last_of(commits[i].as_slice(), row) {
             return change.values.as_ref();
         }
     }
     None
 }
 
-/// The last one of a commit's changes that is of the row.
-fn last_change(changes: &[Change], row: RowId) -> Option<&Change>
+/// The last one of some changes that is of the row.
+pub fn last_change(changes: &[Change], row: RowId) -> Option<&Change>
+    ensures { option_copied result ≡ last_change row changes.now }
+{
+    last_of(changes, row)
+}
+
+/// The first change of the row, from the end.
+fn last_of(changes: &[Change], row: RowId) -> Option<&Change>
     ensures { option_copied result ≡ find (is_of row) (reverse changes.now) }
 {
     changes.iter().rev().find(|change| change.row == row)
@@ -55,8 +62,8 @@ fn first_change(commits: &[List<Change>], row: RowId) -> Option<usize>
         .position(|changes| changes_row(changes.as_slice(), row))
 }
 
-/// Whether one of a commit's changes is of the row.
-fn changes_row(changes: &[Change], row: RowId) -> bool
+/// Whether one of some changes is of the row.
+pub fn changes_row(changes: &[Change], row: RowId) -> bool
     ensures { result ≡ changes_row row changes.now }
 {
     changes.iter().any(|change| change.row == row)
@@ -83,8 +90,8 @@ fn next_number(commits: &[List<Change>], t: TableId, after: u64) -> Option<u64>
     next
 }
 
-/// The same among the rows that one commit changes.
-fn next_number_in(changes: &[Change], t: TableId, after: u64) -> Option<u64>
+/// The least number above another among a table's rows that some changes are of.
+pub fn next_number_in(changes: &[Change], t: TableId, after: u64) -> Option<u64>
     ensures { result ≡ next_number_in changes.now t after }
 {
     let mut next = None;
@@ -98,7 +105,7 @@ fn next_number_in(changes: &[Change], t: TableId, after: u64) -> Option<u64>
 }
 
 /// The lesser of two numbers, where both are there.
-fn lesser(a: Option<u64>, b: Option<u64>) -> Option<u64>
+pub fn lesser(a: Option<u64>, b: Option<u64>) -> Option<u64>
     ensures { result ≡ lesser a b }
 {
     match (a, b) {
@@ -106,4 +113,34 @@ fn lesser(a: Option<u64>, b: Option<u64>) -> Option<u64>
         (Some(a), None) => Some(a),
         (None, b) => b,
     }
+}
+
+/// The greatest row number of a table, removed rows among them; 0 where the table has no row.
+pub fn greatest_row(commits: &[List<Change>], t: TableId) -> RowNo
+    ensures { result ≡ row_no (greatest_number commits.now t) }
+{
+    RowNo(greatest_number(commits, t))
+}
+
+fn greatest_number(commits: &[List<Change>], t: TableId) -> u64
+    ensures { result ≡ greatest_number commits.now t }
+{
+    let mut greatest = 0;
+    for changes in commits {
+        greatest = greatest_number_in(changes.as_slice(), t).max(greatest);
+    }
+    greatest
+}
+
+/// The greatest number among a table's rows that some changes are of; 0 where there is none.
+pub fn greatest_number_in(changes: &[Change], t: TableId) -> u64
+    ensures { result ≡ greatest_number_in changes.now t }
+{
+    let mut greatest = 0;
+    for change in changes {
+        if change.row.table == t {
+            greatest = change.row.row.0.max(greatest);
+        }
+    }
+    greatest
 }

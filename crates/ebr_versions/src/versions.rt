@@ -2,7 +2,7 @@
 
 ghost use Rattle.std.specs.Prelude.{◌≡◌, ◌<◌, [], ◌∷◌, ◌++◌, length, Some, IfOk, OnOk, OnErr, IfSome, false};
 ghost use Rattle.std.specs.Option.{option_copied};
-ghost use Rattle.ebr_versions.specs.Data.{Latest, At, changed_since, next_row};
+ghost use Rattle.ebr_versions.specs.Data.{Latest, At, changed_since, next_row, greatest_number, row_no};
 
 use crate::table::{Table, key_places};
 use crate::{keys, rows};
@@ -122,6 +122,13 @@ impl Versions {
         ensures { result ≡ next_row self.now.commits t after }
     {
         rows::next_row(self.commits.as_slice(), t, after)
+    }
+
+    /// The greatest row number that a commit has in the table, removed rows among them; 0 where it has no row.
+    pub fn greatest_row(&self, t: TableId) -> RowNo
+        ensures { result ≡ row_no (greatest_number self.now.commits t) }
+    {
+        rows::greatest_row(self.commits.as_slice(), t)
     }
 
     /// The row of the table whose last committed values have this key, none where no row has it. The table was added

@@ -1,0 +1,11 @@
+pub mod LiveLemmas
+pub mod SameValues
+pub mod OtherRows
+pub mod NextRows
+pub mod FreeKeys
+pub mod SoundLemmas
+pub mod Kept
+pub mod MayChange
+pub mod Allowed
+pub mod Stays
+pub mod Answered

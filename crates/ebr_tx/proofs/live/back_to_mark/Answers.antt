@@ -1,0 +1,12 @@
+use Rattle.std.proofs.Common.{ap, ◌∙◌}
+use Rattle.std.specs.List.{position_or_len}
+use Rattle.ebr_tx.specs.Data.{is_named}
+use Rattle.ebr_tx.specs.Calls.{marked}
+use Rattle.ebr_tx.proofs.LiveLemmas.{put-changed}
+use Rattle.ebr_tx.proofs.live.back_to_mark.Goals as goal
+
+pub returns : goal.returns
+returns c =
+    put-changed c.args.t (marked c.args.mark) c.args.live.now.items c.place_of-at.result c.back_to_mark.new.self c.index_mut.result.now
+    (c.place_of-at.ensures.place ∙ ap (position_or_len (is_named c.args.t)) c.as_slice.ensures.value)
+    (c.back_to_mark.ensures ∙ ap (marked c.args.mark) c.index_mut.ensures.value)

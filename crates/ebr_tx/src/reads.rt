@@ -1,0 +1,87 @@
+//! What a transaction sees.
+
+ghost use Rattle.std.specs.Prelude.{◌≡◌, ◌++◌, ◌<◌, Some, None, nat_lt, filter, option_map, is_some, IfSome};
+ghost use Rattle.std.specs.Option.{option_copied};
+ghost use Rattle.ebr_versions.specs.Data.{last_change, changes_in, row_numbers, least, row_no};
+ghost use Rattle.ebr_tx.specs.Reads.{over, committed, seen_by, next_by};
+ghost use Rattle.ebr_tx.specs.Conflicts.{is_late};
+
+use crate::transaction::Live;
+use ebr_base::{List, RowId, RowNo, TableId, Value};
+use ebr_versions::{Versions, last_change, lesser, next_number_in};
+
+/// The values of a row as a transaction sees it.
+pub fn seen<'a>(versions: &'a Versions, x: &'a Live, row: RowId) -> Option<&'a List<Value>>
+    ensures { option_copied result ≡ seen_by versions.now.commits x.now row }
+{
+    match last_change(x.changes(), row) {
+        Some(change) => change.values.as_ref(),
+        None => committed(versions, x.begun(), row),
+    }
+}
+
+/// The values that were committed at a beginning, or by now where there was none.
+fn committed(versions: &Versions, begun: Option<u32>, row: RowId) -> Option<&List<Value>>
+    ensures { option_copied result ≡ committed versions.now.commits begun row }
+{
+    match begun {
+        Some(n) => versions.at(n, row),
+        None => versions.latest(row),
+    }
+}
+
+/// Whether a commit after a beginning changes the row.
+pub fn is_late(versions: &Versions, begun: Option<u32>, row: RowId) -> bool
+    ensures { result ≡ is_late versions.now.commits begun row }
+{
+    match begun {
+        Some(n) => versions.changed_since(row, n).is_some(),
+        None => false,
+    }
+}
+
+/// The next row of a table that a transaction sees: the least number above `after`. It goes from one row of the table to
+/// the next.
+pub fn next_seen(versions: &Versions, x: &Live, table: TableId, after: RowNo) -> Option<RowNo>
+    ensures { result ≡ next_by versions.now.commits x.now table after }
+{
+    let mut last = after;
+    while let Some(next) = next_row(versions, x, table, last) {
+        let row = RowId { table, row: next };
+        if is_there(versions, x, row) {
+            return Some(next);
+        }
+        last = next;
+    }
+    None
+}
+
+fn is_there(versions: &Versions, x: &Live, row: RowId) -> bool
+    ensures { result ≡ is_some (seen_by versions.now.commits x.now row) }
+{
+    match seen(versions, x, row) {
+        Some(_) => true,
+        None => false,
+    }
+}
+
+/// The next row of a table, seen or not.
+fn next_row(versions: &Versions, x: &Live, table: TableId, after: RowNo) -> Option<RowNo>
+    ensures next { result ≡ option_map row_no (least (filter (nat_lt after.0) (row_numbers table (changes_in versions.now.commits ++ x.now.changes)))) }
+    ensures above { IfSome result (λ n. after.0 < n.0) }
+{
+    match next_number(versions, x, table, after) {
+        Some(n) => Some(RowNo(n)),
+        None => None,
+    }
+}
+
+fn next_number(versions: &Versions, x: &Live, table: TableId, after: RowNo) -> Option<u64>
+    ensures { result ≡ least (filter (nat_lt after.0) (row_numbers table (changes_in versions.now.commits ++ x.now.changes))) }
+{
+    let own = next_number_in(x.changes(), table, after.0);
+    match versions.next_row(table, after) {
+        Some(committed) => lesser(Some(committed.0), own),
+        None => own,
+    }
+}
