@@ -1,34 +1,22 @@
--- The view that the engine keeps, from one ask to the next, and what is looked up in it.
-use Rattle.std.proofs.Common.{◌≡◌, ℕ, ◌&&◌, List, Option, IfSome, Result, Ok, Err, IfOk, find, refl, sym, ap, subst}
+-- The view that the engine keeps, from one ask to the next, and what is answered by it.
+use Rattle.std.proofs.Common.{◌≡◌, ◌≢◌, Bool, true, false, Option, IfSome, Result, Ok, Err, IfOk, sym, ap, subst}
 use Rattle.std.specs.Result.{result_ok}
-use Rattle.std.specs.Str.{bytes_eq}
 use Rattle.ebr_base.specs.declared.code.Code.{Code}
 use Rattle.ebr_base.specs.declared.numbers.EditionNo.{EditionNo}
-use Rattle.ebr_base.specs.declared.object.Class.{Class}
-use Rattle.ebr_base.specs.declared.object.Class.TheVariants as class
-use Rattle.ebr_base.specs.Keys.{same_class}
 use Rattle.ebr_ast.specs.declared.view.EditionView.{EditionView}
-use Rattle.ebr_ast.specs.declared.view.Object.{Object}
-use Rattle.ebr_ast.specs.Views.{unit_key, object_of, IsInOrder}
+use Rattle.ebr_ast.specs.Views.{IsInOrder}
+use Rattle.ebr_ast.specs.declared.definition.Definition.{Definition}
+use Rattle.ebr_ast.specs.declared.definition.Definition.TheVariants.{CreateObject}
+use Rattle.ebr_check.specs.Verdict.{is_valid}
+use Rattle.ebr_server.specs.Machine.{answer_in, creation_answer}
 use Rattle.ebr_cross.specs.declared.catalogue.Catalogue.{Catalogue}
 use Rattle.ebr_cross.specs.declared.record.CatalogueRecord.{CatalogueRecord}
 use Rattle.ebr_cross.specs.Catalogue.{Lists, HaveOwnKeys, IsViewOf, View, kept}
-use Rattle.ebr_cross.specs.Kinds.{is_unit_class}
 use Rattle.ebr_cross.specs.Records.{ForChanged, with_record}
 use Rattle.ebr_server.specs.declared.ask.Answer.{Answer}
 use Rattle.ebr_server.specs.declared.ask.Answer.TheVariants as answer
 use Rattle.ebr_server.specs.declared.engine.Current.{Current}
-use Rattle.ebr_server.specs.Sessions.{unit_named}
-use Rattle.ebr_server.specs.inside.Engine.{Holds, Leaves, LeavesDefined}
-
--- the class and the name of a unit are its key
-unit-class : (c : Class) → is_unit_class c ≡ same_class class.Unit c
-unit-class class.Unit = refl
-unit-class class.Body = refl
-unit-class class.Trigger = refl
-
-pub by-key : (name : List ℕ) (objects : List Object) → unit_named name objects ≡ object_of (unit_key name) objects
-by-key name objects = ap (λ p. find p objects) (λ i (o : Object). unit-class o.key.class i && bytes_eq name o.key.name)
+use Rattle.ebr_server.specs.inside.Engine.{Holds, HasOrder, Leaves, LeavesDefined}
 
 -- the view that was made, or none
 pub kept-view : {E : Type 0} (P : EditionView → Type 0) (made : Result EditionView E) (o : Option EditionView) → o ≡ result_ok made → IfOk made P → IfSome o P
@@ -46,9 +34,33 @@ next-view c e now r v made o told changed own seen is =
     subst (λ d. IfSome o (λ n. IsViewOf (with_record c r) d n)) at
     (kept-view (λ n. IsViewOf (with_record c r) v.edition n) made o told (changed c own (subst (λ d. IsViewOf c d v) (sym at) seen) is))
 
+-- the answer to a definition that was carried out is no view, and not want of memory
+pub order_in : (v : EditionView) (what : Definition) → HasOrder (answer_in v what)
+order_in v (CreateObject replace u) = by (is_valid v u)
+  where
+    by : (b : Bool) → HasOrder (creation_answer b)
+    by true = tt
+    by false = tt
+order_in v what = tt
+
+pub memory_in : (v : EditionView) (what : Definition) → answer_in v what ≢ answer.NoMemory
+memory_in v (CreateObject replace u) = by (is_valid v u)
+  where
+    by : (b : Bool) → creation_answer b ≢ answer.NoMemory
+    by true = λ is. cc
+    by false = λ is. cc
+memory_in v what = λ is. cc
+
 -- what a definition leaves that was carried out
-pub carried-out : (new : Current) (x : Answer) (c : Lists) (e : EditionNo) (r : CatalogueRecord) (o : Result CatalogueRecord Code) → o ≡ Ok r → x ≡ answer.Done → Holds new (with_record c r) e → LeavesDefined new x c e o
-carried-out new x c e r o is done holds = subst (LeavesDefined new x c e) (sym is) (record { answer_is = done; order = tt; holds = holds })
+pub carried-out : (what : Definition) (new : Current) (x : Answer) (c : Lists) (e : EditionNo) (r : CatalogueRecord) (o : Result CatalogueRecord Code) → o ≡ Ok r
+    → x ≡ answer_in (View (with_record c r) e) what → Holds new (with_record c r) e → LeavesDefined what new x c e o
+carried-out what new x c e r o is told holds =
+    subst (LeavesDefined what new x c e) (sym is) (record { answer_is = told; order = order_in (View (with_record c r) e) what; holds = holds })
+
+pub carried-out-or-not : {E : Type 0} (what : Definition) (new : Current) (x : Result Answer E) (c : Lists) (e : EditionNo) (r : CatalogueRecord) (o : Result CatalogueRecord Code) → o ≡ Ok r
+    → IfOk x (λ a. a ≡ answer_in (View (with_record c r) e) what) → Holds new (with_record c r) e → IfOk x (λ a. LeavesDefined what new a c e o)
+carried-out-or-not what new (Ok a) c e r o is told holds = carried-out what new a c e r o is told holds
+carried-out-or-not what new (Err x) c e r o is told holds = tt
 
 -- what Begin leaves
 pub begun : (new : Current) (v : EditionView) (c : Lists) (e : EditionNo) → IsViewOf c e v → Holds new c e → Leaves new (answer.View v) (answer.View (View c e)) c e

@@ -1,13 +1,13 @@
 -- The record of a definition is read back as what the definition left.
-use Rattle.std.proofs.Common.{◌≡◌, ℕ, Bool, true, false, List, [], ◌∷◌, ◌++◌, refl, sym, ap, ◌∙◌, subst, cond}
-use Rattle.std.specs.Prelude.{Option, Some, None, Result, Ok, Err, fold, is_some, if◌then◌else◌, nat_lt}
+use Rattle.std.proofs.Common.{◌≡◌, ℕ, Bool, true, false, List, [], ◌∷◌, ◌++◌, refl, sym, ap, ◌∙◌, subst}
+use Rattle.std.specs.Prelude.{Option, Some, None, Result, Ok, Err, fold, is_some, if◌then◌else◌}
 use Rattle.std.proofs.lemmas.Grind.{fold-append}
-use Rattle.std.proofs.lemmas.Option.{none-some, same_Some}
-use Rattle.std.proofs.lemmas.Bool.{and_parts, eqb-true}
+use Rattle.std.proofs.lemmas.Option.{same_Some}
+use Rattle.std.proofs.lemmas.Bool.{and_parts}
 use Rattle.std.proofs.lemmas.Slice.Eq.{bytes_eq-Decides}
 use Rattle.std.specs.Str.{bytes_eq}
 use Rattle.ebr_base.specs.declared.code.Code.{Code}
-use Rattle.ebr_base.specs.declared.code.Code.TheVariants.{Ora, Ebr}
+use Rattle.ebr_base.specs.declared.code.Code.TheVariants.{Ebr}
 use Rattle.ebr_base.specs.declared.numbers.EditionNo.{EditionNo}
 use Rattle.ebr_base.specs.declared.object.Class.{Class}
 use Rattle.ebr_base.specs.declared.object.Class.TheVariants as class
@@ -20,18 +20,18 @@ use Rattle.ebr_ast.specs.declared.definition.ObjectKind.{ObjectKind}
 use Rattle.ebr_ast.specs.declared.definition.ObjectKind.TheVariants as kind
 use Rattle.ebr_ast.specs.declared.unit.UnitTree.{UnitTree}
 use Rattle.ebr_ast.specs.declared.view.Object.{Object}
-use Rattle.ebr_editions.specs.Editions.{line_of, named_parent, create_answer, drop_answer}
+use Rattle.ebr_editions.specs.Editions.{line_of, create_answer, drop_answer}
 use Rattle.ebr_base.specs.Keys.{same_class, same_key}
 use Rattle.ebr_editions.specs.Objects.{ObjectEntry, is_entry_of, is_in, last_entry, last_object, nearest, entry_or, with_entry, next_stamp, without_both, Visible}
 use Rattle.ebr_tables.specs.Tables.{first_refusal, unless_refused, add_answer, remove_answer}
 use Rattle.ebr_cross.specs.declared.record.CatalogueRecord.{CatalogueRecord}
 use Rattle.ebr_cross.specs.declared.record.CatalogueRecord.TheVariants as made
 use Rattle.ebr_cross.specs.Catalogue.{Lists, first_lists, visible, table_in}
-use Rattle.ebr_columns.specs.Columns.{column_type, table_of}
+use Rattle.ebr_columns.specs.Columns.{column_type}
 use Rattle.ebr_cross.specs.Definitions as spec
 use Rattle.ebr_cross.specs.Kinds.{kind_of, name_of, key_of}
-use Rattle.ebr_cross.specs.Records.{with_record, with_object}
-use Rattle.ebr_script.specs.Pieces.{stored_definition, CreatesObject}
+use Rattle.ebr_cross.specs.Records.{with_record}
+use Rattle.ebr_script.specs.Pieces.{stored_definition}
 use Rattle.ebr_server.specs.declared.ask.Ask.TheVariants.{Ddl}
 use Rattle.ebr_server.specs.Records.{Record, Object as ObjectRecord, Edition, EditionGone, Default, Gone, PackageGone, Table, Column, TableGone, record_of, with_named, with_stored, after_record, catalogue_of}
 use Rattle.ebr_server.specs.inside.Engine.{IsSpelled}

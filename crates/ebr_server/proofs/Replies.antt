@@ -5,7 +5,7 @@ use Rattle.ebr_base.specs.declared.code.Code.{Code}
 use Rattle.ebr_base.specs.declared.numbers.EditionNo.{EditionNo}
 use Rattle.ebr_ast.specs.declared.definition.Definition.{Definition}
 use Rattle.ebr_cross.specs.declared.record.CatalogueRecord.{CatalogueRecord}
-use Rattle.ebr_cross.specs.Catalogue.{Lists}
+use Rattle.ebr_cross.specs.Catalogue.{Lists, View}
 use Rattle.ebr_cross.specs.Definitions.{outcome, set_edition}
 use Rattle.ebr_cross.specs.Records.{with_record}
 use Rattle.ebr_server.specs.declared.ask.Ask.{Ask}
@@ -14,8 +14,9 @@ use Rattle.ebr_server.specs.declared.ask.Answer.{Answer}
 use Rattle.ebr_server.specs.declared.ask.Answer.TheVariants as answer
 use Rattle.ebr_server.specs.declared.engine.Current.{Current}
 use Rattle.ebr_server.specs.Records.{Record, record_of, catalogue_of}
-use Rattle.ebr_server.specs.Machine.{Database, Session, Replied, Reply, defined, edition_set, the_session}
+use Rattle.ebr_server.specs.Machine.{Database, Session, Replied, Reply, answer_in, defined, edition_set, the_session}
 use Rattle.ebr_server.specs.inside.Engine.{Keeps, Holds, HasOrder, Leaves, LeavesDefined, LeavesSet, LeavesReply, IsSpelled}
+use Rattle.ebr_server.proofs.NextViews.{memory_in}
 use Rattle.ebr_server.proofs.Records.{catalogue_of-append, spelled, reads_back}
 
 -- the database of these records, with the one session in an edition
@@ -44,21 +45,21 @@ module _ (new : Current) (x : Answer) (records : List Record) (e : EditionNo) wh
     goes_on = λ is. not (sym h.answer_is ∙ is);
   }
 
-  one_more : (r : CatalogueRecord) → catalogue_of (records ++ record_of r ∷ []) ≡ with_record (catalogue_of records) r
-      → Leaves new x answer.Done (with_record (catalogue_of records) r) e → IsReply new x (defined (in_edition records e) (Ok r))
-  one_more r after h = record {
-    answer_is = h.answer_is;
+  one_more : (what : Definition) (r : CatalogueRecord) → catalogue_of (records ++ record_of r ∷ []) ≡ with_record (catalogue_of records) r
+      → LeavesDefined what new x (catalogue_of records) e (Ok r) → IsReply new x (defined (in_edition records e) e what (Ok r))
+  one_more what r after h = record {
+    answer_is = h.answer_is ∙ ap (λ (c : Lists). answer_in (View c e) what) (sym after);
     keeps = record {
       sessions = ap (λ k. record { edition = Some k } ∷ []) (sym h.holds.edition_is);
       holds = subst (λ c. Holds new c new.edition) (sym after) (subst (Holds new (with_record (catalogue_of records) r)) (sym h.holds.edition_is) h.holds);
     };
-    goes_on = λ is. cc;
+    goes_on = λ is. memory_in (View (with_record (catalogue_of records) r) e) what (sym h.answer_is ∙ is);
   }
 
   is_defined : (what : Definition) (text : List ℕ) → IsSpelled (Ddl what text) → (o : Result CatalogueRecord Code)
-      → outcome (catalogue_of records) e (e ∷ []) what text ≡ o → LeavesDefined new x (catalogue_of records) e o → IsReply new x (defined (in_edition records e) o)
+      → outcome (catalogue_of records) e (e ∷ []) what text ≡ o → LeavesDefined what new x (catalogue_of records) e o → IsReply new x (defined (in_edition records e) e what o)
   is_defined what text spells (Ok r) is h =
-      one_more r (catalogue_of-append records (record_of r) ∙ reads_back (catalogue_of records) e (e ∷ []) what text r (spelled records) spells is) h
+      one_more what r (catalogue_of-append records (record_of r) ∙ reads_back (catalogue_of records) e (e ∷ []) what text r (spelled records) spells is) h
   is_defined what text spells (Err code) is h = same_records (answer.Refused code 0 []) (λ is. cc) e h
 
   is_set : (o : Result EditionNo Code) → LeavesSet new x (catalogue_of records) e o → IsReply new x (edition_set o (in_edition records e) the_session (in_session e))
@@ -80,8 +81,8 @@ pub reply_order : (new : Current) (x : Answer) (c : Lists) (e : EditionNo) (ask 
 reply_order new x c e Begin h = has_order new x _ c e h
 reply_order new x c e (Ddl what text) h = by (outcome c e (e ∷ []) what text) h
   where
-    by : (o : Result CatalogueRecord Code) → LeavesDefined new x c e o → HasOrder x
-    by (Ok r) h = has_order new x answer.Done (with_record c r) e h
+    by : (o : Result CatalogueRecord Code) → LeavesDefined what new x c e o → HasOrder x
+    by (Ok r) h = has_order new x _ (with_record c r) e h
     by (Err code) h = has_order new x (answer.Refused code 0 []) c e h
 reply_order new x c e (SetEdition name) h = by (set_edition c.editions.made name) h
   where

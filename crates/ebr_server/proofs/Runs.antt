@@ -1,26 +1,24 @@
 -- How a session's run goes on with each entry of its history.
 use Rattle.std.proofs.Common.{ℕ, zero, suc, ◌≡◌, ◌+◌, List, [], ◌∷◌, ◌++◌, length, Option, Some, None, arith, refl, sym, ◌∙◌, ap, subst, append_assoc, length-append, add-one, append-nil, zero-add, add-zero}
-use Rattle.std.specs.Prelude.{map, filter}
+use Rattle.std.specs.Prelude.{Bool, true, false, map, filter, codes}
 use Rattle.std.proofs.Math.Seq.{take-append_seam}
-use Rattle.ebr_ast.specs.declared.definition.Definition.{Definition}
 use Rattle.ebr_ast.specs.declared.definition.Statement.{Statement}
 use Rattle.ebr_ast.specs.declared.definition.Statement.TheVariants as statement
 use Rattle.ebr_script.specs.Pieces.{pieces_of, text_of}
 use Rattle.ebr_script.specs.declared.piece.Piece.{Piece}
 use Rattle.ebr_script.specs.declared.piece.PieceKind.{PieceKind}
 use Rattle.ebr_script.specs.declared.piece.PieceKind.TheVariants as piece
-use Rattle.ebr_server.specs.Forms.{called_name}
 use Rattle.ebr_server.specs.declared.ask.Ask.{Ask}
-use Rattle.ebr_server.specs.declared.ask.Ask.TheVariants.{Leave}
+use Rattle.ebr_server.specs.declared.ask.Ask.TheVariants.{EndCall, Leave}
 use Rattle.ebr_server.specs.declared.ask.Answer.{Answer}
-use Rattle.ebr_server.specs.declared.ask.Answer.TheVariants.{View, Done, Refused, NoMemory, Stopped}
+use Rattle.ebr_server.specs.declared.ask.Answer.TheVariants.{View, Done, Invalid, Refused, NoMemory, Stopped}
 use Rattle.ebr_server.specs.declared.ask.Entry.{Entry}
 use Rattle.ebr_server.specs.declared.ask.Exchange.{Exchange}
 use Rattle.std.proofs.lemmas.List.Elements.{filter-append}
 use Rattle.std.proofs.lemmas.List.{map-append}
 use Rattle.ebr_server.specs.Machine.{the_session}
 use Rattle.ebr_server.specs.History.{Mine, asks, answers, exchange, is_of, GoesOn, EndsRun, AllGoOn}
-use Rattle.ebr_server.specs.Sessions.{State, Step, Ended, ended, leaving, asked, on_answer, then_run, printing, run_pieces, run_piece, run_statement, run_block, SessionRun, Printed}
+use Rattle.ebr_server.specs.Sessions.{State, Step, Ended, ended, leaving, asked, on_answer, then_run, printing, printing_result, line_of, run_pieces, run_piece, run_statement, run_checked, run_valid, SessionRun, Printed}
 use Rattle.ebr_server.specs.Program.{IsPrefix, RanToEnd, RanOut, Quit, printed_before, printed_before_last}
 use Rattle.ebr_server.specs.inside.Output.{Output, printed, WritesOn}
 use Rattle.ebr_server.specs.inside.Worker.{answered, state_behind, later, after, RunsOn, Quits, CanQuit}
@@ -75,6 +73,7 @@ answered_once a k made p x coming (Some n) = refl
 goes_on : (x : Answer) (k : Answer → Step) (σ : State) → GoesOn x → on_answer x k σ ≡ k x σ
 goes_on (View v) k σ g = refl
 goes_on Done k σ g = refl
+goes_on Invalid k σ g = refl
 goes_on (Refused c s l) k σ g = refl
 goes_on NoMemory k σ g = absurd g
 goes_on Stopped k σ g = absurd g
@@ -93,6 +92,7 @@ run_without script h =
 ends_run : (x : Answer) (k : Answer → Step) (σ : State) → EndsRun x → on_answer x k σ ≡ ended σ Ended
 ends_run (View v) k σ e = absurd e
 ends_run Done k σ e = absurd e
+ends_run Invalid k σ e = absurd e
 ends_run (Refused c s l) k σ e = absurd e
 ends_run NoMemory k σ e = refl
 ends_run Stopped k σ e = refl
@@ -180,14 +180,18 @@ CanQuit-printing t rest q made p =
     let o = q made (p ++ t) in
     record { whole = o.whole; part = IsPrefix-trans p (p ++ t) o.whole (record { rest = t; whole = refl }) o.part; leaves = o.leaves; waits = o.waits }
 
-CanQuit-block : (called : Option (List ℕ)) (rest : Step) → CanQuit rest → CanQuit (λ σ. then_run (run_block called σ) rest)
-CanQuit-block None rest q = CanQuit-printing _ rest q
-CanQuit-block (Some name) rest q = CanQuit-asked _ _ rest
+CanQuit-valid : (line : Option (List ℕ)) (rest : Step) → CanQuit (λ σ. then_run (run_valid line σ) rest)
+CanQuit-valid None rest = CanQuit-asked _ _ rest
+CanQuit-valid (Some line) rest = CanQuit-printing (line_of line) (λ σ. then_run (asked (EndCall false) (printing_result (codes "OK")) σ) rest) (CanQuit-asked _ _ rest)
+
+pub CanQuit-checked : (valid : Bool) (line : Option (List ℕ)) (rest : Step) → CanQuit (λ σ. then_run (run_checked valid line σ) rest)
+CanQuit-checked false line rest = CanQuit-asked _ _ rest
+CanQuit-checked true line rest = CanQuit-valid line rest
 
 CanQuit-statement : (s : Statement) (text : List ℕ) (rest : Step) → CanQuit rest → CanQuit (λ σ. then_run (run_statement s text σ) rest)
 CanQuit-statement (statement.SetEdition name) text rest q = CanQuit-asked _ _ rest
 CanQuit-statement (statement.Definition what) text rest q = CanQuit-asked _ _ rest
-CanQuit-statement (statement.Block block) text rest q = CanQuit-block (called_name block) rest q
+CanQuit-statement (statement.Block block) text rest q = CanQuit-asked _ _ rest
 CanQuit-statement s text rest q = CanQuit-printing _ rest q
 
 CanQuit-piece : (what : PieceKind) (text : List ℕ) (rest : Step) → CanQuit rest → CanQuit (λ σ. then_run (run_piece what text σ) rest)

@@ -3,6 +3,7 @@ use Rattle.std.specs.Prelude.{◌⊎◌}
 use Rattle.std.proofs.Common.{inl, inr, ℕ, ◌≡◌, ◌≢◌, ◌≤◌, List, [], ◌++◌, Result, Ok, Err, arith, refl, sym, ◌∙◌, ap, subst, append-nil, append_assoc}
 use Rattle.ebr_outside.specs.Faults.{Rises}
 use Rattle.ebr_base.specs.declared.code.Code.{Code}
+use Rattle.ebr_ast.specs.declared.statement.Block.{Block}
 use Rattle.ebr_ast.specs.declared.view.EditionView.{EditionView}
 use Rattle.ebr_ast.specs.Views.{IsInOrder}
 use Rattle.ebr_server.specs.declared.ask.Ask.{Ask}
@@ -15,8 +16,7 @@ use Rattle.ebr_server.specs.declared.worker.Halt.TheVariants.{SinkFault, NoMemor
 use Rattle.ebr_server.specs.Machine.{the_session}
 use Rattle.ebr_server.specs.declared.ask.Answer.TheVariants as answer
 use Rattle.ebr_server.specs.History.{Mine, GoesOn, EndsRun}
-use Rattle.ebr_server.specs.Forms.{Called, called_object}
-use Rattle.ebr_server.specs.Sessions.{Step, call_after, run_call, unit_named, asked, then_run, printing, printing_result, result_line}
+use Rattle.ebr_server.specs.Sessions.{Step, block_after, run_seen, asked, then_run, printing, printing_result, result_line}
 use Rattle.ebr_server.specs.Program.{IsPrefix, RanOut}
 use Rattle.ebr_server.specs.inside.Engine.{IsOpen, Answers, HasOrder, entries}
 use Rattle.ebr_server.specs.inside.Output.{Output, WritesOn, Prints, PrintsPart}
@@ -114,6 +114,14 @@ Does-part Answered t a k e o new is_open prints = absurd prints
 writes_nothing : (o : Output) → WritesOn o o
 writes_nothing o = record { same = refl; grown = IsPrefix-refl o.written; counted = omega arith }
 
+-- The session quits before a step.
+pub QuitStep-before : (step : Step) (e : Engine) (o : Output) → IsOpen e → ((rest : Step) → CanQuit rest → CanQuit (λ σ. then_run (step σ) rest)) → QuitStep step e o e o
+QuitStep-before step e o is_open quits = record {
+  by = λ script rest can runs. Quits-writes script (λ σ. then_run (step σ) rest) (entries e) o o runs (quits rest can) (writes_nothing o);
+  is_open = is_open;
+  counted = omega arith;
+}
+
 -- The session quits before its ask.
 pub QuitStep-asked : (a : Ask) (k : Answer → Step) (e : Engine) (o : Output) → IsOpen e → QuitStep (asked a k) e o e o
 QuitStep-asked a k e o is_open = record {
@@ -146,28 +154,28 @@ pub Does-request : (r : Result (Unit {0}) Halt) (a : Ask) (text : List ℕ) (x :
 Does-request r a text x e e' o o' new was is_open prints =
     Does-asked r a x (printing_result text) e e' e' o o' new was (Does-prints r (result_line text x) e' o' new is_open prints)
 
--- A call goes on from what the answer to Begin makes of it.
-pub Does-call : (r : Result (Unit {0}) Halt) (name : List ℕ) (x : Answer) (step : Step) (e e' last : Engine) (o o' new : Output) → WasAnswered Begin x e o e' o'
-    → call_after name x ≡ step → Does r step e' o' last new → Does r (asked Begin (call_after name)) e o last new
-Does-call r name x step e e' last o o' new was is_step did =
-    Does-asked r Begin x (call_after name) e e' last o o' new was (subst (λ f. Does r f e' o' last new) (sym is_step) did)
+-- A block goes on from what the answer to Begin makes of it.
+pub Does-block : (r : Result (Unit {0}) Halt) (b : Block) (x : Answer) (step : Step) (e e' last : Engine) (o o' new : Output) → WasAnswered Begin x e o e' o'
+    → block_after b x ≡ step → Does r step e' o' last new → Does r (asked Begin (block_after b)) e o last new
+Does-block r b x step e e' last o o' new was is_step did =
+    Does-asked r Begin x (block_after b) e e' last o o' new was (subst (λ f. Does r f e' o' last new) (sym is_step) did)
 
--- what is done with a view, by what the name stands for there
-pub call-View : (name : List ℕ) (x : Answer) (v w : EditionView) (called : Called) → x ≡ answer.View v → called ≡ called_object (unit_named name w.objects) → w ≡ v → call_after name x ≡ run_call called
-call-View name x v w called is told same =
-    ap (call_after name) is ∙ ap (λ (u : EditionView). run_call (called_object (unit_named name u.objects))) (sym same) ∙ ap run_call (sym told)
+-- what is done with a view
+pub block-View : (b : Block) (x : Answer) (v w : EditionView) → x ≡ answer.View v → w ≡ v → block_after b x ≡ run_seen w b
+block-View b x v w is same = ap (block_after b) is ∙ ap (λ (u : EditionView). run_seen u b) (sym same)
 
 -- a view that was answered is in order
 pub order-View : (x : Answer) (v w : EditionView) → HasOrder x → x ≡ answer.View v → w ≡ v → IsInOrder w
 order-View x v w order is same = subst IsInOrder (sym same) (subst HasOrder is order)
 
 -- an answer that is neither a view nor a refusal
-pub call-otherwise : (name : List ℕ) (x : Answer) → ((v : EditionView) → x ≢ answer.View v) → ((c : Code) (s : ℕ) (l : List (List ℕ)) → x ≢ answer.Refused c s l) → call_after name x ≡ printing []
-call-otherwise name (answer.View v) no_view no_refusal = absurd (no_view v refl)
-call-otherwise name (answer.Refused c s l) no_view no_refusal = absurd (no_refusal c s l refl)
-call-otherwise name answer.Done no_view no_refusal = refl
-call-otherwise name answer.NoMemory no_view no_refusal = refl
-call-otherwise name answer.Stopped no_view no_refusal = refl
+pub block-otherwise : (b : Block) (x : Answer) → ((v : EditionView) → x ≢ answer.View v) → ((c : Code) (s : ℕ) (l : List (List ℕ)) → x ≢ answer.Refused c s l) → block_after b x ≡ printing []
+block-otherwise b (answer.View v) no_view no_refusal = absurd (no_view v refl)
+block-otherwise b (answer.Refused c s l) no_view no_refusal = absurd (no_refusal c s l refl)
+block-otherwise b answer.Done no_view no_refusal = refl
+block-otherwise b answer.Invalid no_view no_refusal = refl
+block-otherwise b answer.NoMemory no_view no_refusal = refl
+block-otherwise b answer.Stopped no_view no_refusal = refl
 
 nothing_more : (o : Output) → o ≡ record o { pending = o.pending ++ [] }
 nothing_more o = ap (λ bytes. record o { pending = bytes }) (sym (append-nil o.pending))
@@ -197,6 +205,7 @@ was_ended a x e e' o o' w r none ends = record {
 pub goes_on_otherwise : (x : Answer) → x ≢ answer.NoMemory → x ≢ answer.Stopped → GoesOn x
 goes_on_otherwise (answer.View v) memory stopped = tt
 goes_on_otherwise answer.Done memory stopped = tt
+goes_on_otherwise answer.Invalid memory stopped = tt
 goes_on_otherwise (answer.Refused c s l) memory stopped = tt
 goes_on_otherwise answer.NoMemory memory stopped = absurd (memory refl)
 goes_on_otherwise answer.Stopped memory stopped = absurd (stopped refl)

@@ -13,6 +13,7 @@ use Rattle.ebr_ast.specs.declared.statement.Stmt.{Stmt, out-Stmt}
 use Rattle.ebr_ast.specs.declared.statement.Stmt.TheOpen.{Stmt-F}
 use Rattle.ebr_ast.specs.declared.statement.Stmt.TheOpen as statement
 use Rattle.ebr_ast.specs.declared.view.Object.{Object}
+use Rattle.ebr_ast.specs.Views.{unit_named}
 use Rattle.ebr_exprtree.specs.declared.expression.Addend.{Addend}
 use Rattle.ebr_exprtree.specs.declared.expression.Expr.{Expr, out-Expr}
 use Rattle.ebr_exprtree.specs.declared.expression.Expr.TheOpen.{Expr-F}
@@ -60,23 +61,23 @@ called_by (Some s) = name_in_call (out-Stmt s)
 unfoldable pub called_name : Block → Option (List ℕ)
 called_name b = called_by (only_statement b)
 
--- What a call of a unit is until PL/SQL is interpreted: the unit is no procedure, or one of another form, or it prints this
--- line.
-pub data Called : Type 0 where
-  Missing : Called
-  NotRun : Called
-  Prints : List ℕ → Called
+-- The line that a procedure prints, where it has no parameters.
+abbrev pub line_of_procedure : List Parameter → Option ParameterType → Option (List ℕ) → Option (List ℕ)
+line_of_procedure [] None line = line
+line_of_procedure parameters result line = None
 
--- A procedure has no result. One without parameters may have the form that prints one line.
-abbrev pub called_subprogram : List Parameter → Option ParameterType → Option (List ℕ) → Called
-called_subprogram [] None (Some line) = Prints line
-called_subprogram parameters None line = NotRun
-called_subprogram parameters (Some ty) line = Missing
+abbrev pub line_of_unit : UnitTree → Option (List ℕ)
+line_of_unit (unit.Subprogram s) = line_of_procedure s.head.parameters s.head.result (printed_line s.body)
+line_of_unit u = None
 
-abbrev pub called_unit : UnitTree → Called
-called_unit (unit.Subprogram s) = called_subprogram s.head.parameters s.head.result (printed_line s.body)
-called_unit u = Missing
+abbrev pub line_of_object : Option Object → Option (List ℕ)
+line_of_object None = None
+line_of_object (Some o) = line_of_unit o.tree
 
-abbrev pub called_object : Option Object → Called
-called_object None = Missing
-called_object (Some o) = called_unit o.tree
+abbrev pub line_of_name : List Object → Option (List ℕ) → Option (List ℕ)
+line_of_name objects None = None
+line_of_name objects (Some name) = line_of_object (unit_named name objects)
+
+-- The line that a block's call prints, where it is of the form that runs yet: the call of a procedure that prints one line.
+abbrev pub line_called : List Object → Block → Option (List ℕ)
+line_called objects b = line_of_name objects (called_name b)

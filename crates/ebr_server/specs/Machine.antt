@@ -1,17 +1,21 @@
 -- The edition machine: what the database is, and what it replies to each ask.
-use Rattle.std.specs.Prelude.{ℕ, zero, suc, ◌-◌, List, [], ◌∷◌, ◌++◌, Option, Some, None, Result, Ok, Err, slice_get, slice_set, replicate}
+use Rattle.std.specs.Prelude.{ℕ, zero, suc, Bool, true, false, ◌-◌, List, [], ◌∷◌, ◌++◌, Option, Some, None, Result, Ok, Err, slice_get, slice_set, replicate}
 use Rattle.std.specs.List.{filter_map}
 use Rattle.ebr_base.specs.declared.numbers.EditionNo.{EditionNo}
 use Rattle.ebr_base.specs.declared.numbers.SessionId.{SessionId}
 use Rattle.ebr_base.specs.declared.code.Code.{Code}
 use Rattle.ebr_base.specs.declared.code.Code.TheVariants.{Ebr}
+use Rattle.ebr_ast.specs.declared.definition.Definition.{Definition}
+use Rattle.ebr_ast.specs.declared.definition.Definition.TheVariants.{CreateObject}
+use Rattle.ebr_ast.specs.declared.view.EditionView.{EditionView}
+use Rattle.ebr_check.specs.Verdict.{is_valid}
 use Rattle.ebr_cross.specs.declared.record.CatalogueRecord.{CatalogueRecord}
 use Rattle.ebr_cross.specs.Catalogue as catalogue
 use Rattle.ebr_cross.specs.Definitions.{outcome, set_edition}
 use Rattle.ebr_server.specs.declared.ask.Ask.{Ask}
 use Rattle.ebr_server.specs.declared.ask.Ask.TheVariants.{Begin, Ddl, SetEdition, EndCall, Leave}
 use Rattle.ebr_server.specs.declared.ask.Answer.{Answer}
-use Rattle.ebr_server.specs.declared.ask.Answer.TheVariants.{View, Done, Refused}
+use Rattle.ebr_server.specs.declared.ask.Answer.TheVariants.{View, Done, Invalid, Refused}
 use Rattle.ebr_server.specs.Records.{Record, record_of, catalogue_of}
 
 -- A session that has left has no edition.
@@ -56,13 +60,25 @@ unchanged db a = record { database = db; answer = a; records = [] }
 abbrev pub refused : Database → Code → Replied
 refused db code = unchanged db (Refused code 0 [])
 
-abbrev pub recorded : Database → Record → Replied
-recorded db r = record { database = record db { records = db.records ++ r ∷ [] }; answer = Done; records = r ∷ [] }
+-- the answer to the creation of an object, by whether it is valid; it is there all the same
+abbrev pub creation_answer : Bool → Answer
+creation_answer true = Done
+creation_answer false = Invalid
+
+-- the answer to a definition, by what the session's edition sees behind it
+abbrev pub answer_in : EditionView → Definition → Answer
+answer_in v (CreateObject replace u) = creation_answer (is_valid v u)
+answer_in v what = Done
+
+abbrev pub recorded : Database → EditionNo → Definition → Record → Replied
+recorded db e what r =
+    let records = db.records ++ r ∷ [] in
+    record { database = record db { records = records }; answer = answer_in (catalogue.View (catalogue_of records) e) what; records = r ∷ [] }
 
 -- a definition's outcome is recorded, or it is refused
-abbrev pub defined : Database → Result CatalogueRecord Code → Replied
-defined db (Ok r) = recorded db (record_of r)
-defined db (Err code) = refused db code
+abbrev pub defined : Database → EditionNo → Definition → Result CatalogueRecord Code → Replied
+defined db e what (Ok r) = recorded db e what (record_of r)
+defined db e what (Err code) = refused db code
 
 abbrev pub with_session : Database → SessionId → Session → Database
 with_session db s x = record db { sessions = slice_set db.sessions (s.0 - 1) x }
@@ -78,7 +94,7 @@ left db s x = unchanged (with_session db s (record x { edition = None })) Done
 -- the reply to a session in its edition
 abbrev pub reply_in : EditionNo → Database → SessionId → Session → Ask → Replied
 reply_in e db s x Begin = unchanged db (View (catalogue.View (catalogue_of db.records) e))
-reply_in e db s x (Ddl what text) = defined db (outcome (catalogue_of db.records) e (editions_in_use db.sessions) what text)
+reply_in e db s x (Ddl what text) = defined db e what (outcome (catalogue_of db.records) e (editions_in_use db.sessions) what text)
 reply_in e db s x (SetEdition name) = edition_set (set_edition (catalogue_of db.records).editions.made name) db s x
 reply_in e db s x (EndCall failed) = unchanged db Done
 reply_in e db s x Leave = left db s x

@@ -1,5 +1,5 @@
 -- The records of a database: what definitions leave for ever. The catalogue is read off them in order.
-use Rattle.std.specs.Prelude.{ℕ, Bool, List, Option, Some, None, fold}
+use Rattle.std.specs.Prelude.{ℕ, Bool, List, Option, Some, fold}
 use Rattle.ebr_base.specs.declared.numbers.EditionNo.{EditionNo}
 use Rattle.ebr_base.specs.declared.numbers.TableId.{TableId}
 use Rattle.ebr_base.specs.declared.object.ObjectKey.{ObjectKey}

@@ -1,14 +1,15 @@
 -- What a session asks and prints, by its script and the answers that it is given.
-use Rattle.std.specs.Prelude.{ℕ, zero, suc, Bool, true, false, ◌&&◌, List, [], ◌∷◌, ◌++◌, codes, Option, Some, None, find}
-use Rattle.std.specs.Str.{bytes_eq}
+use Rattle.std.specs.Prelude.{ℕ, zero, suc, Bool, true, false, List, [], ◌∷◌, ◌++◌, codes, Option, Some, None}
 use Rattle.ebr_base.specs.declared.code.Code.TheVariants.{Ora, Ebr}
 use Rattle.ebr_base.specs.Code.{code_text}
 use Rattle.ebr_ast.specs.declared.definition.Definition.{Definition}
 use Rattle.ebr_ast.specs.declared.definition.Definition.TheVariants.{CreateObject}
 use Rattle.ebr_ast.specs.declared.definition.Statement.{Statement}
 use Rattle.ebr_ast.specs.declared.definition.Statement.TheVariants as statement
-use Rattle.ebr_ast.specs.declared.view.Object.{Object}
-use Rattle.ebr_cross.specs.Kinds.{is_unit_class}
+use Rattle.ebr_ast.specs.declared.statement.Block.{Block}
+use Rattle.ebr_ast.specs.declared.unit.UnitTree.TheVariants as unit
+use Rattle.ebr_ast.specs.declared.view.EditionView.{EditionView}
+use Rattle.ebr_check.specs.Verdict.{is_valid}
 use Rattle.ebr_script.specs.declared.piece.Piece.{Piece}
 use Rattle.ebr_script.specs.declared.piece.PieceKind.{PieceKind}
 use Rattle.ebr_script.specs.declared.piece.PieceKind.TheVariants as piece
@@ -17,8 +18,8 @@ use Rattle.ebr_server.specs.declared.ask.Ask.{Ask}
 use Rattle.ebr_server.specs.declared.ask.Ask.TheVariants.{Begin, Ddl, EndCall, Leave}
 use Rattle.ebr_server.specs.declared.ask.Ask.TheVariants as ask
 use Rattle.ebr_server.specs.declared.ask.Answer.{Answer}
-use Rattle.ebr_server.specs.declared.ask.Answer.TheVariants.{View, Done, Refused, NoMemory, Stopped}
-use Rattle.ebr_server.specs.Forms.{Called, Missing, NotRun, Prints, called_name, called_object}
+use Rattle.ebr_server.specs.declared.ask.Answer.TheVariants.{View, Done, Invalid, Refused, NoMemory, Stopped}
+use Rattle.ebr_server.specs.Forms.{line_called}
 
 -- Where a session stands: the asks it made, what it printed, the answers still to come, and after how many of them it
 -- quits, if it does.
@@ -91,29 +92,34 @@ printing text σ = ended (record σ { printed = σ.printed ++ text }) Normal
 -- the line that tells how a request ended
 abbrev pub result_line : List ℕ → Answer → List ℕ
 result_line text Done = line_of text
+result_line text Invalid = line_of (codes "INVALID")
 result_line text (Refused code steps lines) = line_of (code_text code)
 result_line text x = []
 
 abbrev pub printing_result : List ℕ → Answer → Step
 printing_result text x = printing (result_line text x)
 
-abbrev pub is_unit_named : List ℕ → Object → Bool
-is_unit_named name o = is_unit_class o.key.class && bytes_eq name o.key.name
+-- A block that is valid prints a line, where it is one of the forms that run yet; of another form it isn't run.
+abbrev pub run_valid : Option (List ℕ) → Step
+run_valid None = asked (EndCall true) (printing_result (code_text (Ebr 1)))
+run_valid (Some line) = λ σ. then_run (printing (line_of line) σ) (asked (EndCall false) (printing_result (codes "OK")))
 
--- the object of class Unit of a name; no two of an edition have one name
-abbrev pub unit_named : List ℕ → List Object → Option Object
-unit_named name objects = find (is_unit_named name) objects
+-- A block that fails the checks runs nothing.
+abbrev pub run_checked : Bool → Option (List ℕ) → Step
+run_checked false line = asked (EndCall true) (printing_result (code_text (Ora 6550)))
+run_checked true line = run_valid line
 
--- A block that calls what isn't visible fails its checks and runs nothing. A procedure of another form isn't run yet.
-abbrev pub run_call : Called → Step
-run_call Missing σ = asked (EndCall true) (printing_result (code_text (Ora 6550))) σ
-run_call NotRun σ = asked (EndCall true) (printing_result (code_text (Ebr 1))) σ
-run_call (Prints line) σ = then_run (printing (line_of line) σ) (asked (EndCall false) (printing_result (codes "OK")))
+-- a block by what the session's edition sees
+abbrev pub run_seen : EditionView → Block → Step
+run_seen v b = run_checked (is_valid v (unit.Block b)) (line_called v.objects b)
 
-abbrev pub call_after : List ℕ → Answer → Step
-call_after name (View view) = run_call (called_object (unit_named name view.objects))
-call_after name (Refused code steps lines) = printing (line_of (code_text code))
-call_after name x = printing []
+abbrev pub block_after : Block → Answer → Step
+block_after b (View v) = run_seen v b
+block_after b (Refused code steps lines) = printing (line_of (code_text code))
+block_after b x = printing []
+
+abbrev pub run_block : Block → Step
+run_block b = asked Begin (block_after b)
 
 -- The code of a statement that isn't run yet. Nothing is asked.
 abbrev pub not_run : Step
@@ -124,16 +130,11 @@ abbrev pub text_asked : Definition → List ℕ → List ℕ
 text_asked (CreateObject replace u) text = text
 text_asked d text = []
 
--- a block, by the name that it calls
-abbrev pub run_block : Option (List ℕ) → Step
-run_block None = not_run
-run_block (Some name) = asked Begin (call_after name)
-
 -- what a statement asks and prints, where its piece has this text
 abbrev pub run_statement : Statement → List ℕ → Step
 run_statement (statement.SetEdition name) text = asked (ask.SetEdition name) (printing_result (codes "OK"))
 run_statement (statement.Definition what) text = asked (Ddl what (text_asked what text)) (printing_result (codes "OK"))
-run_statement (statement.Block block) text = run_block (called_name block)
+run_statement (statement.Block block) text = run_block block
 run_statement s text = not_run
 
 -- A piece that spells no statement asks nothing, and prints the code of its first fault.

@@ -1,4 +1,3 @@
-pub mod Calls
 pub mod Engine
 pub mod Reading
 pub mod Report

@@ -25,6 +25,8 @@ pub enum Answer {
     /// All that the session's edition sees.
     View(Shared<EditionView>),
     Done,
+    /// A definition was carried out, but the unit or trigger that it created isn't valid in the session's edition.
+    Invalid,
     /// A refusal, with the steps taken and the lines printed by the bodies of triggers.
     Refused {
         code: Code,
@@ -42,6 +44,7 @@ impl CloneIn for Answer {
         match self {
             Answer::View(view) => Ok(Answer::View(view.clone_in(alloc)?)),
             Answer::Done => Ok(Answer::Done),
+            Answer::Invalid => Ok(Answer::Invalid),
             Answer::Refused { code, steps, lines } => Ok(Answer::Refused {
                 code: *code,
                 steps: *steps,

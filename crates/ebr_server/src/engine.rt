@@ -1,16 +1,19 @@
 //! The engine: it answers one ask at a time, and keeps the history of all of them.
 
 ghost use Rattle.std.specs.Prelude.{◌≡◌, ◌≢◌, ◌<◌, ◌≤◌, ◌+◌, [], ◌∷◌, ◌++◌, IfOk, IfSome, OnOk, OnErr, IsOk, vec_len, vec_capacity};
-ghost use Rattle.ebr_cross.specs.Catalogue.{Lists, HaveOwnKeys, IsViewOf, first_lists, kept};
+ghost use Rattle.ebr_check.specs.Verdict.{is_valid};
+ghost use Rattle.ebr_cross.specs.Catalogue.{Lists, HaveOwnKeys, IsViewOf, View, first_lists, kept};
 ghost use Rattle.ebr_cross.specs.Definitions.{outcome, set_edition};
 ghost use Rattle.ebr_cross.specs.Records.{with_record};
 ghost use Rattle.ebr_editions.specs.Editions.{first_edition};
-ghost use Rattle.ebr_server.specs.inside.Engine.{ForHeld, Holds, LeavesDefined, LeavesReply, LeavesSet};
+ghost use Rattle.ebr_server.specs.Machine.{answer_in, creation_answer};
+ghost use Rattle.ebr_server.specs.inside.Engine.{ForHeld, Holds, IsHeld, LeavesDefined, LeavesReply, LeavesSet};
 ghost use Rattle.ebr_server.specs.declared.ask.Answer.TheVariants.{Refused};
 ghost use Rattle.ebr_server.specs.declared.ask.Ask.TheVariants.{Leave};
 
 use crate::ask::{Answer, Ask, Entry};
-use ebr_ast::{Definition, EditionView};
+use crate::checks::passes;
+use ebr_ast::{Definition, EditionView, UnitTree};
 use ebr_base::{Bytes, CloneIn, Code, EditionNo, List, Name, NoMemory, SessionId, Shared, Stop};
 use ebr_cross::{Catalogue, CatalogueRecord, view_after, view_of};
 use std::alloc::Global;
@@ -75,6 +78,7 @@ impl Engine {
     /// Replies to the ask, with a copy of the answer for the history, and for every ask but Leave makes room for its entry
     /// and a last one.
     fn try_reply(&mut self, ask: &Ask) -> Result<(Answer, Answer), NoMemory>
+        requires { IsHeld self.old.current }
         ensures history { entries self.new ≡ entries self.old }
         ensures reply { ForHeld self.old.current (λ c e. IfOk result (λ pair. LeavesReply ask.now self.new.current pair.0 c e)) }
         ensures copy { IfOk result (λ pair. pair.1 ≡ pair.0) }
@@ -128,6 +132,7 @@ fn first_current(alloc: Global) -> Result<Current, NoMemory>
 
 /// Replies to an ask.
 fn reply_to(alloc: Global, current: &mut Current, ask: &Ask) -> Result<Answer, NoMemory>
+    requires { IsHeld current.old }
     ensures { ForHeld current.old (λ c e. IfOk result (λ answer. LeavesReply ask.now current.new answer c e)) }
 {
     match ask {
@@ -158,16 +163,47 @@ fn define(
     what: &Definition,
     text: &Bytes,
 ) -> Result<Answer, NoMemory>
-    ensures { ForHeld current.old (λ c e. IfOk result (λ answer. LeavesDefined current.new answer c e (outcome c e (e ∷ []) what.now text.now))) }
+    requires { IsHeld current.old }
+    ensures { ForHeld current.old (λ c e. IfOk result (λ answer. LeavesDefined what.now current.new answer c e (outcome c e (e ∷ []) what.now text.now))) }
 {
     let e = current.edition;
     match current.catalogue.apply(alloc, e, &[e], what, text) {
         Ok(record) => {
             current.view = next_view(alloc, &current.catalogue, &current.view, &record);
-            Ok(Answer::Done)
+            answer_in(alloc, current, what)
         }
         Err(Stop::Raised(code)) => Ok(refusal(alloc, code)),
         Err(Stop::NoMemory) => Err(NoMemory),
+    }
+}
+
+/// The answer to a definition that was carried out: the unit that it created is checked against what the session's
+/// edition sees now.
+fn answer_in(alloc: Global, current: &mut Current, what: &Definition) -> Result<Answer, NoMemory>
+    requires { IsHeld current.old }
+    ensures answer { ForHeld current.old (λ c e. IfOk result (λ answer. answer ≡ answer_in (View c e) what.now)) }
+    ensures holds { ForHeld current.old (λ c e. Holds current.new c e) }
+{
+    match what {
+        Definition::CreateObject { unit, .. } => creation_answer(alloc, current, unit),
+        _ => Ok(Answer::Done),
+    }
+}
+
+fn creation_answer(
+    alloc: Global,
+    current: &mut Current,
+    unit: &UnitTree,
+) -> Result<Answer, NoMemory>
+    requires { IsHeld current.old }
+    ensures answer { ForHeld current.old (λ c e. IfOk result (λ answer. answer ≡ creation_answer (is_valid (View c e) unit.now))) }
+    ensures holds { ForHeld current.old (λ c e. Holds current.new c e) }
+{
+    let view = view(alloc, current)?;
+    if passes(alloc, view.get(), unit)? {
+        Ok(Answer::Done)
+    } else {
+        Ok(Answer::Invalid)
     }
 }
 

@@ -3,65 +3,55 @@
 ghost use Rattle.std.specs.Prelude.{◌≡◌};
 ghost use Rattle.std.specs.Option.{option_copied};
 ghost use Rattle.ebr_exprtree.specs.declared.expression.Expr.{out-Expr};
-ghost use Rattle.ebr_ast.specs.Views.{IsInOrder};
+ghost use Rattle.ebr_ast.specs.Views.{IsInOrder, unit_named};
 ghost use Rattle.ebr_server.specs.Forms as spec;
-ghost use Rattle.ebr_server.specs.Sessions.{unit_named};
-ghost use Rattle.ebr_server.specs.inside.Calls.{called_in};
 
 use ebr_ast::{Block, Decl, EditionView, Expr, Handler, Stmt, Subprogram, UnitTree};
 use ebr_base::{Bytes, Class, Name, Shared};
 use ebr_names::object;
 
-/// What a call of a unit is, borrowed from its tree.
-#[derive(Drop)]
-pub enum Called<'a> {
-    /// No procedure is there.
-    Missing,
-    /// A procedure that isn't run yet.
-    NotRun,
-    /// A procedure that prints this line.
-    Prints(&'a [u8]),
+/// The line that a block's call prints, where it is of the form that runs yet.
+pub fn line_called<'a>(view: &'a EditionView, block: &Block) -> Option<&'a Bytes>
+    requires { IsInOrder view.now }
+    ensures { option_copied result ≡ spec.line_called view.now.objects block.now }
+{
+    match called_name(block) {
+        Some(name) => line_of_name(view, name),
+        None => None,
+    }
 }
 
-/// What a call of a name is, by what the edition sees.
-pub fn call_in<'a>(view: &'a EditionView, name: &Name) -> Called<'a>
+fn line_of_name<'a>(view: &'a EditionView, name: &Name) -> Option<&'a Bytes>
     requires { IsInOrder view.now }
-    ensures { called_in result ≡ spec.called_object (unit_named name.now view.now.objects) }
+    ensures { option_copied result ≡ spec.line_of_object (unit_named name.now view.now.objects) }
 {
     match object(view, Class::Unit, name) {
-        Some(object) => called_unit(&object.tree),
-        None => Called::Missing,
+        Some(object) => line_of_unit(&object.tree),
+        None => None,
     }
 }
 
-/// What a call of a unit is, as far as units run yet.
-fn called_unit(unit: &UnitTree) -> Called<'_>
-    ensures { called_in result ≡ spec.called_unit unit.now }
+fn line_of_unit(unit: &UnitTree) -> Option<&Bytes>
+    ensures { option_copied result ≡ spec.line_of_unit unit.now }
 {
     match unit {
-        UnitTree::Subprogram(unit) => called_subprogram(unit.get()),
-        _ => Called::Missing,
+        UnitTree::Subprogram(unit) => line_of_procedure(unit.get()),
+        _ => None,
     }
 }
 
-fn called_subprogram(unit: &Subprogram) -> Called<'_>
-    ensures { called_in result ≡ spec.called_subprogram unit.now.head.parameters unit.now.head.result (spec.printed_line unit.now.body) }
+fn line_of_procedure(unit: &Subprogram) -> Option<&Bytes>
+    ensures { option_copied result ≡ spec.line_of_procedure unit.now.head.parameters unit.now.head.result (spec.printed_line unit.now.body) }
 {
-    if unit.head.result.is_some() {
-        return Called::Missing;
+    if unit.head.result.is_some() || !unit.head.parameters.is_empty() {
+        return None;
     }
-    if !unit.head.parameters.is_empty() {
-        return Called::NotRun;
-    }
-    match printed_line(&unit.body) {
-        Some(line) => Called::Prints(line.as_slice()),
-        None => Called::NotRun,
-    }
+    printed_line(&unit.body)
 }
 
 /// The name that a block calls without arguments, where it does no more.
 #[tactic(auto, unfolding(crate::specs::Forms::called_name))]
-pub fn called_name(block: &Block) -> Option<&Name>
+fn called_name(block: &Block) -> Option<&Name>
     ensures { option_copied result ≡ spec.called_name block.now }
 {
     let Some(Stmt::Call(path, Some(arguments))) = only_statement(block) else {

@@ -5,6 +5,7 @@
 #![tactic(auto)]
 
 mod ask;
+mod checks;
 mod command;
 mod engine;
 mod exit;

@@ -1,25 +1,27 @@
 //! A session at work: it runs the pieces of its script, asks the engine, and gives its sink what it prints.
 
 ghost use Rattle.std.specs.Prelude.{◌≡◌, ◌≢◌, [], ◌<◌, ◌≤◌, codes, All, OnOk, OnErr, IfErr, IfOk, IfSome};
+ghost use Rattle.std.specs.Option.{option_copied};
 ghost use Rattle.ebr_outside.specs.Faults.{Rises};
 ghost use Rattle.ebr_base.specs.Code.{code_text};
 ghost use Rattle.ebr_script.specs.Pieces.{LiesWithin, KeepsText, text_of};
 ghost use Rattle.ebr_server.specs.Machine.{start};
 ghost use Rattle.ebr_server.specs.History.{Legal};
-ghost use Rattle.ebr_server.specs.Sessions.{line_of, result_line, asked, text_asked, call_after, printing_result, run_block, run_statement, run_piece, run_pieces};
-ghost use Rattle.ebr_server.specs.Forms as spec;
+ghost use Rattle.ebr_server.specs.Sessions.{line_of, result_line, asked, text_asked, printing_result, run_block, run_seen, run_valid, run_statement, run_piece, run_pieces};
+ghost use Rattle.ebr_ast.specs.Views.{IsInOrder};
 ghost use Rattle.ebr_server.specs.Program.{Session, HasRun};
 ghost use Rattle.ebr_server.specs.inside.Output.{WritesOn, Prints};
 ghost use Rattle.ebr_server.specs.inside.Worker.{Asks, Does, RunsOn, RanPieces};
 ghost use Rattle.ebr_server.specs.inside.Engine.{IsOpen, IsSpelled, KeepsSpelled, entries};
 
 use crate::ask::{Answer, Ask};
+use crate::checks::block_passes;
 use crate::engine::Engine;
 use crate::exit::ExitCode;
-use crate::forms::{Called, call_in, called_name};
+use crate::forms::line_called;
 use crate::offer::offer;
-use ebr_ast::{Block, Definition, Statement};
-use ebr_base::{Bytes, Code, Name, NoMemory};
+use ebr_ast::{Block, Definition, EditionView, Statement};
+use ebr_base::{Bytes, Code, Name, NoMemory, Shared};
 use ebr_outside::Sink;
 use ebr_script::{Piece, PieceKind, text_of};
 use std::alloc::Global;
@@ -138,6 +140,7 @@ impl<S: Sink> Worker<S> {
     {
         match answer {
             Answer::Done => self.print_line(text),
+            Answer::Invalid => self.print_line(b"INVALID"),
             Answer::Refused { code, .. } => self.print_code(*code),
             _ => Ok(()),
         }
@@ -179,37 +182,54 @@ impl<S: Sink> Worker<S> {
         self.request(engine, Ask::SetEdition(name), b"OK")
     }
 
-    /// Calls a procedure: the line that it prints, and how the call ended.
-    fn call(&mut self, engine: &mut Engine, name: &Name) -> Result<(), Halt>
+    /// Runs a block.
+    fn block(
+        &mut self,
+        alloc: Global,
+        engine: &mut Engine,
+        block: Shared<Block>,
+    ) -> Result<(), Halt>
         requires open { IsOpen engine.old }
-        ensures { Does result (asked Ask.Begin (call_after name.now)) engine.old self.old engine.new self.new }
+        ensures { Does result (run_block block) engine.old self.old engine.new self.new }
     {
         match self.ask(engine, Ask::Begin)? {
-            Answer::View(view) => match call_in(view.get(), name) {
-                Called::Missing => self.request(
-                    engine,
-                    Ask::EndCall { failed: true },
-                    b"ORA-06550",
-                ),
-                Called::NotRun => self.request(engine, Ask::EndCall { failed: true }, b"EBR-0001"),
-                Called::Prints(line) => {
-                    self.print_line(line)?;
-                    self.request(engine, Ask::EndCall { failed: false }, b"OK")
-                }
-            },
+            Answer::View(view) => self.run_seen(alloc, engine, view.get(), block),
             Answer::Refused { code, .. } => self.print_code(code),
             _ => Ok(()),
         }
     }
 
-    /// Runs a block.
-    fn block(&mut self, engine: &mut Engine, block: &Block) -> Result<(), Halt>
+    /// Runs a block by what the session's edition sees.
+    fn run_seen(
+        &mut self,
+        alloc: Global,
+        engine: &mut Engine,
+        view: &EditionView,
+        block: Shared<Block>,
+    ) -> Result<(), Halt>
         requires open { IsOpen engine.old }
-        ensures { Does result (run_block (spec.called_name block.now)) engine.old self.old engine.new self.new }
+        requires order { IsInOrder view.now }
+        ensures { Does result (run_seen view.now block) engine.old self.old engine.new self.new }
     {
-        match called_name(block) {
-            Some(name) => self.call(engine, name),
-            None => self.print_code(Code::Ebr(1)),
+        let line = line_called(view, block.get());
+        if block_passes(alloc, view, block)? {
+            self.run_valid(engine, line)
+        } else {
+            self.request(engine, Ask::EndCall { failed: true }, b"ORA-06550")
+        }
+    }
+
+    /// Runs a block that passes its checks: the line that it prints, and how it ended.
+    fn run_valid(&mut self, engine: &mut Engine, line: Option<&Bytes>) -> Result<(), Halt>
+        requires open { IsOpen engine.old }
+        ensures { Does result (run_valid (option_copied line.entry)) engine.old self.old engine.new self.new }
+    {
+        match line {
+            Some(line) => {
+                self.print_line(line.as_slice())?;
+                self.request(engine, Ask::EndCall { failed: false }, b"OK")
+            }
+            None => self.request(engine, Ask::EndCall { failed: true }, b"EBR-0001"),
         }
     }
 
@@ -228,7 +248,7 @@ impl<S: Sink> Worker<S> {
         match statement {
             Statement::SetEdition(name) => self.set_edition(engine, name),
             Statement::Definition(what) => self.define(alloc, engine, what, text),
-            Statement::Block(block) => self.block(engine, block.get()),
+            Statement::Block(block) => self.block(alloc, engine, block),
             Statement::Sql(_) => self.print_code(Code::Ebr(1)),
             Statement::Transaction(_) => self.print_code(Code::Ebr(1)),
         }

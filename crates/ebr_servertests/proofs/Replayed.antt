@@ -4,7 +4,6 @@ use Rattle.std.specs.Prelude.{Some, None}
 use Rattle.ebr_base.specs.declared.numbers.EditionNo.{EditionNo}
 use Rattle.ebr_ast.specs.declared.definition.Definition.{Definition}
 use Rattle.ebr_ast.specs.declared.definition.Definition.TheVariants.{CreateEdition}
-use Rattle.ebr_ast.specs.declared.statement.Block.{Block}
 use Rattle.ebr_ast.specs.declared.unit.UnitTree.{UnitTree}
 use Rattle.ebr_ast.specs.declared.unit.UnitTree.TheVariants as unit
 use Rattle.ebr_ast.specs.declared.view.Object.{Object}
@@ -15,20 +14,24 @@ use Rattle.ebr_cross.specs.Catalogue as catalogue
 use Rattle.ebr_cross.specs.Definitions.{outcome, set_edition}
 use Rattle.ebr_cross.specs.Kinds.{unit_key}
 use Rattle.ebr_cross.specs.Records.{with_record}
+use Rattle.ebr_check.specs.Verdict.{is_valid}
+use Rattle.ebr_expr.specs.Operators.{builtin_named}
 use Rattle.ebr_script.specs.declared.piece.Piece.{Piece}
 use Rattle.ebr_script.specs.Pieces.{pieces_of, stored_definition, text_of}
 use Rattle.ebr_server.specs.declared.ask.Ask.{Ask}
 use Rattle.ebr_server.specs.declared.ask.Ask.TheVariants.{Begin, Ddl, SetEdition, EndCall, Leave}
 use Rattle.ebr_server.specs.declared.ask.Answer.{Answer}
-use Rattle.ebr_server.specs.declared.ask.Answer.TheVariants.{View, Done, Refused, NoMemory, Stopped}
+use Rattle.ebr_server.specs.declared.ask.Answer.TheVariants.{View, Done, Invalid, Refused, NoMemory, Stopped}
 use Rattle.ebr_server.specs.declared.ask.Entry.{Entry}
 use Rattle.ebr_server.specs.declared.ask.Exchange.{Exchange}
 use Rattle.ebr_server.specs.Records.{Record, Edition, Object as ObjectRecord, catalogue_of, with_stored}
-use Rattle.ebr_server.specs.Machine.{the_session, start, Session, Database, Replied, Reply, defined, unchanged, edition_set}
+use Rattle.ebr_server.specs.Machine.{the_session, start, Session, Database, Replied, Reply, creation_answer, defined, unchanged, edition_set}
 use Rattle.ebr_server.specs.History.{Mine, Legal, Answered, IsLive, GoesOn, AllGoOn, answers, asks}
 use Rattle.ebr_server.specs.Sessions.{SessionRun, Ended, ended, line_of}
 use Rattle.ebr_server.specs.Program.{RanToEnd}
-use Rattle.ebr_servertests.specs.WorkedScripts.{Gives, Makes, CallsGive, UpgradeGives, procedure}
+use Rattle.ebr_servertests.specs.WorkedScripts.{Gives, Makes, CallsGive, UpgradeGives, procedure, printing, call_of}
+use Rattle.ebr_servertests.proofs.Trees.{printed_line-is, called_name-call}
+use Rattle.ebr_servertests.proofs.Valid.{procedure_is_valid, call_checks}
 
 abbrev exchanged : Ask → Answer → Exchange
 exchanged a x = record { ask = a; answer = x }
@@ -39,6 +42,7 @@ entry a x = record { session = the_session; ask = a; answer = x }
 answered_so : (x reply : Answer) (on stopped : Type 0) → GoesOn x → x ≡ reply → on → Answered x reply on stopped
 answered_so (View v) reply on stopped goes same rest = (same, rest)
 answered_so Done reply on stopped goes same rest = (same, rest)
+answered_so Invalid reply on stopped goes same rest = (same, rest)
 answered_so (Refused c s l) reply on stopped goes same rest = (same, rest)
 answered_so NoMemory reply on stopped goes same rest = absurd goes
 answered_so Stopped reply on stopped goes same rest = absurd goes
@@ -80,6 +84,9 @@ ok = line_of (codes "OK")
 abbrev name_a : List ℕ
 name_a = codes "A"
 
+abbrev name_b : List ℕ
+name_b = codes "B"
+
 abbrev v2 : List ℕ
 v2 = codes "V2"
 
@@ -97,11 +104,11 @@ abbrev first_edition : EditionNo
 first_edition = record { 0 = 1 }
 
 -- a procedure of the name A, as the first definition in an edition
-abbrev made_in : EditionNo → List ℕ → Block → Object
-made_in e text body = record {
+abbrev made_in : EditionNo → List ℕ → List ℕ → Object
+made_in e text line = record {
   key = unit_key name_a;
   text = text;
-  tree = unit.Subprogram (record { head = record { name = name_a; parameters = []; result = None }; body = body });
+  tree = unit.Subprogram (record { head = record { name = name_a; parameters = []; result = None }; body = printing line });
   stamp = record { edition = e; count = 1 };
   enabled = true;
 }
@@ -111,52 +118,63 @@ abbrev seeing : EditionNo → Object → EditionView
 seeing e o = record { edition = e; objects = o ∷ []; tables = [] }
 
 -- the catalogue with the first procedure
-abbrev c1 : List ℕ → Block → Lists
-c1 text body = with_record first_lists (made.Object (made_in first_edition text body))
+abbrev c1 : List ℕ → List ℕ → Lists
+c1 text line = with_record first_lists (made.Object (made_in first_edition text line))
 
 -- .. with a child edition
-abbrev c2 : List ℕ → Block → Lists
-c2 text body = with_record (c1 text body) (made.Edition v2 first_edition)
+abbrev c2 : List ℕ → List ℕ → Lists
+c2 text line = with_record (c1 text line) (made.Edition v2 first_edition)
 
 -- .. and with the second procedure
-abbrev c3 : List ℕ → Block → List ℕ → Block → Lists
-c3 text body text' body' = with_record (c2 text body) (made.Object (made_in second_edition text' body'))
+abbrev c3 : List ℕ → List ℕ → List ℕ → List ℕ → Lists
+c3 text line text' line' = with_record (c2 text line) (made.Object (made_in second_edition text' line'))
 
-view1 : (text : List ℕ) (body : Block) → catalogue.View (c1 text body) first_edition ≡ seeing first_edition (made_in first_edition text body)
+view1 : (text line : List ℕ) → catalogue.View (c1 text line) first_edition ≡ seeing first_edition (made_in first_edition text line)
 unfolding in_order
-view1 text body = refl
+view1 text line = refl
 
-view3 : (text : List ℕ) (body : Block) (text' : List ℕ) (body' : Block) → catalogue.View (c3 text body text' body') first_edition ≡ seeing first_edition (made_in first_edition text body)
+view3 : (text line : List ℕ) (text' line' : List ℕ) → catalogue.View (c3 text line text' line') first_edition ≡ seeing first_edition (made_in first_edition text line)
 unfolding in_order
-view3 text body text' body' = refl
+view3 text line text' line' = refl
 
-view3-child : (text : List ℕ) (body : Block) (text' : List ℕ) (body' : Block) → catalogue.View (c3 text body text' body') second_edition ≡ seeing second_edition (made_in second_edition text' body')
+view3-child : (text line : List ℕ) (text' line' : List ℕ) → catalogue.View (c3 text line text' line') second_edition ≡ seeing second_edition (made_in second_edition text' line')
 unfolding in_order
-view3-child text body text' body' = refl
+view3-child text line text' line' = refl
 
 module _ (script : List ℕ) (p : Piece) (made : Makes script p false name_a a) where
   abbrev text : List ℕ
   text = text_of script p
 
   abbrev what : Definition
-  what = procedure false name_a made.body
+  what = procedure false name_a a
 
   abbrev r1 : List Record
   r1 = ObjectRecord first_edition true text ∷ []
 
   is_made : Reply start the_session (Ddl what text) ≡ record { database = in_edition r1 first_edition; answer = Done; records = r1 }
-  is_made = refl
+  is_made =
+      ap (λ valid. record { database = in_edition r1 first_edition; answer = creation_answer valid; records = r1 })
+      (procedure_is_valid (catalogue.View (catalogue_of r1) first_edition) name_a a)
 
-  catalogue1 : catalogue_of r1 ≡ c1 text made.body
+  catalogue1 : catalogue_of r1 ≡ c1 text a
   catalogue1 = ap (with_stored first_lists first_edition true text) made.again
 
   abbrev seen1 : EditionView
-  seen1 = seeing first_edition (made_in first_edition text made.body)
+  seen1 = seeing first_edition (made_in first_edition text a)
 
   sees_a : Reply (in_edition r1 first_edition) the_session Begin ≡ unchanged (in_edition r1 first_edition) (View seen1)
   sees_a =
       ap (λ c. unchanged (in_edition r1 first_edition) (View (catalogue.View c first_edition))) catalogue1
-      ∙ ap (λ v. unchanged (in_edition r1 first_edition) (View v)) (view1 text made.body)
+      ∙ ap (λ v. unchanged (in_edition r1 first_edition) (View v)) (view1 text a)
+
+-- A procedure that an edition sees can be called, and no other.
+a_is_called : (e : EditionNo) (text line : List ℕ) → is_valid (seeing e (made_in e text line)) (unit.Block (call_of name_a)) ≡ true
+unfolding builtin_named
+a_is_called e text line = call_checks (seeing e (made_in e text line)) name_a refl
+
+b_is_missing : (e : EditionNo) (text line : List ℕ) → is_valid (seeing e (made_in e text line)) (unit.Block (call_of name_b)) ≡ false
+unfolding builtin_named
+b_is_missing e text line = call_checks (seeing e (made_in e text line)) name_b refl
 
 pub calls_give : CallsGive (ok ++ line_of a ++ ok ++ line_of (codes "ORA-06550"))
 calls_give script p q r pieces made first second =
@@ -180,7 +198,7 @@ calls_give script p q r pieces made first second =
           (legal_on there there (EndCall true) Done [] h6 refl tt refl
           (legal_on there (left_from (r1 script p made)) Leave Done [] [] refl tt refl tt)))));
       ran = ran_so script h1 before (ok ++ line_of a ++ ok ++ line_of (codes "ORA-06550")) refl (tt, (tt, (tt, (tt, (tt, tt)))))
-          (simp (pieces, made.spells, made.prints, first.spells, first.calls, second.spells, second.calls));
+          (simp (pieces, made.spells, first, second, a_is_called first_edition (text_of script p) a, b_is_missing first_edition (text_of script p) a, called_name-call name_a, called_name-call name_b, printed_line-is a));
     }
 
 module _ (script : List ℕ) (p s : Piece) (first : Makes script p false name_a a) (second : Makes script s true name_a b) where
@@ -197,21 +215,21 @@ module _ (script : List ℕ) (p s : Piece) (first : Makes script p false name_a 
   r3 = ObjectRecord first_edition true text1 ∷ Edition v2 first_edition ∷ ObjectRecord second_edition true text2 ∷ []
 
   abbrev replaced : Definition
-  replaced = procedure true name_a second.body
+  replaced = procedure true name_a b
 
-  catalogue2 : catalogue_of r2 ≡ c2 text1 first.body
+  catalogue2 : catalogue_of r2 ≡ c2 text1 a
   catalogue2 = ap (λ c. with_record c (made.Edition v2 first_edition)) (catalogue1 script p first)
 
-  catalogue3 : catalogue_of r3 ≡ c3 text1 first.body text2 second.body
+  catalogue3 : catalogue_of r3 ≡ c3 text1 a text2 b
   catalogue3 =
       ap (λ c. with_stored c second_edition true text2 (stored_definition text2)) catalogue2
-      ∙ ap (with_stored (c2 text1 first.body) second_edition true text2) second.again
+      ∙ ap (with_stored (c2 text1 a) second_edition true text2) second.again
 
   is_child : Reply (in_edition (r1 script p first) first_edition) the_session (Ddl (CreateEdition v2 None) [])
       ≡ record { database = in_edition r2 first_edition; answer = Done; records = Edition v2 first_edition ∷ [] }
   is_child =
       let db : Database = in_edition (r1 script p first) first_edition in
-      ap (λ c. defined db (outcome c first_edition (first_edition ∷ []) (CreateEdition v2 None) [])) (catalogue1 script p first)
+      ap (λ c. defined db first_edition (CreateEdition v2 None) (outcome c first_edition (first_edition ∷ []) (CreateEdition v2 None) [])) (catalogue1 script p first)
 
   sets_child : Reply (in_edition r2 first_edition) the_session (SetEdition v2) ≡ unchanged (in_edition r2 second_edition) Done
   sets_child = ap (λ (c : Lists). edition_set (set_edition c.editions.made v2) (in_edition r2 first_edition) the_session (in_session first_edition)) catalogue2
@@ -220,23 +238,25 @@ module _ (script : List ℕ) (p s : Piece) (first : Makes script p false name_a 
       ≡ record { database = in_edition r3 second_edition; answer = Done; records = ObjectRecord second_edition true text2 ∷ [] }
   is_replaced =
       let db : Database = in_edition r2 second_edition in
-      ap (λ c. defined db (outcome c second_edition (second_edition ∷ []) replaced text2)) catalogue2
+      ap (λ c. defined db second_edition replaced (outcome c second_edition (second_edition ∷ []) replaced text2)) catalogue2
+      ∙ ap (λ valid. record { database = in_edition r3 second_edition; answer = creation_answer valid; records = ObjectRecord second_edition true text2 ∷ [] })
+      (procedure_is_valid (catalogue.View (catalogue_of r3) second_edition) name_a b)
 
   abbrev seen_first : EditionView
-  seen_first = seeing first_edition (made_in first_edition text1 first.body)
+  seen_first = seeing first_edition (made_in first_edition text1 a)
 
   abbrev seen_second : EditionView
-  seen_second = seeing second_edition (made_in second_edition text2 second.body)
+  seen_second = seeing second_edition (made_in second_edition text2 b)
 
   sees_second : Reply (in_edition r3 second_edition) the_session Begin ≡ unchanged (in_edition r3 second_edition) (View seen_second)
   sees_second =
       ap (λ c. unchanged (in_edition r3 second_edition) (View (catalogue.View c second_edition))) catalogue3
-      ∙ ap (λ v. unchanged (in_edition r3 second_edition) (View v)) (view3-child text1 first.body text2 second.body)
+      ∙ ap (λ v. unchanged (in_edition r3 second_edition) (View v)) (view3-child text1 a text2 b)
 
   sees_first : Reply (in_edition r3 first_edition) the_session Begin ≡ unchanged (in_edition r3 first_edition) (View seen_first)
   sees_first =
       ap (λ c. unchanged (in_edition r3 first_edition) (View (catalogue.View c first_edition))) catalogue3
-      ∙ ap (λ v. unchanged (in_edition r3 first_edition) (View v)) (view3 text1 first.body text2 second.body)
+      ∙ ap (λ v. unchanged (in_edition r3 first_edition) (View v)) (view3 text1 a text2 b)
 
   sets_first : Reply (in_edition r3 second_edition) the_session (SetEdition (codes "ORA$BASE")) ≡ unchanged (in_edition r3 first_edition) Done
   sets_first = ap (λ (c : Lists). edition_set (set_edition c.editions.made (codes "ORA$BASE")) (in_edition r3 second_edition) the_session (in_session second_edition)) catalogue3
@@ -281,5 +301,5 @@ upgrade_gives script p q r s t u v pieces first child_made child_set second ther
           (legal_on db5 db5 (EndCall false) Done [] h10 refl tt refl
           (legal_on db5 (left_from (r3 script p s first second)) Leave Done [] [] refl tt refl tt)))))))));
       ran = ran_so script h1 before (ok ++ ok ++ ok ++ ok ++ line_of b ++ ok ++ ok ++ line_of a ++ ok) refl (tt, (tt, (tt, (tt, (tt, (tt, (tt, (tt, (tt, tt)))))))))
-          (simp (pieces, first.spells, first.prints, child_made, child_set, second.spells, second.prints, there_called.spells, there_called.calls, base_set, here_called.spells, here_called.calls));
+          (simp (pieces, first.spells, child_made, child_set, second.spells, there_called, base_set, here_called, a_is_called first_edition (text_of script p) a, a_is_called second_edition (text_of script s) b, called_name-call name_a, printed_line-is a, printed_line-is b));
     }

@@ -14,7 +14,6 @@ use Rattle.ebr_script.specs.declared.piece.PieceKind.TheVariants as piece
 use Rattle.ebr_script.specs.Pieces.{pieces_of, stored_definition, text_of}
 use Rattle.ebr_server.specs.declared.ask.Entry.{Entry}
 use Rattle.ebr_server.specs.History.{Mine, Legal}
-use Rattle.ebr_server.specs.Forms.{printed_line, called_name}
 use Rattle.ebr_server.specs.Machine.{the_session, start}
 use Rattle.ebr_server.specs.Program.{RanToEnd}
 
@@ -24,23 +23,31 @@ pub record Gives (script replies : List ℕ) : Type 0 where
   pub legal : Legal start history
   pub ran : RanToEnd script (Mine history the_session) replies
 
--- the definition of a procedure without parameters, by this body
-abbrev pub procedure : Bool → List ℕ → Block → Definition
-procedure replace name body =
-    CreateObject replace (unit.Subprogram (record { head = record { name = name; parameters = []; result = None }; body = body }))
+-- `BEGIN` this statement `END`
+abbrev pub block_of : Stmt → Block
+block_of s = roll-Block (record { declarations = []; statements = s ∷ []; handlers = [] })
+
+-- `BEGIN DBMS_OUTPUT.PUT_LINE('line'); END`
+abbrev pub printing : List ℕ → Block
+printing line = block_of (stmt.PutLine (expression.Text line))
+
+-- the tree of `CALL name()`
+abbrev pub call_of : List ℕ → Block
+call_of name = block_of (stmt.Call (record { name = name; member = None }) (Some []))
+
+-- the definition of a procedure without parameters that prints a line
+abbrev pub procedure : Bool → List ℕ → List ℕ → Definition
+procedure replace name line =
+    CreateObject replace (unit.Subprogram (record { head = record { name = name; parameters = []; result = None }; body = printing line }))
 
 -- A piece makes a procedure that prints one line, and its stored text spells what it does.
 pub record Makes (script : List ℕ) (p : Piece) (replace : Bool) (name line : List ℕ) : Type 0 where
-  pub body : Block
-  pub spells : p.what ≡ piece.Tree (statement.Definition (procedure replace name body))
-  pub prints : printed_line body ≡ Some line
-  pub again : stored_definition (text_of script p) ≡ Some (procedure replace name body)
+  pub spells : p.what ≡ piece.Tree (statement.Definition (procedure replace name line))
+  pub again : stored_definition (text_of script p) ≡ Some (procedure replace name line)
 
 -- A piece calls a procedure.
-pub record Calls (p : Piece) (name : List ℕ) : Type 0 where
-  pub block : Block
-  pub spells : p.what ≡ piece.Tree (statement.Block block)
-  pub calls : called_name block ≡ Some name
+abbrev pub Calls : Piece → List ℕ → Type 0
+Calls p name = p.what ≡ piece.Tree (statement.Block (call_of name))
 
 -- A script makes a procedure, calls it, and calls one that isn't there.
 abbrev pub CallsGive : List ℕ → Type 0
@@ -58,15 +65,3 @@ UpgradeGives replies = (script : List ℕ) (p q r s t u v : Piece) → pieces_of
     → u.what ≡ piece.Tree (statement.SetEdition (codes "ORA$BASE"))
     → Calls v (codes "A")
     → Gives script replies
-
--- `BEGIN` this statement `END`
-abbrev pub block_of : Stmt → Block
-block_of s = roll-Block (record { declarations = []; statements = s ∷ []; handlers = [] })
-
--- `BEGIN DBMS_OUTPUT.PUT_LINE('line'); END`
-abbrev pub printing : List ℕ → Block
-printing line = block_of (stmt.PutLine (expression.Text line))
-
--- the tree of `CALL name()`
-abbrev pub call_of : List ℕ → Block
-call_of name = block_of (stmt.Call (record { name = name; member = None }) (Some []))

@@ -18,4 +18,6 @@ mod run;
 #[cfg(test)]
 mod script;
 #[cfg(test)]
+mod validity;
+#[cfg(test)]
 mod worked;

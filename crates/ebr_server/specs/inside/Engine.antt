@@ -2,6 +2,7 @@
 use Rattle.std.specs.Prelude.{ℕ, ◌≡◌, ◌≢◌, ◌<◌, List, [], ◌∷◌, ◌++◌, Some, IfSome, Result, Ok, Err, vec_len, vec_capacity}
 use Rattle.ebr_base.specs.declared.code.Code.{Code}
 use Rattle.ebr_base.specs.declared.numbers.EditionNo.{EditionNo}
+use Rattle.ebr_ast.specs.declared.definition.Definition.{Definition}
 use Rattle.ebr_ast.specs.declared.definition.Statement.{Statement}
 use Rattle.ebr_ast.specs.declared.definition.Statement.TheVariants as statement
 use Rattle.ebr_cross.specs.declared.record.CatalogueRecord.{CatalogueRecord}
@@ -19,7 +20,7 @@ use Rattle.ebr_server.specs.declared.ask.Entry.{Entry}
 use Rattle.ebr_server.specs.declared.engine.Engine.{Engine}
 use Rattle.ebr_server.specs.declared.engine.Current.{Current}
 use Rattle.ebr_server.specs.Records.{catalogue_of}
-use Rattle.ebr_server.specs.Machine.{Database, the_session, start}
+use Rattle.ebr_server.specs.Machine.{Database, answer_in, the_session, start}
 use Rattle.ebr_server.specs.History.{After, Legal}
 
 abbrev pub entries : Engine → List Entry
@@ -49,9 +50,9 @@ pub record Leaves (new : Current) (answer wanted : Answer) (c : Lists) (e : Edit
   pub holds : Holds new c e
 
 -- what a definition leaves, by its outcome
-abbrev pub LeavesDefined : Current → Answer → Lists → EditionNo → Result CatalogueRecord Code → Type 0
-LeavesDefined new answer c e (Ok r) = Leaves new answer Done (with_record c r) e
-LeavesDefined new answer c e (Err code) = Leaves new answer (Refused code 0 []) c e
+abbrev pub LeavesDefined : Definition → Current → Answer → Lists → EditionNo → Result CatalogueRecord Code → Type 0
+LeavesDefined what new answer c e (Ok r) = Leaves new answer (answer_in (catalogue.View (with_record c r) e) what) (with_record c r) e
+LeavesDefined what new answer c e (Err code) = Leaves new answer (Refused code 0 []) c e
 
 -- what SET EDITION leaves, by the edition that was found
 abbrev pub LeavesSet : Current → Answer → Lists → EditionNo → Result EditionNo Code → Type 0
@@ -61,10 +62,16 @@ LeavesSet new answer c e (Err code) = Leaves new answer (Refused code 0 []) c e
 -- what an ask leaves
 abbrev pub LeavesReply : Ask → Current → Answer → Lists → EditionNo → Type 0
 LeavesReply Begin new answer c e = Leaves new answer (View (catalogue.View c e)) c e
-LeavesReply (Ddl what text) new answer c e = LeavesDefined new answer c e (outcome c e (e ∷ []) what text)
+LeavesReply (Ddl what text) new answer c e = LeavesDefined what new answer c e (outcome c e (e ∷ []) what text)
 LeavesReply (SetEdition name) new answer c e = LeavesSet new answer c e (set_edition c.editions.made name)
 LeavesReply (EndCall failed) new answer c e = Leaves new answer Done c e
 LeavesReply Leave new answer c e = Leaves new answer Done c e
+
+-- There are lists and an edition that are held.
+pub record IsHeld (now : Current) : Type 0 where
+  pub lists : Lists
+  pub edition : EditionNo
+  pub holds : Holds now lists edition
 
 -- So it is for whichever lists and edition are held.
 abbrev pub ForHeld : Current → (Lists → EditionNo → Type 0) → Type 0

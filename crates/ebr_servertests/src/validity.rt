@@ -1,0 +1,128 @@
+//! Units, triggers and blocks that aren't valid in the session's edition.
+
+use crate::run::wrong_from;
+use std::test::Fail;
+
+/// What a script shows of validity, the script, and its replies.
+static REPLIES: &str = "\
+a procedure that calls what isn't there, before and behind its creation~\
+CREATE PROCEDURE p IS BEGIN q(); END;
+/
+CREATE PROCEDURE p IS BEGIN NULL; END;
+/
+CREATE PROCEDURE q IS BEGIN NULL; END;
+/
+CREATE OR REPLACE PROCEDURE p IS BEGIN q(); END;
+/
+~\
+INVALID
+ORA-00955
+OK
+OK
+~\
+a unit sees itself~\
+CREATE PROCEDURE p(n NUMBER) IS BEGIN p(n - 1); END;
+/
+CREATE FUNCTION f(n NUMBER) RETURN NUMBER IS BEGIN RETURN f(n - 1); END;
+/
+CREATE FUNCTION g RETURN NUMBER IS BEGIN RETURN; END;
+/
+~\
+OK
+OK
+INVALID
+~\
+one text in two editions~\
+CREATE PROCEDURE q IS BEGIN NULL; END;
+/
+CREATE EDITION v2;
+ALTER SESSION SET EDITION = v2;
+DROP PROCEDURE q;
+CREATE PROCEDURE p IS BEGIN q(); END;
+/
+ALTER SESSION SET EDITION = ora$base;
+CREATE PROCEDURE p IS BEGIN q(); END;
+/
+~\
+OK
+OK
+OK
+OK
+INVALID
+OK
+OK
+~\
+a package's body~\
+CREATE PACKAGE k IS PROCEDURE p; n NUMBER; END;
+/
+CREATE PACKAGE BODY k IS PROCEDURE q IS BEGIN n := 1; END; END;
+/
+CREATE OR REPLACE PACKAGE BODY k IS PROCEDURE p IS BEGIN n := 1; END; END;
+/
+DROP PACKAGE BODY k;
+CREATE PACKAGE l IS CURSOR c IS SELECT a FROM t; END;
+/
+~\
+OK
+INVALID
+OK
+OK
+INVALID
+~\
+triggers~\
+CREATE TABLE t (a NUMBER, b VARCHAR2(10));
+CREATE EDITIONING VIEW v AS SELECT a FROM t;
+CREATE TRIGGER r BEFORE INSERT ON v FOR EACH ROW BEGIN :NEW.a := 1; END;
+/
+CREATE OR REPLACE TRIGGER r BEFORE INSERT ON v FOR EACH ROW BEGIN :NEW.b := 'x'; END;
+/
+CREATE TRIGGER f BEFORE UPDATE ON t FOR EACH ROW FORWARD CROSSEDITION BEGIN :NEW.b := 'x'; END;
+/
+CREATE OR REPLACE TRIGGER f BEFORE UPDATE ON t FOR EACH ROW FORWARD CROSSEDITION BEGIN :NEW.nope := 1; END;
+/
+DROP TRIGGER f;
+~\
+OK
+OK
+OK
+INVALID
+OK
+INVALID
+OK
+~\
+blocks run nothing where they fail their checks~\
+CREATE PROCEDURE p(n NUMBER) IS BEGIN NULL; END;
+/
+CREATE FUNCTION f RETURN NUMBER IS BEGIN RETURN 1; END;
+/
+BEGIN x := 1; END;
+/
+DECLARE x NUMBER; BEGIN x := 1; END;
+/
+BEGIN NULL; END;
+/
+CALL p(1);CALL p('x');CALL p();CALL f();
+BEGIN EXIT; END;
+/
+BEGIN INSERT INTO t VALUES (1); END;
+/
+~\
+OK
+OK
+ORA-06550
+EBR-0001
+EBR-0001
+EBR-0001
+ORA-06550
+ORA-06550
+ORA-06550
+ORA-06550
+ORA-06550
+~\
+";
+
+#[test]
+fn units_and_blocks_are_checked(rt: HostRuntime) -> Result<(), Fail> {
+    assert_eq!(rt; wrong_from(rt.alloc(), REPLIES)?, "");
+    Ok(())
+}
