@@ -17,6 +17,8 @@ mod expressions;
 #[cfg(test)]
 mod reading;
 #[cfg(test)]
+mod sample_view;
+#[cfg(test)]
 mod simple;
 #[cfg(test)]
 mod sql;

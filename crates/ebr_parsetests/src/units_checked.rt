@@ -3,39 +3,14 @@
 //! The rules are those of Oracle Database PL/SQL Language Reference 19c where nothing else is said; their numbers are own. For
 //! each rule there are units that break it alone, and units that just keep it.
 
-use ebr_ast::{EditionView, Object, UnitTree};
-use ebr_base::{
-    Bytes, Class, ColType, Column, EditionNo, List, MAX_COUNT, Name, NoMemory, ObjectKey, Shared,
-    Stamp, TableDef, TableId,
-};
+use crate::sample_view::{seen, tree, wanted_row};
+use ebr_ast::EditionView;
+use ebr_base::{Bytes, NoMemory};
 use ebr_check::{CheckFault, check};
-use ebr_lexer::{LexStop, Token, lex};
 use ebr_names::is_in_order;
-use ebr_plparse::unit;
 use std::alloc::Global;
 use std::process::Abort;
 use std::test::Fail;
-
-/// A name; where the text spells none, the test fails with want of memory.
-fn name(alloc: Global, text: &str) -> Result<Name, NoMemory> {
-    Name::of(alloc, text.as_bytes())?.ok_or(NoMemory)
-}
-
-/// The tokens of a short text; where it has none, the test fails with want of memory.
-fn tokens_of(alloc: Global, text: &str) -> Result<List<Token>, NoMemory> {
-    if text.len() >= MAX_COUNT {
-        return Err(NoMemory);
-    }
-    match lex(alloc, text.as_bytes()) {
-        Ok(tokens) => Ok(tokens),
-        Err(LexStop::NoMemory) | Err(LexStop::Fault { .. }) => Err(NoMemory),
-    }
-}
-
-fn tree(alloc: Global, text: &str) -> Result<UnitTree, NoMemory> {
-    let tokens = tokens_of(alloc, text)?;
-    unit(alloc, tokens.as_slice())?.ok_or(NoMemory)
-}
 
 // ---- what the edition sees
 
@@ -81,72 +56,6 @@ static OBJECTS: [(&str, &str); 14] = [
     ("UPPER", "PROCEDURE upper IS BEGIN NULL; END;"),
 ];
 
-static TABLES: [(u32, &str, &[(&str, ColType)]); 2] = [
-    (
-        1,
-        "T",
-        &[
-            ("ID", ColType::Num(9)),
-            ("V", ColType::Text(10)),
-            ("N", ColType::Num(9)),
-        ],
-    ),
-    (2, "U", &[("ID", ColType::Num(9)), ("W", ColType::Text(5))]),
-];
-
-fn stored(alloc: Global, text: &str, created: &str) -> Result<Shared<Object>, NoMemory> {
-    let name = name(alloc, text)?;
-    Ok(Shared::new(
-        alloc,
-        Object {
-            key: ObjectKey {
-                class: Class::Unit,
-                name,
-            },
-            text: Bytes::new(alloc),
-            tree: tree(alloc, created)?,
-            stamp: Stamp {
-                edition: EditionNo(1),
-                count: 1,
-            },
-            enabled: true,
-        },
-    )?)
-}
-
-fn columns(alloc: Global, rows: &[(&str, ColType)]) -> Result<List<Column>, NoMemory> {
-    let mut columns = List::new(alloc);
-    for (text, ty) in rows {
-        columns.push(Column {
-            name: name(alloc, text)?,
-            ty: *ty,
-            not_null: false,
-        })?;
-    }
-    Ok(columns)
-}
-
-fn seen(alloc: Global) -> Result<EditionView, NoMemory> {
-    let mut objects = List::new(alloc);
-    for (text, created) in &OBJECTS {
-        objects.push(stored(alloc, text, created)?)?;
-    }
-    let mut tables = List::new(alloc);
-    for (id, text, rows) in &TABLES {
-        tables.push(TableDef {
-            id: TableId(*id),
-            name: name(alloc, text)?,
-            columns: columns(alloc, rows)?,
-            key: List::new(alloc),
-        })?;
-    }
-    Ok(EditionView {
-        edition: EditionNo(1),
-        objects,
-        tables,
-    })
-}
-
 // ---- which rule is broken
 
 /// The number of the rule, in digits; 0 where the unit is valid.
@@ -173,15 +82,11 @@ fn breaks(alloc: Global, v: &EditionView, text: &str, wanted: &str) -> Result<bo
     Ok(found.as_slice() == wanted.as_bytes())
 }
 
-/// The rows of a table from the first one on that isn't as it says; each is the number of a rule, a space and a unit or
-/// block that breaks it, or a remark behind `-`, with `~` behind it.
+/// The rows of a table from the first one on that isn't as it says; what is wanted is the number of a rule.
 fn wrong_from<'a>(alloc: Global, v: &EditionView, table: &'a str) -> Result<&'a str, NoMemory> {
     let mut rest = table;
     for _row in 0..table.len() {
-        let Some((row, rows)) = rest.split_once('~') else {
-            return Ok(rest);
-        };
-        let Some((wanted, text)) = row.split_once(' ') else {
+        let Some((wanted, text, rows)) = wanted_row(rest) else {
             return Ok(rest);
         };
         if wanted != "-" && !breaks(alloc, v, text, wanted)? {
@@ -194,7 +99,7 @@ fn wrong_from<'a>(alloc: Global, v: &EditionView, table: &'a str) -> Result<&'a 
 
 /// Each unit breaks the rule whose number stands before it; 0 where it is valid.
 fn all_are_found(rt: &impl Abort, alloc: Global, table: &str) -> Result<(), Fail> {
-    let v = seen(alloc)?;
+    let v = seen(alloc, &OBJECTS)?;
     assert_eq!(rt; wrong_from(alloc, &v, table)?, "");
     Ok(())
 }
