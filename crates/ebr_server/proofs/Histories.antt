@@ -2,16 +2,16 @@
 use Rattle.std.proofs.Common.{◌≡◌, ◌≢◌, List, [], ◌∷◌, ◌++◌, refl, sym, ap, ◌∙◌, subst, append_assoc, append-nil, ◌<◌}
 use Rattle.std.specs.Prelude.{vec_len, vec_capacity}
 use Rattle.ebr_base.specs.declared.numbers.EditionNo.{EditionNo}
-use Rattle.ebr_server.specs.declared.ask.Ask.{Ask}
-use Rattle.ebr_server.specs.declared.ask.Ask.TheVariants.{Begin, Ddl, SetEdition, EndCall, Leave}
-use Rattle.ebr_server.specs.declared.ask.Answer.{Answer}
-use Rattle.ebr_server.specs.declared.ask.Answer.TheVariants.{Done, NoMemory}
-use Rattle.ebr_server.specs.declared.ask.Entry.{Entry}
+use Rattle.ebr_asks.specs.declared.ask.Ask.{Ask}
+use Rattle.ebr_asks.specs.declared.ask.Ask.TheVariants.{Leave}
+use Rattle.ebr_asks.specs.declared.answer.Answer.{Answer}
+use Rattle.ebr_asks.specs.declared.answer.Answer.TheVariants.{Done, DiskFault, NoMemory}
+use Rattle.ebr_asks.specs.declared.entry.Entry.{Entry}
 use Rattle.ebr_server.specs.declared.engine.Engine.{Engine}
 use Rattle.ebr_server.specs.Records.{catalogue_of}
 use Rattle.ebr_server.specs.Machine.{Database, Session, Reply, the_session, start}
-use Rattle.ebr_server.specs.History.{After, Legal, Answered, IsLive, next}
-use Rattle.ebr_server.specs.inside.Engine.{IsOpen, Answers, HasOrder, IsSpelled, Keeps, LeavesReply, ForHeld, entries, entry_of}
+use Rattle.ebr_server.specs.History.{After, Legal, Answered, GoesOn, IsLive, next}
+use Rattle.ebr_server.specs.inside.Engine.{IsOpen, Answers, HasOrder, IsNoFault, IsSpelled, Keeps, LeavesReply, ForHeld, entries, entry_of}
 use Rattle.ebr_server.proofs.Replies.{IsReply, is_reply, reply_order, in_edition}
 
 pub After-append : (db : Database) (h : List Entry) (x : Entry) → After db (h ++ x ∷ []) ≡ next (After db h) x
@@ -36,6 +36,14 @@ GoesOnWith-append h x legal live memory same more goes =
 pub one_entry : (old mid new : List Entry) (ask : Ask) (answer copy : Answer) → new ≡ mid ++ entry_of ask copy ∷ [] → mid ≡ old → copy ≡ answer → new ≡ old ++ entry_of ask answer ∷ []
 one_entry old mid new ask answer copy added same is =
     added ∙ ap (λ h. h ++ entry_of ask copy ∷ []) same ∙ ap (λ x. old ++ entry_of ask x ∷ []) is
+
+-- An answer after which the session goes on is neither want of memory nor a fault.
+no_want : (x : Answer) → GoesOn x → x ≢ NoMemory
+no_want x on is = subst GoesOn is on
+
+no_fault_on : (x : Answer) → GoesOn x → IsNoFault x
+no_fault_on DiskFault on = absurd on
+no_fault_on x on = tt
 
 -- What the engine has done where it answered without want of memory.
 pub record HasReplied (old new : Engine) (ask : Ask) (answer : Answer) : Type 0 where
@@ -74,11 +82,12 @@ module _ (old new : Engine) (ask : Ask) (answer : Answer) (h : IsOpen old) (r : 
   answers_stays : ask ≢ Leave → IsSpelled ask → Answers old new ask answer
   answers_stays stays spells = let is = replied stays spells in record {
     entry = r.entry;
-    legal = legal_by is.goes_on is.answer_is;
+    legal = legal_by (no_want answer is.goes_on) is.answer_is;
     order = reply_order new.current answer (catalogue_of db.records) e ask left;
+    no_fault = no_fault_on answer is.goes_on;
     leaves = λ same. absurd (stays same);
     stays_open = λ memory stays. record {
-      legal = goes_on is.goes_on is.answer_is;
+      legal = goes_on memory is.answer_is;
       keeps = subst (Keeps new.current) (sym after) is.keeps;
       room = r.room stays;
     };
@@ -93,6 +102,7 @@ answers_leave old new answer h r =
       entry = r.entry;
       legal = legal_by old new Leave answer h r (λ is. by_done (sym done ∙ is)) same;
       order = subst HasOrder (sym done) tt;
+      no_fault = subst IsNoFault (sym done) tt;
       leaves = λ is. done;
       stays_open = λ memory stays. absurd (stays refl);
     }
@@ -102,7 +112,4 @@ answers_leave old new answer h r =
 
 pub answers : (old new : Engine) (ask : Ask) (answer : Answer) → IsOpen old → IsSpelled ask → HasReplied old new ask answer → Answers old new ask answer
 answers old new Leave answer h spells r = answers_leave old new answer h r
-answers old new Begin answer h spells r = answers_stays old new Begin answer h r (λ is. cc) spells
-answers old new (Ddl what text) answer h spells r = answers_stays old new (Ddl what text) answer h r (λ is. cc) spells
-answers old new (SetEdition name) answer h spells r = answers_stays old new (SetEdition name) answer h r (λ is. cc) spells
-answers old new (EndCall failed) answer h spells r = answers_stays old new (EndCall failed) answer h r (λ is. cc) spells
+answers old new ask answer h spells r = answers_stays old new ask answer h r (λ is. cc) spells

@@ -1,5 +1,5 @@
 -- The view that the engine keeps, from one ask to the next, and what is answered by it.
-use Rattle.std.proofs.Common.{◌≡◌, ◌≢◌, Bool, true, false, Option, IfSome, Result, Ok, Err, IfOk, sym, ap, subst}
+use Rattle.std.proofs.Common.{◌≡◌, Bool, true, false, Option, IfSome, Result, Ok, Err, IfOk, sym, ap, subst}
 use Rattle.std.specs.Result.{result_ok}
 use Rattle.ebr_base.specs.declared.code.Code.{Code}
 use Rattle.ebr_base.specs.declared.numbers.EditionNo.{EditionNo}
@@ -9,12 +9,13 @@ use Rattle.ebr_ast.specs.declared.definition.Definition.{Definition}
 use Rattle.ebr_ast.specs.declared.definition.Definition.TheVariants.{CreateObject}
 use Rattle.ebr_check.specs.Verdict.{is_valid}
 use Rattle.ebr_server.specs.Machine.{answer_in, creation_answer}
+use Rattle.ebr_server.specs.History.{GoesOn}
 use Rattle.ebr_cross.specs.declared.catalogue.Catalogue.{Catalogue}
 use Rattle.ebr_cross.specs.declared.record.CatalogueRecord.{CatalogueRecord}
 use Rattle.ebr_cross.specs.Catalogue.{Lists, HaveOwnKeys, IsViewOf, View, kept}
 use Rattle.ebr_cross.specs.Records.{ForChanged, with_record}
-use Rattle.ebr_server.specs.declared.ask.Answer.{Answer}
-use Rattle.ebr_server.specs.declared.ask.Answer.TheVariants as answer
+use Rattle.ebr_asks.specs.declared.answer.Answer.{Answer}
+use Rattle.ebr_asks.specs.declared.answer.Answer.TheVariants as answer
 use Rattle.ebr_server.specs.declared.engine.Current.{Current}
 use Rattle.ebr_server.specs.inside.Engine.{Holds, HasOrder, Leaves, LeavesDefined}
 
@@ -34,7 +35,7 @@ next-view c e now r v made o told changed own seen is =
     subst (λ d. IfSome o (λ n. IsViewOf (with_record c r) d n)) at
     (kept-view (λ n. IsViewOf (with_record c r) v.edition n) made o told (changed c own (subst (λ d. IsViewOf c d v) (sym at) seen) is))
 
--- the answer to a definition that was carried out is no view, and not want of memory
+-- the answer to a definition that was carried out is no view, and the session goes on after it
 pub order_in : (v : EditionView) (what : Definition) → HasOrder (answer_in v what)
 order_in v (CreateObject replace u) = by (is_valid v u)
   where
@@ -43,13 +44,13 @@ order_in v (CreateObject replace u) = by (is_valid v u)
     by false = tt
 order_in v what = tt
 
-pub memory_in : (v : EditionView) (what : Definition) → answer_in v what ≢ answer.NoMemory
-memory_in v (CreateObject replace u) = by (is_valid v u)
+pub goes_on_in : (v : EditionView) (what : Definition) → GoesOn (answer_in v what)
+goes_on_in v (CreateObject replace u) = by (is_valid v u)
   where
-    by : (b : Bool) → creation_answer b ≢ answer.NoMemory
-    by true = λ is. cc
-    by false = λ is. cc
-memory_in v what = λ is. cc
+    by : (b : Bool) → GoesOn (creation_answer b)
+    by true = tt
+    by false = tt
+goes_on_in v what = tt
 
 -- what a definition leaves that was carried out
 pub carried-out : (what : Definition) (new : Current) (x : Answer) (c : Lists) (e : EditionNo) (r : CatalogueRecord) (o : Result CatalogueRecord Code) → o ≡ Ok r

@@ -4,7 +4,7 @@ use Rattle.std.specs.Prelude.{◌⊎◌, ◌↔◌, IfSome, IsSomeAnd, option_an
 use Rattle.std.specs.Bool.{OnTrue, OnFalse}
 use Rattle.std.proofs.Math.Seq.{drop-append_seam}
 use Rattle.std.proofs.lemmas.List.{take-append-drop, take_all, length-take}
-use Rattle.ebr_server.specs.declared.ask.Entry.{Entry}
+use Rattle.ebr_asks.specs.declared.entry.Entry.{Entry}
 use Rattle.ebr_server.specs.declared.exit.ExitCode.{ExitCode}
 use Rattle.ebr_server.specs.declared.exit.ExitCode.TheVariants as code
 use Rattle.ebr_server.specs.Program.{Session, Tried, StopsTooLong, Served, Reported, last_line, script_word, script_bytes, IsComplete}

@@ -10,11 +10,11 @@ use Rattle.ebr_ast.specs.declared.definition.Statement.TheVariants as statement
 use Rattle.ebr_script.specs.Pieces.{KeepsText, stored_definition, text_of}
 use Rattle.ebr_script.specs.declared.piece.Piece.{Piece}
 use Rattle.ebr_script.specs.declared.piece.PieceKind.TheVariants as piece
-use Rattle.ebr_server.specs.declared.ask.Entry.{Entry}
+use Rattle.ebr_asks.specs.declared.entry.Entry.{Entry}
 use Rattle.ebr_server.specs.declared.engine.Engine.{Engine}
 use Rattle.ebr_server.specs.declared.worker.Halt.{Halt}
 use Rattle.ebr_server.specs.declared.worker.Halt.TheVariants.{SinkFault, NoMemory, Answered}
-use Rattle.ebr_server.specs.declared.ask.Ask.TheVariants.{Ddl}
+use Rattle.ebr_asks.specs.declared.ask.Ask.TheVariants.{Ddl}
 use Rattle.ebr_server.specs.Sessions.{then_run, run_piece, run_pieces, text_asked}
 use Rattle.ebr_server.specs.inside.Engine.{KeepsSpelled, IsSpelled, entries}
 use Rattle.ebr_server.specs.inside.Output.{Output}

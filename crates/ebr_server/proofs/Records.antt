@@ -32,7 +32,7 @@ use Rattle.ebr_cross.specs.Definitions as spec
 use Rattle.ebr_cross.specs.Kinds.{kind_of, name_of, key_of}
 use Rattle.ebr_cross.specs.Records.{with_record}
 use Rattle.ebr_script.specs.Pieces.{stored_definition}
-use Rattle.ebr_server.specs.declared.ask.Ask.TheVariants.{Ddl}
+use Rattle.ebr_asks.specs.declared.ask.Ask.TheVariants.{Ddl}
 use Rattle.ebr_server.specs.Records.{Record, Object as ObjectRecord, Edition, EditionGone, Default, Gone, PackageGone, Table, Column, TableGone, record_of, with_named, with_stored, after_record, catalogue_of}
 use Rattle.ebr_server.specs.inside.Engine.{IsSpelled}
 

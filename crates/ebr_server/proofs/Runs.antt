@@ -1,5 +1,5 @@
 -- How a session's run goes on with each entry of its history.
-use Rattle.std.proofs.Common.{ℕ, zero, suc, ◌≡◌, ◌+◌, List, [], ◌∷◌, ◌++◌, length, Option, Some, None, arith, refl, sym, ◌∙◌, ap, subst, append_assoc, length-append, add-one, append-nil, zero-add, add-zero}
+use Rattle.std.proofs.Common.{ℕ, zero, suc, ◌≡◌, ◌≢◌, ◌+◌, List, [], ◌∷◌, ◌++◌, length, Option, Some, None, arith, refl, sym, ◌∙◌, ap, subst, append_assoc, length-append, add-one, append-nil, zero-add, add-zero}
 use Rattle.std.specs.Prelude.{Bool, true, false, map, filter, codes}
 use Rattle.std.proofs.Math.Seq.{take-append_seam}
 use Rattle.ebr_ast.specs.declared.definition.Statement.{Statement}
@@ -8,12 +8,12 @@ use Rattle.ebr_script.specs.Pieces.{pieces_of, text_of}
 use Rattle.ebr_script.specs.declared.piece.Piece.{Piece}
 use Rattle.ebr_script.specs.declared.piece.PieceKind.{PieceKind}
 use Rattle.ebr_script.specs.declared.piece.PieceKind.TheVariants as piece
-use Rattle.ebr_server.specs.declared.ask.Ask.{Ask}
-use Rattle.ebr_server.specs.declared.ask.Ask.TheVariants.{EndCall, Leave}
-use Rattle.ebr_server.specs.declared.ask.Answer.{Answer}
-use Rattle.ebr_server.specs.declared.ask.Answer.TheVariants.{View, Done, Invalid, Refused, NoMemory, Stopped}
-use Rattle.ebr_server.specs.declared.ask.Entry.{Entry}
-use Rattle.ebr_server.specs.declared.ask.Exchange.{Exchange}
+use Rattle.ebr_asks.specs.declared.ask.Ask.{Ask}
+use Rattle.ebr_asks.specs.declared.ask.Ask.TheVariants.{EndCall, Leave}
+use Rattle.ebr_asks.specs.declared.answer.Answer.{Answer}
+use Rattle.ebr_asks.specs.declared.answer.Answer.TheVariants.{View, Rows, Count, Done, Invalid, Refused, DiskFault, NoMemory, Stopped}
+use Rattle.ebr_asks.specs.declared.entry.Entry.{Entry}
+use Rattle.ebr_asks.specs.declared.entry.Exchange.{Exchange}
 use Rattle.std.proofs.lemmas.List.Elements.{filter-append}
 use Rattle.std.proofs.lemmas.List.{map-append}
 use Rattle.ebr_server.specs.Machine.{the_session}
@@ -72,9 +72,12 @@ answered_once a k made p x coming (Some n) = refl
 
 goes_on : (x : Answer) (k : Answer → Step) (σ : State) → GoesOn x → on_answer x k σ ≡ k x σ
 goes_on (View v) k σ g = refl
+goes_on (Rows rows) k σ g = refl
+goes_on (Count n s l) k σ g = refl
 goes_on Done k σ g = refl
 goes_on Invalid k σ g = refl
 goes_on (Refused c s l) k σ g = refl
+goes_on DiskFault k σ g = absurd g
 goes_on NoMemory k σ g = absurd g
 goes_on Stopped k σ g = absurd g
 
@@ -91,9 +94,12 @@ run_without script h =
 
 ends_run : (x : Answer) (k : Answer → Step) (σ : State) → EndsRun x → on_answer x k σ ≡ ended σ Ended
 ends_run (View v) k σ e = absurd e
+ends_run (Rows rows) k σ e = absurd e
+ends_run (Count n s l) k σ e = absurd e
 ends_run Done k σ e = absurd e
 ends_run Invalid k σ e = absurd e
 ends_run (Refused c s l) k σ e = absurd e
+ends_run DiskFault k σ e = refl
 ends_run NoMemory k σ e = refl
 ends_run Stopped k σ e = refl
 
@@ -133,8 +139,8 @@ module _ (script : List ℕ) (a : Ask) (k : Answer → Step) (rest : Step) (h : 
     }
 
     -- An answer that there was no memory ends the session.
-    pub RanOut-asked : EndsRun x → RanOut script (Mine (h ++ entry a x ∷ []) the_session) o.written
-    RanOut-asked ends =
+    pub RanOut-asked : EndsRun x → x ≢ DiskFault → RanOut script (Mine (h ++ entry a x ∷ []) the_session) o.written
+    RanOut-asked ends no_fault =
         let run : SessionRun script (answered (h ++ entry a x ∷ [])) None ≡ ended (at (asks (Mine (h ++ entry a x ∷ []) the_session)) o.written [] None) Ended =
         sym (run_without script (h ++ entry a x ∷ []))
         ∙ (run_more script h a x [] None ∙ (was.by (x ∷ []) None
@@ -148,6 +154,7 @@ module _ (script : List ℕ) (a : Ask) (k : Answer → Step) (rest : Step) (h : 
           last = mine_more h a x;
           went_on = was.went_on;
           ends = ends;
+          no_fault = no_fault;
           ran = record { asked = ap (λ r. r.state.asks) run; printed_is = ap (λ r. r.state.printed) run; ended = ap (λ r. r.flow) run };
         }
 

@@ -6,19 +6,19 @@ use Rattle.ebr_base.specs.declared.code.Code.{Code}
 use Rattle.ebr_ast.specs.declared.statement.Block.{Block}
 use Rattle.ebr_ast.specs.declared.view.EditionView.{EditionView}
 use Rattle.ebr_ast.specs.Views.{IsInOrder}
-use Rattle.ebr_server.specs.declared.ask.Ask.{Ask}
-use Rattle.ebr_server.specs.declared.ask.Ask.TheVariants.{Begin}
-use Rattle.ebr_server.specs.declared.ask.Answer.{Answer}
-use Rattle.ebr_server.specs.declared.ask.Entry.{Entry}
+use Rattle.ebr_asks.specs.declared.ask.Ask.{Ask}
+use Rattle.ebr_asks.specs.declared.ask.Ask.TheVariants.{Begin}
+use Rattle.ebr_asks.specs.declared.answer.Answer.{Answer}
+use Rattle.ebr_asks.specs.declared.entry.Entry.{Entry}
 use Rattle.ebr_server.specs.declared.engine.Engine.{Engine}
 use Rattle.ebr_server.specs.declared.worker.Halt.{Halt}
 use Rattle.ebr_server.specs.declared.worker.Halt.TheVariants.{SinkFault, NoMemory, Answered}
 use Rattle.ebr_server.specs.Machine.{the_session}
-use Rattle.ebr_server.specs.declared.ask.Answer.TheVariants as answer
+use Rattle.ebr_asks.specs.declared.answer.Answer.TheVariants as answer
 use Rattle.ebr_server.specs.History.{Mine, GoesOn, EndsRun}
 use Rattle.ebr_server.specs.Sessions.{Step, block_after, run_seen, asked, then_run, printing, printing_result, result_line}
 use Rattle.ebr_server.specs.Program.{IsPrefix, RanOut}
-use Rattle.ebr_server.specs.inside.Engine.{IsOpen, Answers, HasOrder, entries}
+use Rattle.ebr_server.specs.inside.Engine.{IsOpen, Answers, HasOrder, IsNoFault, entries}
 use Rattle.ebr_server.specs.inside.Output.{Output, WritesOn, Prints, PrintsPart}
 use Rattle.ebr_server.specs.inside.Worker.{RunsOn, Quits, CanQuit, QuitStep, Does, Asks, WasAnswered, WasEnded}
 use Rattle.ebr_server.proofs.Runs.{RunsOn-asked, RunsOn-printing, RunsOn-writes, RanOut-asked, CanQuit-asked, Quits-here, Quits-writes, IsPrefix-refl}
@@ -143,7 +143,7 @@ Does-not-asked NoMemory a k e e' o new is_open was = absurd was
 Does-not-asked Answered a k e e' o new is_open was = record {
   by = λ script rest runs.
       at_history (λ h. RanOut script (Mine h the_session) new.written) (entries e') _ was.asks.entry
-      (RanOut-asked script a k rest (entries e) new (RunsOn-writes script _ (entries e) o new was.asks.writes runs) was.answer was.asks.all_written was.ends);
+      (RanOut-asked script a k rest (entries e) new (RunsOn-writes script _ (entries e) o new was.asks.writes runs) was.answer was.asks.all_written was.ends was.no_fault);
   legal = was.asks.legal;
   counted = was.asks.writes.counted;
 }
@@ -172,8 +172,11 @@ order-View x v w order is same = subst IsInOrder (sym same) (subst HasOrder is o
 pub block-otherwise : (b : Block) (x : Answer) → ((v : EditionView) → x ≢ answer.View v) → ((c : Code) (s : ℕ) (l : List (List ℕ)) → x ≢ answer.Refused c s l) → block_after b x ≡ printing []
 block-otherwise b (answer.View v) no_view no_refusal = absurd (no_view v refl)
 block-otherwise b (answer.Refused c s l) no_view no_refusal = absurd (no_refusal c s l refl)
+block-otherwise b (answer.Rows rows) no_view no_refusal = refl
+block-otherwise b (answer.Count n s l) no_view no_refusal = refl
 block-otherwise b answer.Done no_view no_refusal = refl
 block-otherwise b answer.Invalid no_view no_refusal = refl
+block-otherwise b answer.DiskFault no_view no_refusal = refl
 block-otherwise b answer.NoMemory no_view no_refusal = refl
 block-otherwise b answer.Stopped no_view no_refusal = refl
 
@@ -200,15 +203,14 @@ was_ended a x e e' o o' w r none ends = record {
   answer = x;
   asks = record { entry = r.entry; writes = w; all_written = none; legal = r.legal };
   ends = ends;
+  no_fault = λ is. subst IsNoFault is r.no_fault;
 }
 
-pub goes_on_otherwise : (x : Answer) → x ≢ answer.NoMemory → x ≢ answer.Stopped → GoesOn x
-goes_on_otherwise (answer.View v) memory stopped = tt
-goes_on_otherwise answer.Done memory stopped = tt
-goes_on_otherwise answer.Invalid memory stopped = tt
-goes_on_otherwise (answer.Refused c s l) memory stopped = tt
-goes_on_otherwise answer.NoMemory memory stopped = absurd (memory refl)
-goes_on_otherwise answer.Stopped memory stopped = absurd (stopped refl)
+pub goes_on_otherwise : (x : Answer) → x ≢ answer.NoMemory → x ≢ answer.Stopped → x ≢ answer.DiskFault → GoesOn x
+goes_on_otherwise answer.NoMemory memory stopped fault = absurd (memory refl)
+goes_on_otherwise answer.Stopped memory stopped fault = absurd (stopped refl)
+goes_on_otherwise answer.DiskFault memory stopped fault = absurd (fault refl)
+goes_on_otherwise x memory stopped fault = tt
 
-pub ends_so : (x : Answer) → (x ≡ answer.NoMemory) ⊎ (x ≡ answer.Stopped) → EndsRun x
-ends_so x is = elim is [ inl e ↦ subst EndsRun (sym e) tt | inr e ↦ subst EndsRun (sym e) tt ]
+pub ends_so : (x : Answer) → (x ≡ answer.NoMemory) ⊎ ((x ≡ answer.Stopped) ⊎ (x ≡ answer.DiskFault)) → EndsRun x
+ends_so x is = elim is [ inl e ↦ subst EndsRun (sym e) tt | inr other ↦ elim other [ inl e ↦ subst EndsRun (sym e) tt | inr e ↦ subst EndsRun (sym e) tt ] ]

@@ -1,12 +1,12 @@
 -- Histories: the asks of all sessions in one order, with their answers.
 use Rattle.std.specs.Prelude.{◌≡◌, ◌==◌, Bool, IsSome, List, [], ◌∷◌, map, filter}
 use Rattle.ebr_base.specs.declared.numbers.SessionId.{SessionId}
-use Rattle.ebr_server.specs.declared.ask.Ask.{Ask}
-use Rattle.ebr_server.specs.declared.ask.Ask.TheVariants.{Leave}
-use Rattle.ebr_server.specs.declared.ask.Answer.{Answer}
-use Rattle.ebr_server.specs.declared.ask.Answer.TheVariants.{NoMemory, Stopped}
-use Rattle.ebr_server.specs.declared.ask.Entry.{Entry}
-use Rattle.ebr_server.specs.declared.ask.Exchange.{Exchange}
+use Rattle.ebr_asks.specs.declared.ask.Ask.{Ask}
+use Rattle.ebr_asks.specs.declared.ask.Ask.TheVariants.{Leave}
+use Rattle.ebr_asks.specs.declared.answer.Answer.{Answer}
+use Rattle.ebr_asks.specs.declared.answer.Answer.TheVariants.{DiskFault, NoMemory, Stopped}
+use Rattle.ebr_asks.specs.declared.entry.Entry.{Entry}
+use Rattle.ebr_asks.specs.declared.entry.Exchange.{Exchange}
 use Rattle.ebr_server.specs.Machine.{Database, Reply, session_edition}
 
 -- the database after one entry's ask
@@ -28,12 +28,14 @@ AllStopped db (x ∷ history) = IsLive db x.session × (x.ask ≡ Leave) × (x.a
 
 -- an answer after which the session goes on
 abbrev pub GoesOn : Answer → Type 0
+GoesOn DiskFault = ⊥
 GoesOn NoMemory = ⊥
 GoesOn Stopped = ⊥
 GoesOn answer = Unit {0}
 
 -- an answer after which the session has ended
 abbrev pub EndsRun : Answer → Type 0
+EndsRun DiskFault = Unit {0}
 EndsRun NoMemory = Unit {0}
 EndsRun Stopped = Unit {0}
 EndsRun answer = ⊥

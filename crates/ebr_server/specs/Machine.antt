@@ -12,10 +12,10 @@ use Rattle.ebr_check.specs.Verdict.{is_valid}
 use Rattle.ebr_cross.specs.declared.record.CatalogueRecord.{CatalogueRecord}
 use Rattle.ebr_cross.specs.Catalogue as catalogue
 use Rattle.ebr_cross.specs.Definitions.{outcome, set_edition}
-use Rattle.ebr_server.specs.declared.ask.Ask.{Ask}
-use Rattle.ebr_server.specs.declared.ask.Ask.TheVariants.{Begin, Ddl, SetEdition, EndCall, Leave}
-use Rattle.ebr_server.specs.declared.ask.Answer.{Answer}
-use Rattle.ebr_server.specs.declared.ask.Answer.TheVariants.{View, Done, Invalid, Refused}
+use Rattle.ebr_asks.specs.declared.ask.Ask.{Ask}
+use Rattle.ebr_asks.specs.declared.ask.Ask.TheVariants.{Begin, Sql, Commit, Rollback, Savepoint, BackTo, Ddl, SetEdition, PushAuto, PopAuto, EndCall, Leave}
+use Rattle.ebr_asks.specs.declared.answer.Answer.{Answer}
+use Rattle.ebr_asks.specs.declared.answer.Answer.TheVariants.{View, Done, Invalid, Refused}
 use Rattle.ebr_server.specs.Records.{Record, record_of, catalogue_of}
 
 -- A session that has left has no edition.
@@ -91,13 +91,20 @@ edition_set (Err code) db s x = refused db code
 abbrev pub left : Database → SessionId → Session → Replied
 left db s x = unchanged (with_session db s (record x { edition = None })) Done
 
--- the reply to a session in its edition
+-- The reply to a session in its edition. What no session asks yet is refused.
 abbrev pub reply_in : EditionNo → Database → SessionId → Session → Ask → Replied
 reply_in e db s x Begin = unchanged db (View (catalogue.View (catalogue_of db.records) e))
 reply_in e db s x (Ddl what text) = defined db e what (outcome (catalogue_of db.records) e (editions_in_use db.sessions) what text)
 reply_in e db s x (SetEdition name) = edition_set (set_edition (catalogue_of db.records).editions.made name) db s x
 reply_in e db s x (EndCall failed) = unchanged db Done
 reply_in e db s x Leave = left db s x
+reply_in e db s x (Sql stmt binds most) = refused db (Ebr 1)
+reply_in e db s x Commit = refused db (Ebr 1)
+reply_in e db s x Rollback = refused db (Ebr 1)
+reply_in e db s x (Savepoint name) = refused db (Ebr 1)
+reply_in e db s x (BackTo name) = refused db (Ebr 1)
+reply_in e db s x PushAuto = refused db (Ebr 1)
+reply_in e db s x (PopAuto failed) = refused db (Ebr 1)
 
 -- A session that has left is no longer there.
 abbrev pub reply_while : Option EditionNo → Database → SessionId → Session → Ask → Replied

@@ -1,14 +1,14 @@
 -- The program: its words, what it prints last, and what it serves.
-use Rattle.std.specs.Prelude.{ℕ, zero, suc, ◌≡◌, Bool, true, false, not, ◌&&◌, if◌then◌else◌, List, [], ◌∷◌, ◌++◌, length, take, codes, Option, Some, None, IfSome, slice_get, unwrap_or, ◌⊎◌, option_and_then}
+use Rattle.std.specs.Prelude.{ℕ, zero, suc, ◌≡◌, ◌≢◌, Bool, true, false, not, ◌&&◌, if◌then◌else◌, List, [], ◌∷◌, ◌++◌, length, take, codes, Option, Some, None, IfSome, slice_get, unwrap_or, ◌⊎◌, option_and_then}
 use Rattle.std.specs.Str.{bytes_eq}
 use Rattle.ebr_server.specs.declared.exit.ExitCode.{ExitCode}
 use Rattle.ebr_server.specs.declared.exit.ExitCode.TheVariants as code
-use Rattle.ebr_server.specs.declared.ask.Ask.{Ask}
-use Rattle.ebr_server.specs.declared.ask.Ask.TheVariants.{Leave}
-use Rattle.ebr_server.specs.declared.ask.Answer.{Answer}
-use Rattle.ebr_server.specs.declared.ask.Answer.TheVariants.{Done}
-use Rattle.ebr_server.specs.declared.ask.Entry.{Entry}
-use Rattle.ebr_server.specs.declared.ask.Exchange.{Exchange}
+use Rattle.ebr_asks.specs.declared.ask.Ask.{Ask}
+use Rattle.ebr_asks.specs.declared.ask.Ask.TheVariants.{Leave}
+use Rattle.ebr_asks.specs.declared.answer.Answer.{Answer}
+use Rattle.ebr_asks.specs.declared.answer.Answer.TheVariants.{Done, DiskFault}
+use Rattle.ebr_asks.specs.declared.entry.Entry.{Entry}
+use Rattle.ebr_asks.specs.declared.entry.Exchange.{Exchange}
 use Rattle.ebr_server.specs.Machine.{the_session}
 use Rattle.ebr_server.specs.History.{Mine, asks, answers, EndsRun, AllGoOn}
 use Rattle.ebr_server.specs.Sessions.{SessionRun, Printed, Ended, line_of}
@@ -87,6 +87,7 @@ pub record RanOut (script : List ℕ) (mine : List Exchange) (replies : List ℕ
   pub last : mine ≡ before ++ record { ask = ask; answer = answer } ∷ []
   pub went_on : AllGoOn before
   pub ends : EndsRun answer
+  pub no_fault : answer ≢ DiskFault
   pub ran : Ran script mine None replies
 
 -- no session ran

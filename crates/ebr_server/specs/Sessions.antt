@@ -14,11 +14,11 @@ use Rattle.ebr_script.specs.declared.piece.Piece.{Piece}
 use Rattle.ebr_script.specs.declared.piece.PieceKind.{PieceKind}
 use Rattle.ebr_script.specs.declared.piece.PieceKind.TheVariants as piece
 use Rattle.ebr_script.specs.Pieces.{pieces_of, text_of}
-use Rattle.ebr_server.specs.declared.ask.Ask.{Ask}
-use Rattle.ebr_server.specs.declared.ask.Ask.TheVariants.{Begin, Ddl, EndCall, Leave}
-use Rattle.ebr_server.specs.declared.ask.Ask.TheVariants as ask
-use Rattle.ebr_server.specs.declared.ask.Answer.{Answer}
-use Rattle.ebr_server.specs.declared.ask.Answer.TheVariants.{View, Done, Invalid, Refused, NoMemory, Stopped}
+use Rattle.ebr_asks.specs.declared.ask.Ask.{Ask}
+use Rattle.ebr_asks.specs.declared.ask.Ask.TheVariants.{Begin, Ddl, EndCall, Leave}
+use Rattle.ebr_asks.specs.declared.ask.Ask.TheVariants as ask
+use Rattle.ebr_asks.specs.declared.answer.Answer.{Answer}
+use Rattle.ebr_asks.specs.declared.answer.Answer.TheVariants.{View, Done, Invalid, Refused, DiskFault, NoMemory, Stopped}
 use Rattle.ebr_server.specs.Forms.{line_called}
 
 -- Where a session stands: the asks it made, what it printed, the answers still to come, and after how many of them it
@@ -69,8 +69,9 @@ next_answer (x ∷ coming) σ k = k x (record σ { coming = coming; quit = one_l
 abbrev pub leaving : Step
 leaving σ = next_answer σ.coming (with_ask Leave σ) (λ x σ'. ended σ' Ended)
 
--- Want of memory and what comes after it end the session, and nothing more is printed.
+-- A fault of the disk, want of memory, and what comes after them end the session, and nothing more is printed.
 abbrev pub on_answer : Answer → (Answer → Step) → Step
+on_answer DiskFault k σ = ended σ Ended
 on_answer NoMemory k σ = ended σ Ended
 on_answer Stopped k σ = ended σ Ended
 on_answer x k σ = k x σ

@@ -7,12 +7,12 @@ ghost use Rattle.ebr_server.specs.Machine.{start};
 ghost use Rattle.ebr_server.specs.History.{Legal};
 ghost use Rattle.ebr_server.specs.Program.{script_word, script_bytes, Tried, Served, StopsTooLong, IsComplete, HasRun};
 
-use crate::ask::Entry;
 use crate::engine::Engine;
 use crate::exit::ExitCode;
 use crate::read::{MAX_SCRIPT, ReadErr, read_script};
 use crate::report::write_last_line;
 use crate::worker::Worker;
+use ebr_asks::Entry;
 use ebr_base::{Bytes, List};
 use ebr_outside::{Host, HostErr, Sink};
 use std::alloc::Global;

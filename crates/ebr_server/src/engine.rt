@@ -8,11 +8,11 @@ ghost use Rattle.ebr_cross.specs.Records.{with_record};
 ghost use Rattle.ebr_editions.specs.Editions.{first_edition};
 ghost use Rattle.ebr_server.specs.Machine.{answer_in, creation_answer};
 ghost use Rattle.ebr_server.specs.inside.Engine.{ForHeld, Holds, IsHeld, LeavesDefined, LeavesReply, LeavesSet};
-ghost use Rattle.ebr_server.specs.declared.ask.Answer.TheVariants.{Refused};
-ghost use Rattle.ebr_server.specs.declared.ask.Ask.TheVariants.{Leave};
+ghost use Rattle.ebr_asks.specs.declared.answer.Answer.TheVariants.{Refused};
+ghost use Rattle.ebr_asks.specs.declared.ask.Ask.TheVariants.{Leave};
 
-use crate::ask::{Answer, Ask, Entry};
 use crate::checks::passes;
+use ebr_asks::{Answer, Ask, Entry};
 use ebr_ast::{Definition, EditionView, UnitTree};
 use ebr_base::{Bytes, CloneIn, Code, EditionNo, List, Name, NoMemory, SessionId, Shared, Stop};
 use ebr_cross::{Catalogue, CatalogueRecord, view_after, view_of};
@@ -137,9 +137,16 @@ fn reply_to(alloc: Global, current: &mut Current, ask: &Ask) -> Result<Answer, N
 {
     match ask {
         Ask::Begin => Ok(Answer::View(view(alloc, current)?)),
-        Ask::Ddl { what, text } => define(alloc, current, what, text),
+        Ask::Ddl { what, text } => define(alloc, current, what.get(), text.get()),
         Ask::SetEdition(name) => Ok(switch(alloc, current, name)),
         Ask::EndCall { .. } | Ask::Leave => Ok(Answer::Done),
+        Ask::Sql { .. }
+        | Ask::Commit
+        | Ask::Rollback
+        | Ask::Savepoint(_)
+        | Ask::BackTo(_)
+        | Ask::PushAuto
+        | Ask::PopAuto { .. } => Ok(refusal(alloc, Code::Ebr(1))),
     }
 }
 

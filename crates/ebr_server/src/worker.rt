@@ -14,12 +14,12 @@ ghost use Rattle.ebr_server.specs.inside.Output.{WritesOn, Prints};
 ghost use Rattle.ebr_server.specs.inside.Worker.{Asks, Does, RunsOn, RanPieces};
 ghost use Rattle.ebr_server.specs.inside.Engine.{IsOpen, IsSpelled, KeepsSpelled, entries};
 
-use crate::ask::{Answer, Ask};
 use crate::checks::block_passes;
 use crate::engine::Engine;
 use crate::exit::ExitCode;
 use crate::forms::line_called;
 use crate::offer::offer;
+use ebr_asks::{Answer, Ask};
 use ebr_ast::{Block, Definition, EditionView, Statement};
 use ebr_base::{Bytes, Code, Name, NoMemory, Shared};
 use ebr_outside::Sink;
@@ -111,7 +111,7 @@ impl<S: Sink> Worker<S> {
     {
         self.flush()?;
         match engine.answer(ask) {
-            Answer::NoMemory | Answer::Stopped => Err(Halt::Answered),
+            Answer::NoMemory | Answer::Stopped | Answer::DiskFault => Err(Halt::Answered),
             answer => Ok(answer),
         }
     }
@@ -360,10 +360,15 @@ fn text_asked<'a>(what: &Definition, text: &'a [u8]) -> &'a [u8]
     }
 }
 
-/// The value, with a copy of a text. It is generic so that what it drops where there is no memory is dropped by one call.
-fn with_copy<T: Drop>(alloc: Global, value: T, text: &[u8]) -> Result<(T, Bytes), NoMemory>
+/// The value and a copy of a text, each made shareable. It is generic so that what it drops where there is no memory is
+/// dropped by one call.
+fn with_copy<T: Drop>(
+    alloc: Global,
+    value: T,
+    text: &[u8],
+) -> Result<(Shared<T>, Shared<Bytes>), NoMemory>
     ensures { IfOk result (λ pair. pair ≡ (value, text.now)) }
 {
-    let copy = Bytes::from_slice(alloc, text)?;
-    Ok((value, copy))
+    let copy = Shared::new(alloc, Bytes::from_slice(alloc, text)?)?;
+    Ok((Shared::new(alloc, value)?, copy))
 }

@@ -18,12 +18,12 @@ use Rattle.ebr_check.specs.Verdict.{is_valid}
 use Rattle.ebr_expr.specs.Operators.{builtin_named}
 use Rattle.ebr_script.specs.declared.piece.Piece.{Piece}
 use Rattle.ebr_script.specs.Pieces.{pieces_of, stored_definition, text_of}
-use Rattle.ebr_server.specs.declared.ask.Ask.{Ask}
-use Rattle.ebr_server.specs.declared.ask.Ask.TheVariants.{Begin, Ddl, SetEdition, EndCall, Leave}
-use Rattle.ebr_server.specs.declared.ask.Answer.{Answer}
-use Rattle.ebr_server.specs.declared.ask.Answer.TheVariants.{View, Done, Invalid, Refused, NoMemory, Stopped}
-use Rattle.ebr_server.specs.declared.ask.Entry.{Entry}
-use Rattle.ebr_server.specs.declared.ask.Exchange.{Exchange}
+use Rattle.ebr_asks.specs.declared.ask.Ask.{Ask}
+use Rattle.ebr_asks.specs.declared.ask.Ask.TheVariants.{Begin, Ddl, SetEdition, EndCall, Leave}
+use Rattle.ebr_asks.specs.declared.answer.Answer.{Answer}
+use Rattle.ebr_asks.specs.declared.answer.Answer.TheVariants.{View, Rows, Count, Done, Invalid, Refused, DiskFault, NoMemory, Stopped}
+use Rattle.ebr_asks.specs.declared.entry.Entry.{Entry}
+use Rattle.ebr_asks.specs.declared.entry.Exchange.{Exchange}
 use Rattle.ebr_server.specs.Records.{Record, Edition, Object as ObjectRecord, catalogue_of, with_stored}
 use Rattle.ebr_server.specs.Machine.{the_session, start, Session, Database, Replied, Reply, creation_answer, defined, unchanged, edition_set}
 use Rattle.ebr_server.specs.History.{Mine, Legal, Answered, IsLive, GoesOn, AllGoOn, answers, asks}
@@ -41,9 +41,12 @@ entry a x = record { session = the_session; ask = a; answer = x }
 
 answered_so : (x reply : Answer) (on stopped : Type 0) → GoesOn x → x ≡ reply → on → Answered x reply on stopped
 answered_so (View v) reply on stopped goes same rest = (same, rest)
+answered_so (Rows rows) reply on stopped goes same rest = (same, rest)
+answered_so (Count n s l) reply on stopped goes same rest = (same, rest)
 answered_so Done reply on stopped goes same rest = (same, rest)
 answered_so Invalid reply on stopped goes same rest = (same, rest)
 answered_so (Refused c s l) reply on stopped goes same rest = (same, rest)
+answered_so DiskFault reply on stopped goes same rest = absurd goes
 answered_so NoMemory reply on stopped goes same rest = absurd goes
 answered_so Stopped reply on stopped goes same rest = absurd goes
 

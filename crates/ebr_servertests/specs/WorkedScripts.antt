@@ -12,7 +12,7 @@ use Rattle.ebr_exprtree.specs.declared.expression.Expr.TheVariants as expression
 use Rattle.ebr_script.specs.declared.piece.Piece.{Piece}
 use Rattle.ebr_script.specs.declared.piece.PieceKind.TheVariants as piece
 use Rattle.ebr_script.specs.Pieces.{pieces_of, stored_definition, text_of}
-use Rattle.ebr_server.specs.declared.ask.Entry.{Entry}
+use Rattle.ebr_asks.specs.declared.entry.Entry.{Entry}
 use Rattle.ebr_server.specs.History.{Mine, Legal}
 use Rattle.ebr_server.specs.Machine.{the_session, start}
 use Rattle.ebr_server.specs.Program.{RanToEnd}

@@ -15,6 +15,8 @@ enum Kind {
     EndCall,
     FailedCall,
     Leave,
+    /// What no session asks yet.
+    Other,
 }
 
 /// The number of the edition in which the first object that is seen was made; 0 where none is seen.
@@ -36,6 +38,7 @@ fn kind_of(entry: &Entry) -> Kind {
         Ask::EndCall { failed: false } => Kind::EndCall,
         Ask::EndCall { failed: true } => Kind::FailedCall,
         Ask::Leave => Kind::Leave,
+        _ => Kind::Other,
     }
 }
 

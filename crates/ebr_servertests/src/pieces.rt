@@ -200,7 +200,7 @@ fn parentheses_nest_64_deep(rt: HostRuntime) -> Result<(), Fail> {
 /// Whether the ask of an entry has this stored text.
 fn has_text(entry: &Entry, expected: &[u8]) -> bool {
     match &entry.ask {
-        Ask::Ddl { text, .. } => text.as_slice() == expected,
+        Ask::Ddl { text, .. } => text.get().as_slice() == expected,
         _ => false,
     }
 }

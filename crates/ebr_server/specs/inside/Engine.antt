@@ -1,6 +1,7 @@
 -- What the engine keeps: its history is legal, and it holds the catalogue of the database.
 use Rattle.std.specs.Prelude.{ℕ, ◌≡◌, ◌≢◌, ◌<◌, List, [], ◌∷◌, ◌++◌, Some, IfSome, Result, Ok, Err, vec_len, vec_capacity}
 use Rattle.ebr_base.specs.declared.code.Code.{Code}
+use Rattle.ebr_base.specs.declared.code.Code.TheVariants.{Ebr}
 use Rattle.ebr_base.specs.declared.numbers.EditionNo.{EditionNo}
 use Rattle.ebr_ast.specs.declared.definition.Definition.{Definition}
 use Rattle.ebr_ast.specs.declared.definition.Statement.{Statement}
@@ -12,11 +13,11 @@ use Rattle.ebr_cross.specs.Catalogue as catalogue
 use Rattle.ebr_cross.specs.Definitions.{outcome, set_edition}
 use Rattle.ebr_cross.specs.Records.{with_record}
 use Rattle.ebr_script.specs.Pieces.{stored_definition, CreatesObject}
-use Rattle.ebr_server.specs.declared.ask.Ask.{Ask}
-use Rattle.ebr_server.specs.declared.ask.Ask.TheVariants.{Begin, Ddl, SetEdition, EndCall, Leave}
-use Rattle.ebr_server.specs.declared.ask.Answer.{Answer}
-use Rattle.ebr_server.specs.declared.ask.Answer.TheVariants.{View, Done, Refused, NoMemory}
-use Rattle.ebr_server.specs.declared.ask.Entry.{Entry}
+use Rattle.ebr_asks.specs.declared.ask.Ask.{Ask}
+use Rattle.ebr_asks.specs.declared.ask.Ask.TheVariants.{Begin, Sql, Commit, Rollback, Savepoint, BackTo, Ddl, SetEdition, PushAuto, PopAuto, EndCall, Leave}
+use Rattle.ebr_asks.specs.declared.answer.Answer.{Answer}
+use Rattle.ebr_asks.specs.declared.answer.Answer.TheVariants.{View, Done, Refused, DiskFault, NoMemory}
+use Rattle.ebr_asks.specs.declared.entry.Entry.{Entry}
 use Rattle.ebr_server.specs.declared.engine.Engine.{Engine}
 use Rattle.ebr_server.specs.declared.engine.Current.{Current}
 use Rattle.ebr_server.specs.Records.{catalogue_of}
@@ -43,21 +44,30 @@ abbrev pub HasOrder : Answer → Type 0
 HasOrder (View v) = IsInOrder v
 HasOrder answer = Unit {0}
 
+-- The engine has no disk that could fail.
+abbrev pub IsNoFault : Answer → Type 0
+IsNoFault DiskFault = ⊥
+IsNoFault answer = Unit {0}
+
 -- This was answered, and then the lists and the session's edition are these.
 pub record Leaves (new : Current) (answer wanted : Answer) (c : Lists) (e : EditionNo) : Type 0 where
   pub answer_is : answer ≡ wanted
   pub order : HasOrder wanted
   pub holds : Holds new c e
 
+-- what a refusal leaves
+abbrev pub LeavesRefused : Code → Current → Answer → Lists → EditionNo → Type 0
+LeavesRefused code new answer c e = Leaves new answer (Refused code 0 []) c e
+
 -- what a definition leaves, by its outcome
 abbrev pub LeavesDefined : Definition → Current → Answer → Lists → EditionNo → Result CatalogueRecord Code → Type 0
 LeavesDefined what new answer c e (Ok r) = Leaves new answer (answer_in (catalogue.View (with_record c r) e) what) (with_record c r) e
-LeavesDefined what new answer c e (Err code) = Leaves new answer (Refused code 0 []) c e
+LeavesDefined what new answer c e (Err code) = LeavesRefused code new answer c e
 
 -- what SET EDITION leaves, by the edition that was found
 abbrev pub LeavesSet : Current → Answer → Lists → EditionNo → Result EditionNo Code → Type 0
 LeavesSet new answer c e (Ok d) = Leaves new answer Done c d
-LeavesSet new answer c e (Err code) = Leaves new answer (Refused code 0 []) c e
+LeavesSet new answer c e (Err code) = LeavesRefused code new answer c e
 
 -- what an ask leaves
 abbrev pub LeavesReply : Ask → Current → Answer → Lists → EditionNo → Type 0
@@ -66,6 +76,13 @@ LeavesReply (Ddl what text) new answer c e = LeavesDefined what new answer c e (
 LeavesReply (SetEdition name) new answer c e = LeavesSet new answer c e (set_edition c.editions.made name)
 LeavesReply (EndCall failed) new answer c e = Leaves new answer Done c e
 LeavesReply Leave new answer c e = Leaves new answer Done c e
+LeavesReply (Sql stmt binds most) new answer c e = LeavesRefused (Ebr 1) new answer c e
+LeavesReply Commit new answer c e = LeavesRefused (Ebr 1) new answer c e
+LeavesReply Rollback new answer c e = LeavesRefused (Ebr 1) new answer c e
+LeavesReply (Savepoint name) new answer c e = LeavesRefused (Ebr 1) new answer c e
+LeavesReply (BackTo name) new answer c e = LeavesRefused (Ebr 1) new answer c e
+LeavesReply PushAuto new answer c e = LeavesRefused (Ebr 1) new answer c e
+LeavesReply (PopAuto failed) new answer c e = LeavesRefused (Ebr 1) new answer c e
 
 -- There are lists and an edition that are held.
 pub record IsHeld (now : Current) : Type 0 where
@@ -103,5 +120,6 @@ pub record Answers (old new : Engine) (ask : Ask) (answer : Answer) : Type 0 whe
   pub entry : entries new ≡ entries old ++ entry_of ask answer ∷ []
   pub legal : Legal start (entries new)
   pub order : HasOrder answer
+  pub no_fault : IsNoFault answer
   pub leaves : ask ≡ Leave → answer ≡ Done
   pub stays_open : answer ≢ NoMemory → ask ≢ Leave → IsOpen new

@@ -1,11 +1,11 @@
 -- How a session's run fits a history: facts that the worker keeps from one ask to the next.
 use Rattle.std.specs.Prelude.{ℕ, zero, suc, ◌≡◌, ◌≢◌, ◌≤◌, List, [], ◌∷◌, ◌++◌, length, Option, Some, None, Result, Ok, Err}
 use Rattle.ebr_outside.specs.Faults.{Rises}
-use Rattle.ebr_server.specs.declared.ask.Ask.{Ask}
-use Rattle.ebr_server.specs.declared.ask.Ask.TheVariants.{Leave}
-use Rattle.ebr_server.specs.declared.ask.Answer.{Answer}
-use Rattle.ebr_server.specs.declared.ask.Answer.TheVariants.{Done}
-use Rattle.ebr_server.specs.declared.ask.Entry.{Entry}
+use Rattle.ebr_asks.specs.declared.ask.Ask.{Ask}
+use Rattle.ebr_asks.specs.declared.ask.Ask.TheVariants.{Leave}
+use Rattle.ebr_asks.specs.declared.answer.Answer.{Answer}
+use Rattle.ebr_asks.specs.declared.answer.Answer.TheVariants.{Done, DiskFault}
+use Rattle.ebr_asks.specs.declared.entry.Entry.{Entry}
 use Rattle.ebr_server.specs.declared.engine.Engine.{Engine}
 use Rattle.ebr_server.specs.declared.worker.Halt.{Halt}
 use Rattle.ebr_server.specs.declared.worker.Halt.TheVariants.{SinkFault, NoMemory, Answered}
@@ -112,6 +112,7 @@ pub record WasEnded (ask : Ask) (old_engine : Engine) (old : Output) (engine : E
   pub answer : Answer
   pub asks : HasAsked ask answer old_engine old engine new
   pub ends : EndsRun answer
+  pub no_fault : answer ≢ DiskFault
 
 -- A write failed before the ask.
 pub record WasNotAsked (old_engine : Engine) (old : Output) (engine : Engine) (new : Output) : Type 0 where

@@ -1,7 +1,7 @@
 use Rattle.std.proofs.Common.{Ok, Err, false, subst}
 use Rattle.std.specs.Prelude.{codes}
 use Rattle.std.proofs.lemmas.Result.{err_from_is_err_and}
-use Rattle.ebr_server.specs.declared.ask.Ask.TheVariants.{EndCall}
+use Rattle.ebr_asks.specs.declared.ask.Ask.TheVariants.{EndCall}
 use Rattle.ebr_server.specs.Sessions.{line_of, printing_result}
 use Rattle.ebr_server.specs.inside.Output.{Prints}
 use Rattle.ebr_server.proofs.Steps.{Does-printing, Does-part}
