@@ -1,0 +1,12 @@
+pub mod Faults
+pub mod Cursors
+pub mod Packages
+pub mod State
+pub mod Values
+pub mod Scope
+pub mod Binds
+pub mod Expressions
+pub mod Statements
+pub mod Calls
+pub mod Units
+pub mod Run
