@@ -1,0 +1,12 @@
+pub mod Lists
+pub mod Steps
+pub mod Operands
+pub mod Operators
+pub mod Readings
+pub mod Targets
+pub mod Requests
+pub mod Flow
+pub mod Blocks
+pub mod Statements
+pub mod Frames
+pub mod Units
