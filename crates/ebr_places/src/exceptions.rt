@@ -1,0 +1,126 @@
+//! Exceptions, and the codes that they have.
+
+ghost use Rattle.std.specs.Prelude.{◌≡◌, Some, None, IfOk, option_map};
+ghost use Rattle.std.specs.List.{filter_map};
+ghost use Rattle.ebr_run.specs.Scope as spec;
+ghost use Rattle.ebr_run.specs.declared.fault.Fault.TheVariants as fault;
+ghost use Rattle.ebr_places.specs.inside.Codes as inside;
+ghost use Rattle.ebr_places.specs.Lent.{lent};
+
+use crate::denoted::Denoted;
+use crate::members::declaration_in;
+use ebr_ast::{Decl, PackageItem};
+use ebr_base::{Code, List, Name, NoMemory, ObjectKey, Shared, both};
+use ebr_run::{Exception, Fault};
+use std::alloc::Global;
+
+/// The code that a declaration gives an exception.
+fn given(declaration: &Decl, name: &Name) -> Option<u64>
+    ensures { result ≡ inside.given name.now declaration.now }
+{
+    match declaration {
+        Decl::ExceptionInit(of, code) => { if *name == *of { Some(*code) } else { None } }
+        Decl::Variable { .. } | Decl::Exception(_) | Decl::Autonomous | Decl::Cursor(_, _) => None,
+    }
+}
+
+/// The code that EXCEPTION_INIT gives an exception among its declarations; of two the last counts.
+pub fn code_given(declarations: &[Decl], name: &Name) -> Option<u64>
+    ensures { result ≡ spec.code_given name.now declarations.now }
+{
+    let mut found = None;
+    for declaration in declarations {
+        found = given(declaration, name).or(found);
+    }
+    found
+}
+
+/// The same among a package's items.
+pub fn code_given_in(items: &[PackageItem], name: &Name) -> Option<u64>
+    ensures { result ≡ spec.code_given name.now (filter_map spec.declaration_in items.now) }
+{
+    let mut found = None;
+    for item in items {
+        if let Some(declaration) = declaration_in(item) {
+            found = given(declaration, name).or(found);
+        }
+    }
+    found
+}
+
+/// The same places in a list of their own.
+fn copied(alloc: Global, path: &[usize]) -> Result<List<usize>, NoMemory>
+    ensures { IfOk result (λ copy. copy ≡ path.now) }
+{
+    let mut copy = List::new(alloc);
+    for at in path {
+        copy.push(*at)?;
+    }
+    Ok(copy)
+}
+
+fn user(
+    alloc: Global,
+    unit: &Option<ObjectKey>,
+    path: &[usize],
+    name: &Name,
+) -> Result<Fault, NoMemory>
+    ensures { IfOk result (λ f. f ≡ fault.User (record { unit = unit.now; block = path.now; name = name.now })) }
+{
+    let block = copied(alloc, path)?;
+    let (unit, name) = both(alloc, unit, name)?;
+    Ok(Fault::User(Shared::new(alloc, Exception { unit, block, name })?))
+}
+
+/// The fault of a declared exception: its code, where it has one. It finds no memory where the code is above 4,294,967,295.
+pub fn declared_exception(
+    alloc: Global,
+    unit: &Option<ObjectKey>,
+    path: &[usize],
+    name: &Name,
+    code: Option<u64>,
+) -> Result<Fault, NoMemory>
+    ensures { IfOk result (λ f. f ≡ spec.fault_of code (record { unit = unit.now; block = path.now; name = name.now })) }
+{
+    match code {
+        Some(code) if code <= 4294967295 => Ok(Fault::Code(Code::Ora(code as u32))),
+        Some(_) => Err(NoMemory),
+        None => user(alloc, unit, path, name),
+    }
+}
+
+/// The code of an exception that has a name everywhere.
+#[tactic(auto, unfolding(ebr_run::specs::Scope::predefined_code))]
+fn predefined_code(name: &[u8]) -> Option<u32>
+    ensures { result ≡ spec.predefined_code name.now }
+{
+    if name == b"NO_DATA_FOUND".as_slice() {
+        Some(1403)
+    } else if name == b"TOO_MANY_ROWS".as_slice() {
+        Some(1422)
+    } else if name == b"ZERO_DIVIDE".as_slice() {
+        Some(1476)
+    } else if name == b"VALUE_ERROR".as_slice() {
+        Some(6502)
+    } else if name == b"DUP_VAL_ON_INDEX".as_slice() {
+        Some(1)
+    } else if name == b"INVALID_CURSOR".as_slice() {
+        Some(1001)
+    } else if name == b"CURSOR_ALREADY_OPEN".as_slice() {
+        Some(6511)
+    } else if name == b"INVALID_NUMBER".as_slice() {
+        Some(1722)
+    } else {
+        None
+    }
+}
+
+/// The exception that has a name everywhere.
+pub fn predefined<'a>(name: &Name) -> Option<Denoted<'a>>
+    ensures { option_map lent result ≡ spec.predefined name.now }
+{
+    match predefined_code(name.as_slice()) {
+        Some(code) => Some(Denoted::Exception(None, Fault::Code(Code::Ora(code)))),
+        None => None,
+    }
+}

@@ -1,0 +1,19 @@
+//! What names in code stand for: the places of variables and cursors, exceptions, and what is called.
+//!
+//! The crates above use `Around`, which contracts see as the `Env` of `ebr_run/specs/Scope.antt`, and the look-ups `meant`,
+//! `plain`, `called`, `applied` and `raised`, which are the words of these names there.
+#![tactic(auto)]
+
+mod around;
+mod denoted;
+mod exceptions;
+mod kinds;
+mod lookup;
+mod members;
+mod names;
+mod nest;
+
+pub use around::{Around, Frame, Mark};
+pub use denoted::{Bound, Denoted, Part};
+pub use kinds::{declared_type, parameter_type};
+pub use lookup::{applied, called, meant, plain, raised};
