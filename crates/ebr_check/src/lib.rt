@@ -15,3 +15,4 @@ mod statement;
 mod unit;
 
 pub use faults::{CheckFault, check};
+pub use unit::row_columns;

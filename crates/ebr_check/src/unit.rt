@@ -234,7 +234,7 @@ fn columns_of_table(alloc: Global, on: &Name, seen: &Seen<'_>) -> Result<List<Vi
 }
 
 /// The columns of what a trigger is on; a crossedition trigger is on a table.
-fn row_columns(alloc: Global, it: &Trigger, seen: &Seen<'_>) -> Result<List<ViewColumn>, Stop>
+pub fn row_columns(alloc: Global, it: &Trigger, seen: &Seen<'_>) -> Result<List<ViewColumn>, Stop>
     ensures { Answers result (spec.row_columns seen.now.view it.now it.now.crossedition) }
 {
     match it.crossedition {

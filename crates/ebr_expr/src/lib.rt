@@ -12,4 +12,5 @@ mod operator;
 mod value;
 
 pub use evaluate::eval;
-pub use operator::builtin;
+pub use operator::{added_by, builtin, compared_by, decided};
+pub use value::unsigned;

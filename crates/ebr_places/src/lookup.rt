@@ -11,11 +11,11 @@ use crate::around::Around;
 use crate::denoted::{Denoted, Part};
 use crate::exceptions::predefined;
 use crate::kinds::unbounded;
-use crate::members::{member, subprogram_of, visible_head};
+use crate::members::{member, subprogram_of};
 use ebr_ast::Path;
 use ebr_base::{Class, CloneIn, Name, NoMemory};
 use ebr_run::Location;
-use ebr_scope::Seen;
+use ebr_scope::{Seen, visible_head};
 use std::alloc::Global;
 
 fn copy_of<'a>(alloc: Global, found: &Denoted<'a>) -> Result<Option<Denoted<'a>>, NoMemory>

@@ -4,7 +4,6 @@ ghost use Rattle.std.specs.Prelude.{◌≡◌, [], Some, None, IfOk, option_map}
 ghost use Rattle.std.specs.List.{filter_map, position};
 ghost use Rattle.std.specs.Option.{option_copied};
 ghost use Rattle.ebr_scope.specs.Declarations as declared;
-ghost use Rattle.ebr_scope.specs.Names as visible;
 ghost use Rattle.ebr_ast.specs.Views.{unit_key};
 ghost use Rattle.ebr_run.specs.Scope as spec;
 ghost use Rattle.ebr_run.specs.declared.place.Location.TheVariants as place;
@@ -17,21 +16,8 @@ use ebr_ast::{Decl, DeclaredType, Head, PackageItem, Subprogram, UnitTree};
 use ebr_base::{Class, CloneIn, Name, NoMemory, ObjectKey};
 use ebr_names::object;
 use ebr_run::Location;
-use ebr_scope::{Seen, decl_name, item_name, visible_items};
+use ebr_scope::{Seen, decl_name, item_named, visible_items};
 use std::alloc::Global;
-
-/// The head of the visible procedure or function of a name.
-pub fn visible_head<'a>(seen: &Seen<'a>, name: &Name) -> Option<&'a Head>
-    ensures { option_copied result ≡ visible.visible_head seen.now.view name.now }
-{
-    match object(seen.get(), Class::Unit, name) {
-        Some(object) => match &object.tree {
-            UnitTree::Subprogram(unit) => Some(&unit.get().head),
-            _ => None,
-        },
-        None => None,
-    }
-}
 
 fn visible_subprograms<'a>(seen: &Seen<'a>, owner: &Name) -> &'a [Subprogram]
     ensures { result.now ≡ spec.visible_subprograms seen.now.view owner.now }
@@ -113,21 +99,6 @@ fn variables_before(items: &[PackageItem], name: &Name) -> usize
         }
     }
     count
-}
-
-fn is_named(item: &PackageItem, name: &Name) -> bool
-    ensures { result ≡ declared.is_name name.now (declared.item_name item.now) }
-{
-    match item_name(item) {
-        Some(declared) => *name == *declared,
-        None => false,
-    }
-}
-
-fn item_named<'a>(items: &'a [PackageItem], name: &Name) -> Option<&'a PackageItem>
-    ensures { option_copied result ≡ declared.item_named name.now items.now }
-{
-    items.iter().find(|item| is_named(item, name))
 }
 
 fn variable_of<'a>(

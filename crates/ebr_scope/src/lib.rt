@@ -14,7 +14,8 @@ mod scopes;
 pub use column::{column_type_of, declared_type, parameter_type, result_type};
 pub use field::Field;
 pub use lookup::{
-    applied, called, decl_name, item_name, meant, plain, raised, variable, visible_items,
+    applied, called, decl_name, item_name, item_named, meant, plain, raised, variable,
+    visible_head, visible_items,
 };
 pub use meaning::{Meaning, is_out, is_target, variable_type};
 pub use place::{Place, Seen};

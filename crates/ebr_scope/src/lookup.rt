@@ -68,6 +68,7 @@ pub fn decl_name(declaration: &Decl) -> Option<&Name>
     }
 }
 
+/// The name of what a specification has.
 pub fn item_name(item: &PackageItem) -> Option<&Name>
     ensures { option_copied result ≡ declared.item_name item.now }
 {
@@ -86,7 +87,8 @@ fn declares(item: &PackageItem, name: &Name) -> bool
     }
 }
 
-fn item_named<'a>(items: &'a [PackageItem], name: &Name) -> Option<&'a PackageItem>
+/// What a specification has under a name.
+pub fn item_named<'a>(items: &'a [PackageItem], name: &Name) -> Option<&'a PackageItem>
     ensures { option_copied result ≡ declared.item_named name.now items.now }
 {
     items.iter().find(|item| declares(item, name))
