@@ -6,7 +6,7 @@ ghost use Rattle.ebr_base.specs.declared.numbers.EditionNo.{EditionNo};
 ghost use Rattle.ebr_code.specs.Books.{Book};
 
 use crate::instruction::Code;
-use ebr_base::{EditionNo, List, ObjectKey, Shared, Stamp};
+use ebr_base::{Class, EditionNo, List, Name, Shared, Stamp};
 use ebr_run::VariableType;
 
 /// A parameter: its type, whether it takes the argument's value, and whether it hands a value back.
@@ -49,10 +49,10 @@ pub trait CodeBook {
     ghost answers: { Self → EditionNo → Book };
 
     /// The compiled unit of a visible object that is valid.
-    fn unit(&self, e: EditionNo, key: &ObjectKey) -> Option<&Shared<Unit>>
-        ensures { option_copied result ≡ (Self.answers self.now e).unit key.now };
+    fn unit(&self, e: EditionNo, class: Class, name: &Name) -> Option<&Shared<Unit>>
+        ensures { option_copied result ≡ (Self.answers self.now e).unit (record { class = class; name = name.now }) };
 
     /// The stamp of a visible object.
-    fn stamp(&self, e: EditionNo, key: &ObjectKey) -> Option<Stamp>
-        ensures { result ≡ (Self.answers self.now e).stamp key.now };
+    fn stamp(&self, e: EditionNo, class: Class, name: &Name) -> Option<Stamp>
+        ensures { result ≡ (Self.answers self.now e).stamp (record { class = class; name = name.now }) };
 }

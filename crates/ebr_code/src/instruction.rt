@@ -81,7 +81,7 @@ pub enum Operation {
     Sql {
         stmt: Shared<SqlTree>,
         binds: usize,
-        lookup: Lookup,
+        lookup: Shared<Lookup>,
     },
     Transact(Transaction),
     /// Keeps a count for `SQL%ROWCOUNT`.

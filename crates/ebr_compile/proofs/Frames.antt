@@ -12,7 +12,7 @@ use Rattle.ebr_run.specs.Units.{is_state, has_state, within_subprogram}
 use Rattle.ebr_places.specs.declared.around.Mark.{Mark}
 use Rattle.ebr_places.specs.declared.around.Frame.{Frame}
 use Rattle.ebr_compile.specs.inside.Items.{item_is_state}
-use Rattle.ebr_compile.proofs.Envs.{IsWithin, same, further, mark_of, backed, drop_to}
+use Rattle.ebr_stmtcode.proofs.Envs.{IsWithin, same, further, mark_of, backed, drop_to}
 
 pub any_state_is : (items : List PackageItem) → list_any item_is_state items ≡ has_state (filter_map declaration_in items)
 any_state_is [] = refl

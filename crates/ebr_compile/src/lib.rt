@@ -1,4 +1,4 @@
-//! Slot code from trees.
+//! Slot code of units from their trees.
 //!
 //! The crates above use the contract of `compile`: it answers the slot code of a unit, `Codes` of `ebr_code/specs/Units.antt`,
 //! for what an edition sees, and counts a step for it. What this code does is `RunCode` of `ebr_code`, and so, by the law of
@@ -12,21 +12,9 @@ ghost use Rattle.ebr_ast.specs.Views.{IsInOrder};
 ghost use Rattle.ebr_check.specs.Verdict.{is_valid};
 ghost use Rattle.ebr_code.specs.Units.{Codes};
 
-mod calls;
-mod choices;
-mod cursors;
-mod declarations;
-mod exceptions;
-mod expressions;
-mod leaving;
-mod names;
-mod operators;
+mod held;
 mod packages;
-mod rows;
-mod sql;
-mod statements;
 mod steps;
-mod targets;
 mod triggers;
 mod unit;
 mod units;

@@ -3,22 +3,21 @@
 ghost use Rattle.std.specs.Prelude.{◌≡◌, ◌||◌, ◌++◌, [], suc, map, filter_map, Some, IfOk, OnOk};
 ghost use Rattle.std.specs.List.{list_any};
 ghost use Rattle.ebr_scope.specs.Names.{visible_items};
-ghost use Rattle.ebr_run.specs.Scope.{declaration_in, part};
+ghost use Rattle.ebr_run.specs.Scope.{body_key, declaration_in, part, with_subprograms};
 ghost use Rattle.ebr_run.specs.Statements.{with_decl, with_decls};
 ghost use Rattle.ebr_run.specs.Units as run;
 ghost use Rattle.ebr_code.specs.Codes as codes;
 ghost use Rattle.ebr_code.specs.Units as spec;
 ghost use Rattle.ebr_compile.specs.inside.Items as inside;
 
-use crate::declarations::{declaration, declarations};
-use crate::operators::next;
-use crate::statements::guarded;
+use crate::held::{kept, release, without};
 use crate::units::{key_of, subprogram};
 use ebr_ast::{Decl, PackageBody, PackageItem, Subprogram};
 use ebr_base::{Class, CloneIn, List, Name, NoMemory, Shared};
 use ebr_code::{Initial, Instruction, Unit};
 use ebr_places::Around;
 use ebr_scope::{Seen, visible_items};
+use ebr_stmtcode::{declaration, declarations, guarded, next};
 use std::alloc::Global;
 
 fn is_state(it: &Decl) -> bool
@@ -109,8 +108,24 @@ fn in_specification<'a>(
     let owner = name.clone_in(alloc)?;
     let mut around = Around::outside(alloc, seen, Some(key));
     around.set_owner(owner);
-    around.add_heads(alloc, name, items)?;
-    Ok(around)
+    let done = around.add_heads(alloc, name, items);
+    kept(around, done)
+}
+
+/// How a package's state is made by its specification.
+fn made<'a>(
+    alloc: Global,
+    items: &'a [PackageItem],
+    around: &mut Around<'a>,
+) -> Result<Initial, NoMemory>
+    ensures { IfOk result (λ initial. initial ≡ record { stateful = run.has_state (filter_map declaration_in items.now); code = codes.decls_code (filter_map declaration_in items.now) around.old }) }
+{
+    let mut code = List::new(alloc);
+    item_declarations(alloc, items, around, &mut code)?;
+    Ok(Initial {
+        code: Shared::new(alloc, code)?,
+        stateful: items_have_state(items),
+    })
 }
 
 /// The unit of a package's specification.
@@ -123,15 +138,11 @@ pub fn package_unit<'a>(
     ensures { IfOk result (λ unit. unit ≡ record { subprograms = []; initial = Some (spec.specification_initial seen.now.view name.now items.now) }) }
 {
     let mut around = in_specification(alloc, name, items, seen)?;
-    let mut code = List::new(alloc);
-    item_declarations(alloc, items, &mut around, &mut code)?;
-    let code = Shared::new(alloc, code)?;
+    let initial = made(alloc, items, &mut around);
+    let initial = without(around, initial)?;
     Ok(Unit {
         subprograms: List::new(alloc),
-        initial: Some(Initial {
-            stateful: items_have_state(items),
-            code,
-        }),
+        initial: Some(initial),
     })
 }
 
@@ -167,6 +178,23 @@ fn subprograms<'a>(
     Ok(found)
 }
 
+/// Adds the code of a specification's declarations, and makes its names known, and the subprograms of its body.
+fn add_body<'a>(
+    alloc: Global,
+    it: &'a PackageBody,
+    items: &'a [PackageItem],
+    around: &mut Around<'a>,
+    out: &mut List<Instruction>,
+) -> Result<(), NoMemory>
+    ensures code { OnOk result (out.new ≡ out.old ++ codes.decls_code (filter_map declaration_in items.now) around.old) }
+    ensures around { OnOk result (around.new ≡ with_subprograms it.now.name 0 it.now.subprograms (record (with_decls (filter_map declaration_in items.now) around.old) { unit = Some (body_key it.now.name) })) }
+{
+    item_declarations(alloc, items, around, out)?;
+    let key = key_of(alloc, Class::Body, &it.name)?;
+    around.set_unit(key);
+    around.add_subprograms(alloc, &it.name, it.subprograms.as_slice())
+}
+
 /// Where a body's declarations begin: behind those of the specification, whose code is added, with all subprograms known.
 fn in_body<'a>(
     alloc: Global,
@@ -179,11 +207,8 @@ fn in_body<'a>(
 {
     let items = visible_items(seen, &it.name);
     let mut around = in_specification(alloc, &it.name, items, seen)?;
-    item_declarations(alloc, items, &mut around, out)?;
-    let key = key_of(alloc, Class::Body, &it.name)?;
-    around.set_unit(key);
-    around.add_subprograms(alloc, &it.name, it.subprograms.as_slice())?;
-    Ok(around)
+    let done = add_body(alloc, it, items, &mut around, out);
+    kept(around, done)
 }
 
 /// Adds the code of a body's initial part, which has variables and cursors of its own.
@@ -196,7 +221,7 @@ fn initial_part<'a>(
     ensures { OnOk result (out.new ≡ out.old ++ codes.guarded_code (map codes.stmt_code it.now.statements) (map codes.handler_code it.now.handlers) (run.in_initial_part around.old)) }
 {
     around.enter_part(0)?;
-    around.enter_frame();
+    release(around.enter_frame());
     guarded(alloc, &it.statements, &it.handlers, around, out)
 }
 
@@ -205,6 +230,22 @@ fn body_has_state(it: &PackageBody, seen: &Seen<'_>) -> bool
     ensures { result ≡ (run.has_state (filter_map declaration_in (visible_items seen.now.view it.now.name)) || run.has_state it.now.declarations) }
 {
     items_have_state(visible_items(seen, &it.name)) || has_state(it.declarations.as_slice())
+}
+
+/// The subprograms of a body, and the code of its declarations and its initial part.
+fn body_parts<'a>(
+    alloc: Global,
+    it: &'a PackageBody,
+    around: &mut Around<'a>,
+    out: &mut List<Instruction>,
+) -> Result<List<ebr_code::Subprogram>, NoMemory>
+    ensures subprograms { IfOk result (λ found. found ≡ spec.subprograms_code 0 it.now.subprograms (with_decls it.now.declarations around.old)) }
+    ensures code { OnOk result (out.new ≡ out.old ++ (codes.decls_code it.now.declarations around.old ++ codes.guarded_code (map codes.stmt_code it.now.statements) (map codes.handler_code it.now.handlers) (run.in_initial_part (with_decls it.now.declarations around.old)))) }
+{
+    declarations(alloc, it.declarations.as_slice(), around, out)?;
+    let found = subprograms(alloc, &it.subprograms, around)?;
+    initial_part(alloc, it, around, out)?;
+    Ok(found)
 }
 
 /// The unit of a package's body.
@@ -217,9 +258,8 @@ pub fn body_unit<'a>(
 {
     let mut code = List::new(alloc);
     let mut around = in_body(alloc, it, seen, &mut code)?;
-    declarations(alloc, it.declarations.as_slice(), &mut around, &mut code)?;
-    let subprograms = subprograms(alloc, &it.subprograms, &mut around)?;
-    initial_part(alloc, it, &mut around, &mut code)?;
+    let found = body_parts(alloc, it, &mut around, &mut code);
+    let subprograms = without(around, found)?;
     let code = Shared::new(alloc, code)?;
     Ok(Unit {
         subprograms,

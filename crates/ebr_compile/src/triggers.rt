@@ -1,68 +1,28 @@
 //! The units of triggers.
 
 ghost use Rattle.std.specs.Prelude.{◌≡◌, Some, IfOk};
-ghost use Rattle.ebr_base.specs.Answers.{Answers};
-ghost use Rattle.ebr_base.specs.Keys.{table_named};
-ghost use Rattle.ebr_names.specs.Columns as names;
-ghost use Rattle.ebr_check.specs.Units.{row_columns, columns_or_none};
+ghost use Rattle.ebr_check.specs.Units as checks;
 ghost use Rattle.ebr_run.specs.Units as run;
 ghost use Rattle.ebr_code.specs.Units as spec;
 
+use crate::held::without;
 use crate::units::{block_unit, key_of};
 use ebr_ast::Trigger;
-use ebr_base::{Class, CloneIn, Code, Column, List, Name, NoMemory, ObjectKey, Stop};
+use ebr_base::{Class, List, NoMemory, ObjectKey, Stop};
+use ebr_check::row_columns;
 use ebr_code::Unit;
-use ebr_names::{ViewColumn, columns, table};
+use ebr_names::ViewColumn;
 use ebr_places::Around;
 use ebr_scope::Seen;
 use std::alloc::Global;
 
-/// The columns of a table; it finds no memory where there are more than 65,536.
-fn table_columns(alloc: Global, list: &[Column]) -> Result<List<ViewColumn>, NoMemory>
-    ensures { IfOk result (λ found. found ≡ names.table_columns 0 list.now) }
-{
-    let mut found = List::new(alloc);
-    for (place, column) in list.iter().enumerate() {
-        if place > 65535 {
-            return Err(NoMemory);
-        }
-        let name = column.name.clone_in(alloc)?;
-        found.push(ViewColumn {
-            name,
-            place: place as u16,
-            ty: column.ty,
-        })?;
-    }
-    Ok(found)
-}
-
-/// The columns of the table of a name.
-fn columns_of_table(alloc: Global, on: &Name, seen: &Seen<'_>) -> Result<List<ViewColumn>, Stop>
-    ensures { Answers result (names.columns_of_table (table_named on.now seen.now.view.tables)) }
-{
-    match table(seen.get(), on) {
-        Some(def) => Ok(table_columns(alloc, def.columns.as_slice())?),
-        None => Err(Stop::Raised(Code::Ora(942))),
-    }
-}
-
-/// The columns of what a trigger is on; a crossedition trigger is on a table.
-fn row_columns(alloc: Global, it: &Trigger, seen: &Seen<'_>) -> Result<List<ViewColumn>, Stop>
-    ensures { Answers result (row_columns seen.now.view it.now it.now.crossedition) }
-{
-    match it.crossedition {
-        Some(_) => columns_of_table(alloc, &it.on, seen),
-        None => columns(alloc, seen.get(), &it.on),
-    }
-}
-
-/// The same; none where there is no such table or view.
+/// The columns of what a trigger is on; none where there is no such table or view.
 fn columns_or_none(
     alloc: Global,
     it: &Trigger,
     seen: &Seen<'_>,
 ) -> Result<List<ViewColumn>, NoMemory>
-    ensures { IfOk result (λ found. found ≡ columns_or_none (row_columns seen.now.view it.now it.now.crossedition)) }
+    ensures { IfOk result (λ found. found ≡ checks.columns_or_none (checks.row_columns seen.now.view it.now it.now.crossedition)) }
 {
     match row_columns(alloc, it, seen) {
         Ok(found) => Ok(found),
@@ -83,7 +43,8 @@ fn trigger_over<'a>(
 {
     let mut around = Around::outside(alloc, seen, Some(key));
     around.set_columns(columns);
-    block_unit(alloc, &it.body, &mut around)
+    let unit = block_unit(alloc, &it.body, &mut around);
+    without(around, unit)
 }
 
 /// The unit of a trigger.

@@ -8,12 +8,13 @@ ghost use Rattle.ebr_run.specs.Units as run;
 ghost use Rattle.ebr_code.specs.Codes as codes;
 ghost use Rattle.ebr_code.specs.Units as spec;
 
-use crate::statements::block;
+use crate::held::without;
 use ebr_ast::{Block, Decl, Head, Mode, ParameterType, Subprogram};
 use ebr_base::{Class, CloneIn, List, Name, NoMemory, ObjectKey, Shared};
 use ebr_code::{Code, Parameter, Unit, VariableType};
 use ebr_places::{Around, parameter_type};
 use ebr_scope::{Seen, is_out};
+use ebr_stmtcode::block;
 use std::alloc::Global;
 
 fn takes_value(mode: Option<Mode>) -> bool
@@ -99,6 +100,22 @@ pub fn block_of<'a>(alloc: Global, it: &'a Block, around: &mut Around<'a>) -> Re
     Ok(Shared::new(alloc, code)?)
 }
 
+/// The code of a subprogram's body behind its parameters.
+fn behind_parameters<'a>(
+    alloc: Global,
+    head: &'a Head,
+    body: &'a Block,
+    gives: Option<VariableType>,
+    around: &mut Around<'a>,
+) -> Result<Code, NoMemory>
+    ensures code { IfOk result (λ code. code ≡ codes.block_code body.now (record (scope.with_parameters head.now.parameters around.old) { result = gives })) }
+    ensures around { OnOk result (around.new ≡ record (scope.with_parameters head.now.parameters around.old) { result = gives }) }
+{
+    around.add_parameters(alloc, head.parameters.as_slice())?;
+    around.set_result(gives);
+    block_of(alloc, body, around)
+}
+
 /// The code of a subprogram's body, whose parameters are its first variables.
 fn body_of<'a>(
     alloc: Global,
@@ -113,13 +130,11 @@ fn body_of<'a>(
     let outer = around.result();
     let mark = around.mark();
     let frame = around.enter_frame();
-    around.add_parameters(alloc, head.parameters.as_slice())?;
-    around.set_result(gives);
-    let code = block_of(alloc, body, around)?;
+    let code = behind_parameters(alloc, head, body, gives, around);
     around.set_result(outer);
     around.back(&mark);
     around.leave_frame(frame);
-    Ok(code)
+    code
 }
 
 /// A procedure or a function where it stands.
@@ -203,7 +218,8 @@ pub fn subprogram_unit<'a>(
 {
     let key = key_of(alloc, Class::Unit, &it.head.name)?;
     let mut around = Around::outside(alloc, seen, Some(key));
-    alone_unit(alloc, it, &mut around)
+    let unit = alone_unit(alloc, it, &mut around);
+    without(around, unit)
 }
 
 /// The unit of a block that a session runs.
@@ -211,5 +227,6 @@ pub fn plain_block<'a>(alloc: Global, it: &'a Block, seen: &'a Seen<'a>) -> Resu
     ensures { IfOk result (λ unit. unit ≡ spec.of_one (spec.block_unit (run.outside seen.now.view None) it.now)) }
 {
     let mut around = Around::outside(alloc, seen, None);
-    block_unit(alloc, it, &mut around)
+    let unit = block_unit(alloc, it, &mut around);
+    without(around, unit)
 }

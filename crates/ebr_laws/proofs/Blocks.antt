@@ -19,7 +19,8 @@ use Rattle.ebr_code.specs.Instructions as code
 use Rattle.ebr_code.specs.Instructions.{handling_of, run}
 use Rattle.ebr_code.specs.Codes.{Coded, initial_code, decl_code, decls_code_among, decls_code, caught_code, handlers_code, guarded_code, all}
 use Rattle.ebr_code.specs.Codes as codes
-use Rattle.ebr_laws.proofs.Lists.{first_does, only, meaning_of-Guard, handling_of-roll}
+use Rattle.ebr_code.proofs.Layers.{meaning_of-Guard, handling_of-roll}
+use Rattle.ebr_laws.proofs.Lists.{first_does, only}
 use Rattle.ebr_laws.proofs.Steps.{SameReading, with_cursor_beneath}
 use Rattle.ebr_laws.proofs.Readings.{expression_read}
 use Rattle.ebr_laws.proofs.Targets.{null_read, assign_goes}

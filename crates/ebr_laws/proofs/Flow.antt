@@ -19,7 +19,8 @@ use Rattle.ebr_code.specs.declared.instruction.Operation.{Operation}
 use Rattle.ebr_code.specs.declared.instruction.Operation.TheVariants as does
 use Rattle.ebr_code.specs.Instructions.{operate, run}
 use Rattle.ebr_code.specs.Codes.{Coded, all, choose_code, leave_code, while_code, range_code, fields_code, fetch_code, over_rows_code, rows_code, expr_code}
-use Rattle.ebr_laws.proofs.Lists.{then_same, run_append, first_does, only, only_does, meaning_of-If, meaning_of-Loop, meaning_of-Numbers, meaning_of-Closing}
+use Rattle.ebr_code.proofs.Layers.{meaning_of-If, meaning_of-Loop, meaning_of-Numbers, meaning_of-Closing}
+use Rattle.ebr_laws.proofs.Lists.{then_same, run_append, first_does, only, only_does}
 use Rattle.ebr_laws.proofs.Readings.{reading_same}
 use Rattle.ebr_laws.proofs.Requests.{open_same, fetch_same}
 use Rattle.std.specs.Prelude.{length}

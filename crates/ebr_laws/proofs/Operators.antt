@@ -17,7 +17,8 @@ use Rattle.ebr_code.specs.declared.instruction.Operation.TheVariants as does
 use Rattle.ebr_code.specs.Instructions.{decide, run}
 use Rattle.ebr_code.specs.Codes.{Coded, may_decide, deciding, right_code, further_code, summed_code, not_code, beside, between_code, among_code}
 use Rattle.ebr_code.specs.Codes as codes
-use Rattle.ebr_laws.proofs.Lists.{run_append, first, meaning_of-Decide}
+use Rattle.ebr_code.proofs.Layers.{meaning_of-Decide}
+use Rattle.ebr_laws.proofs.Lists.{run_append, first}
 use Rattle.ebr_laws.proofs.Steps.{Goes, Same, SameReading, recoded, chained, nothing_more, by_operation, behind_operation, value_pushes}
 use Rattle.ebr_laws.proofs.Operands.{AllRead, none, one_more}
 

@@ -36,7 +36,8 @@ use Rattle.ebr_code.specs.declared.instruction.Lookup.TheVariants as lookup
 use Rattle.ebr_code.specs.declared.instruction.Operation.TheVariants as does
 use Rattle.ebr_code.specs.Instructions.{looked_up, holding, row_fetched, run}
 use Rattle.ebr_code.specs.Codes.{refer_code, listed, stores_code, bind_code, binds_code, request_code, select_code, sql_code, open_code, fetch_code, open_of as open_of_code, fetch_of as fetch_of_code, close_of as close_of_code, cursor_statement as cursor_code}
-use Rattle.ebr_laws.proofs.Lists.{first_does, only, only_does, meaning_of-If}
+use Rattle.ebr_code.proofs.Layers.{meaning_of-If}
+use Rattle.ebr_laws.proofs.Lists.{first_does, only, only_does}
 use Rattle.ebr_laws.proofs.Steps.{GoesOn, SameReading, by_operation, in_row_pushes, referred_same, located_same, cursor_beneath, with_cursor_beneath}
 use Rattle.ebr_laws.proofs.Operands.{AllRead, none, one_more, onto, last_of, values_same}
 use Rattle.ebr_laws.proofs.Targets.{all_assigned_same, stores_same}

@@ -3,13 +3,20 @@
 //! The rules are those of Oracle Database PL/SQL Language Reference 19c where nothing else is said; their numbers are own. For
 //! each rule there are units that break it alone, and units that just keep it.
 
+ghost use Rattle.std.specs.Prelude.{◌≡◌, ◌<◌, true};
+ghost use Rattle.ebr_ast.specs.Views.{IsInOrder};
+ghost use Rattle.ebr_check.specs.Verdict.{is_valid};
+
 use crate::sample_view::{seen, tree, wanted_row};
-use ebr_ast::EditionView;
+use ebr_ast::{EditionView, UnitTree};
 use ebr_base::{Bytes, NoMemory};
 use ebr_check::{CheckFault, check};
+use ebr_compile::{Steps, compile};
 use ebr_names::is_in_order;
 use std::alloc::Global;
+use std::marker::Brand;
 use std::process::Abort;
+use std::sync::ledger::{Blank, Ledger};
 use std::test::Fail;
 
 // ---- what the edition sees
@@ -78,8 +85,31 @@ fn breaks(alloc: Global, v: &EditionView, text: &str, wanted: &str) -> Result<bo
         return Err(NoMemory);
     }
     let unit = tree(alloc, text)?;
-    let found = printed(alloc, check(alloc, v, &unit)?)?;
+    let fault = check(alloc, v, &unit)?;
+    if fault.is_none() {
+        compiled::<Brand>(alloc, v, &unit, Blank::new(1))?;
+    }
+    let found = printed(alloc, fault)?;
     Ok(found.as_slice() == wanted.as_bytes())
+}
+
+/// A valid unit has slot code. Nobody reads the count.
+fn compiled<L: Ledger>(
+    alloc: Global,
+    v: &EditionView,
+    unit: &UnitTree,
+    blank: Blank,
+) -> Result<(), NoMemory>
+    requires order { IsInOrder v.now }
+    requires valid { is_valid v.now unit.now ≡ true }
+    requires name { blank.name ≡ L.name }
+    requires parts { blank.parts ≡ L.parts }
+    requires some { 0 < blank.parts }
+{
+    let (book, share) = blank.open::<L>();
+    let mut steps = Steps::new(book, share);
+    compile(alloc, v, unit, &mut steps)?;
+    Ok(())
 }
 
 /// The rows of a table from the first one on that isn't as it says; what is wanted is the number of a rule.

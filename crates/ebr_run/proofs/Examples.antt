@@ -132,7 +132,7 @@ of_squares =
 
 squares_are_printed : (v : EditionView)
     → Run v (unit.Block (body squares)) [] [] frame 1000000 []
-    ≡ record { asks = []; lines = codes "1" ∷ codes "4" ∷ codes "9" ∷ []; steps = 7; packages = []; new = None; standing = Returned }
+    ≡ record { asks = []; lines = codes "1" ∷ codes "4" ∷ codes "9" ∷ []; steps = 7; packages = []; new = None; room = 994; standing = Returned }
 unfolding meant_at digits
 squares_are_printed v = of_block v squares 1000000 ∙ ap (λ m. ran v (guards m) 1000000) of_squares ∙ refl
 
@@ -151,7 +151,7 @@ of_endless = meaning-roll (stmt.Loop (roll-Stmt stmt.Null ∷ [])) ∙ ap loops 
 
 endless_loop_is_stopped : (v : EditionView)
     → Run v (unit.Block (body endless)) [] [] frame 20 []
-    ≡ record { asks = []; lines = []; steps = 21; packages = []; new = None; standing = Raised (Ebr 7) }
+    ≡ record { asks = []; lines = []; steps = 21; packages = []; new = None; room = 1000; standing = Raised (Ebr 7) }
 unfolding loop
 endless_loop_is_stopped v = of_block v endless 20 ∙ ap (λ m. ran v (guards m) 20) of_endless ∙ refl
 
@@ -179,7 +179,7 @@ exceptions = decl.Exception (codes "E") ∷ []
 
 exception_leaves_the_block : (v : EditionView)
     → Run v (unit.Block (declaring exceptions raising)) [] [] frame 1000000 []
-    ≡ record { asks = []; lines = []; steps = 1; packages = []; new = None; standing = Raised (Ora 6510) }
+    ≡ record { asks = []; lines = []; steps = 1; packages = []; new = None; room = 1000; standing = Raised (Ora 6510) }
 unfolding Run block.out-Block block.roll-Block carrier.out carrier.roll raised_at
 exception_leaves_the_block v =
     ap (λ m. ran v m 1000000) (of_declaring exceptions raising)
@@ -327,7 +327,7 @@ declares_both r m env calls σ =
 
 handler_takes_what_it_names : (v : EditionView)
     → Run v (unit.Block (declaring (n_and_e (Some (number 0))) twice)) [] [] frame 1000000 []
-    ≡ record { asks = []; lines = codes "a" ∷ codes "b" ∷ []; steps = 12; packages = []; new = None; standing = Returned }
+    ≡ record { asks = []; lines = codes "a" ∷ codes "b" ∷ []; steps = 12; packages = []; new = None; room = 996; standing = Returned }
 unfolding Run block.out-Block block.roll-Block carrier.out carrier.roll meant_at raised_at loop
 handler_takes_what_it_names v =
     ap (λ m. ran v m 1000000) (of_declaring (n_and_e (Some (number 0))) twice)

@@ -31,6 +31,7 @@ pub record Seen : Type 0 where
   pub steps : ℕ
   pub packages : List PackageState
   pub new : Option (List Value)
+  pub room : ℕ  -- how many bytes of lines there may still be
   pub standing : Standing
 
 abbrev pub standing : run.End → Standing
@@ -49,6 +50,7 @@ seen o = record {
   steps = o.state.steps;
   packages = o.state.packages;
   new = option_map new_of o.state.row;
+  room = o.state.room;
   standing = standing o.end;
 }
 

@@ -1,4 +1,4 @@
-use Rattle.ebr_compile.proofs.Envs.{part_left}
+use Rattle.ebr_stmtcode.proofs.Envs.{part_left}
 use Rattle.ebr_compile.proofs.packages.packaged.Goals as goal
 
 pub returns-clause-around : goal.returns-clause-around

@@ -1,0 +1,4 @@
+pub mod Envs
+pub mod Blocks
+pub mod Fields
+pub mod Changes
