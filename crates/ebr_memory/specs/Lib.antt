@@ -1,0 +1,5 @@
+pub mod Levels
+pub mod Catching
+pub mod Rows
+pub mod Packages
+pub mod inside

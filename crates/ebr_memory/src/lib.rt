@@ -1,0 +1,25 @@
+//! What a run keeps: variables, cursors, what handlers handle and operands, for each running subprogram, and the states of
+//! packages.
+#![tactic(auto)]
+
+mod caught;
+mod cursor;
+mod levels;
+mod memory;
+mod package;
+mod row;
+mod rows;
+mod stack;
+mod stacks;
+mod values;
+
+pub use caught::catcher;
+pub use cursor::{Cursor, Fetched};
+pub use levels::Levels;
+pub use memory::{cursor_attribute, fetch, is_open, put_cursor, put_fault, put_variable};
+pub use package::{Made, Packages, Standing};
+pub use row::{affected_attribute, column, set_column};
+pub use rows::first_fits;
+pub use stack::Stack;
+pub use stacks::Stacks;
+pub use values::{is_true, same_op, sqlcode, unfit, variable};

@@ -1,0 +1,9 @@
+pub mod Rises
+pub mod CodeRises
+pub mod CallsRise
+pub mod Ranges
+pub mod Handled
+pub mod Moving
+pub mod OnlyRow
+pub mod Members
+pub mod Growing
