@@ -1,0 +1,23 @@
+//! Tests of the compiler and the machine: programs from their texts, run over answers that are given.
+//!
+//! They stand together above those crates, so that each of them is proved once.
+#![tactic(auto)]
+
+#[cfg(test)]
+mod bodies;
+#[cfg(test)]
+mod edition;
+#[cfg(test)]
+mod given;
+#[cfg(test)]
+mod packages;
+#[cfg(test)]
+mod printing;
+#[cfg(test)]
+mod programs;
+#[cfg(test)]
+mod requests;
+#[cfg(test)]
+mod run;
+#[cfg(test)]
+mod subprograms;
