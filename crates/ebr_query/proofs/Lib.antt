@@ -1,0 +1,13 @@
+pub mod Added
+pub mod ByNumber
+pub mod Examples
+pub mod Founds
+pub mod Layers
+pub mod Meant
+pub mod Plainly
+pub mod Products
+pub mod Ranks
+pub mod Rising
+pub mod SeenRows
+pub mod Sorting
+pub mod Streaming

@@ -1,0 +1,6 @@
+pub mod Forms
+pub mod Founds
+pub mod Joined
+pub mod Locking
+pub mod Numbers
+pub mod Streams
