@@ -69,6 +69,14 @@ impl Book {
         Ok(Book { seen, entries })
     }
 
+    /// All that the edition sees, in order.
+    pub fn view(&self) -> &Shared<EditionView>
+        ensures view { result.now ≡ self.now }
+        ensures order { IsInOrder self.now }
+    {
+        &self.seen
+    }
+
     /// The entry of a class and a name. It is searched for by halving.
     fn entry(&self, class: Class, name: &Name) -> Option<&Entry>
         ensures { option_copied result ≡ option_map (entry self.now) (object_of (record { class = class; name = name.now }) self.now.objects) }

@@ -1,0 +1,230 @@
+//! The books of the living editions.
+
+ghost use Rattle.std.specs.Prelude.{◌≡◌, [], ◌∷◌, ◌++◌, ◌<◌, true, filter, IfOk, OnOk, OnErr};
+ghost use Rattle.std.specs.Option.{option_copied};
+ghost use Rattle.ebr_ast.specs.Views.{IsInOrder};
+ghost use Rattle.ebr_cross.specs.Catalogue.{IsViewOf, Lists};
+ghost use Rattle.ebr_cross.specs.Records.{with_record};
+ghost use Rattle.ebr_editions.specs.Editions.{is_living};
+ghost use Rattle.ebr_laws.specs.Served.{HasCodeOf};
+ghost use Rattle.ebr_units.specs.Living.{AreCurrent, ForBooks, ForBooksBefore, ForSeen, HasBook, IsBookIn, IsKept, ServeAll, served_in, view_in};
+ghost use Rattle.ebr_units.specs.Served.{served};
+ghost use Rattle.ebr_units.specs.inside.Books.{is_below};
+
+use crate::book::Book;
+use ebr_ast::EditionView;
+use ebr_base::{Class, CloneIn, EditionNo, Name, NoMemory, Shared, Stamp};
+use ebr_code::{CodeBook, Unit};
+use ebr_compile::Steps;
+use ebr_cross::{Catalogue, CatalogueRecord, view_of};
+use std::alloc::Global;
+use std::marker::{Brand, Model};
+use std::sync::ledger::{Blank, Ledger};
+
+/// The compiled units of the living editions, in one book for each edition. A book is made when it is asked for, and kept
+/// until a definition changes what its edition sees. Contracts see what the editions see whose books are kept.
+///
+/// The kept books are always current, also after a want of memory: then the call can be made again. As a `CodeBook` it
+/// answers in the editions whose books are kept, which after `make_all` are all that live.
+#[derive(Drop)]
+pub struct Units {
+    books: Vec<Shared<Book>>,
+}
+
+impl Model for Units {
+    ghost use Rattle.std.specs.Coded.{coded_list};
+    ghost use Rattle.std.specs.Prelude.{List};
+    ghost use Rattle.ebr_ast.specs.declared.view.EditionView.{EditionView as Sees};
+    ghost use Rattle.ebr_ast.specs.contracts.view.EditionView as e;
+
+    ghost Value = { List Sees };
+
+    ghost coded = { coded_list e.the_row.coded };
+
+    ghost view = { λ u. u.books.items };
+}
+
+impl Units {
+    /// No book is kept yet, whatever the catalogue is. It takes no memory.
+    pub fn new(alloc: Global) -> Units
+        ensures empty { result ≡ [] }
+        ensures current { (c : Lists) → AreCurrent c result }
+    {
+        Units {
+            books: Vec::new(alloc),
+        }
+    }
+
+    /// Takes notice of a definition: `c` is the catalogue after it, and `record` what it left for ever. Books of editions that
+    /// may see something else now are dropped; books that were handed out stay as they are. It takes no memory.
+    pub fn after_ddl(&mut self, c: &Catalogue, record: &CatalogueRecord)
+        ensures { ForBooksBefore c.now self.old record.now (λ lists. AreCurrent (with_record lists record.now) self.new) }
+    {
+        match record {
+            CatalogueRecord::EditionGone(_) => {}
+            CatalogueRecord::Default(_) => {}
+            CatalogueRecord::Edition { .. } => self.keep_below(c.chain.leaf()),
+            _ => self.drop_all(),
+        }
+    }
+
+    /// The book of an edition, None exactly where that doesn't live. `c` is the catalogue as it is. Where the book isn't kept
+    /// yet, each valid unit that the edition sees is compiled.
+    pub fn book(
+        &mut self,
+        alloc: Global,
+        c: &Catalogue,
+        e: EditionNo,
+    ) -> Result<Option<Shared<Book>>, NoMemory>
+        requires { IsKept c.now }
+        ensures book { ForBooks c.now self.old (λ lists. IfOk result (λ book. IsBookIn lists e book)) }
+        ensures kept { ForBooks c.now self.old (λ lists. OnOk result (is_living lists.editions.made e ≡ true → HasBook lists e self.new)) }
+        ensures others { ForBooks c.now self.old (λ lists. (d : _) → HasBook lists d self.old → HasBook lists d self.new) }
+        ensures current { ForBooks c.now self.old (λ lists. AreCurrent lists self.new) }
+    {
+        if !c.chain.lives(e) {
+            return Ok(None);
+        }
+        let book = self.living_book(alloc, c, e)?;
+        Ok(Some(book))
+    }
+
+    /// The book of an edition from all that it sees, for a caller that has this: the same that `book` answers.
+    pub fn book_of(
+        &mut self,
+        alloc: Global,
+        seen: &Shared<EditionView>,
+    ) -> Result<Shared<Book>, NoMemory>
+        requires { IsInOrder seen.now }
+        ensures book { ForSeen seen.now self.old (λ c. IfOk result (λ book. book ≡ seen.now)) }
+        ensures code { ForSeen seen.now self.old (λ c. IfOk result (λ book. HasCodeOf seen.now (served book))) }
+        ensures kept { ForSeen seen.now self.old (λ c. OnOk result (HasBook c seen.now.edition self.new)) }
+        ensures others { ForSeen seen.now self.old (λ c. (d : _) → HasBook c d self.old → HasBook c d self.new) }
+        ensures current { ForSeen seen.now self.old (λ c. AreCurrent c self.new) }
+    {
+        if let Some(book) = self.found(seen.get().edition) {
+            return book.clone_in(alloc);
+        }
+        let copy = seen.clone_in(alloc)?;
+        self.add(alloc, copy)
+    }
+
+    /// Makes the books of living editions that aren't kept yet, so that as a `CodeBook` it answers in each of them.
+    pub fn make_all(&mut self, alloc: Global, c: &Catalogue) -> Result<(), NoMemory>
+        requires { IsKept c.now }
+        ensures serve { ForBooks c.now self.old (λ lists. OnOk result (ServeAll lists self.new)) }
+        ensures current { ForBooks c.now self.old (λ lists. AreCurrent lists self.new) }
+    {
+        for before in 0..c.chain.leaf().0 {
+            self.book(alloc, c, EditionNo(before + 1))?;
+        }
+        Ok(())
+    }
+
+    /// The book of a living edition.
+    fn living_book(
+        &mut self,
+        alloc: Global,
+        c: &Catalogue,
+        e: EditionNo,
+    ) -> Result<Shared<Book>, NoMemory>
+        requires { IsKept c.now }
+        ensures book { ForBooks c.now self.old (λ lists. IfOk result (λ book. IsViewOf lists e book)) }
+        ensures kept { ForBooks c.now self.old (λ lists. OnOk result (HasBook lists e self.new)) }
+        ensures others { ForBooks c.now self.old (λ lists. (d : _) → HasBook lists d self.old → HasBook lists d self.new) }
+        ensures current { ForBooks c.now self.old (λ lists. AreCurrent lists self.new) }
+    {
+        if let Some(book) = self.found(e) {
+            return book.clone_in(alloc);
+        }
+        let seen = Shared::new(alloc, view_of(c, alloc, e)?)?;
+        self.add(alloc, seen)
+    }
+
+    /// Makes a book and keeps it.
+    fn add(&mut self, alloc: Global, seen: Shared<EditionView>) -> Result<Shared<Book>, NoMemory>
+        requires { IsInOrder seen }
+        ensures book { IfOk result (λ book. book ≡ seen) }
+        ensures added { OnOk result (self.new ≡ self.old ++ seen ∷ []) }
+        ensures unchanged { OnErr result (self.new ≡ self.old) }
+    {
+        let book = uncounted::<Brand>(alloc, seen, Blank::new(1))?;
+        self.books.push(book.clone_in(alloc)?)?;
+        Ok(book)
+    }
+
+    /// The book of an edition, where it is kept.
+    fn found(&self, e: EditionNo) -> Option<&Shared<Book>>
+        ensures { option_copied result ≡ view_in e self.now }
+    {
+        book_in(self.books.as_slice(), e)
+    }
+
+    /// Keeps the books of the editions that were made before an edition.
+    fn keep_below(&mut self, e: EditionNo)
+        ensures { self.new ≡ filter (is_below e) self.old }
+    {
+        keep_below(&mut self.books, e);
+    }
+
+    fn drop_all(&mut self)
+        ensures { self.new ≡ [] }
+    {
+        self.books.clear();
+    }
+}
+
+impl CodeBook for Units {
+    ghost answers = { λ views e. served_in views e };
+
+    fn unit(&self, e: EditionNo, class: Class, name: &Name) -> Option<&Shared<Unit>> {
+        match self.found(e) {
+            Some(book) => book.get().unit(e, class, name),
+            None => None,
+        }
+    }
+
+    fn stamp(&self, e: EditionNo, class: Class, name: &Name) -> Option<Stamp> {
+        match self.found(e) {
+            Some(book) => book.get().stamp(e, class, name),
+            None => None,
+        }
+    }
+}
+
+fn book_in(books: &[Shared<Book>], e: EditionNo) -> Option<&Shared<Book>>
+    ensures { option_copied result ≡ view_in e books.now }
+{
+    books.iter().find(|book| number_of(book) == e.0)
+}
+
+fn keep_below(books: &mut Vec<Shared<Book>>, e: EditionNo)
+    ensures { books.new.items ≡ filter (is_below e) books.old.items }
+{
+    books.retain(|book| number_of(book) < e.0);
+}
+
+/// The number of a book's edition.
+fn number_of(book: &Shared<Book>) -> u32
+    ensures { result ≡ book.now.edition.0 }
+{
+    book.get().view().get().edition.0
+}
+
+/// A new book. Nobody reads how many units it compiles.
+fn uncounted<L: Ledger>(
+    alloc: Global,
+    seen: Shared<EditionView>,
+    blank: Blank,
+) -> Result<Shared<Book>, NoMemory>
+    requires order { IsInOrder seen }
+    requires name { blank.name ≡ L.name }
+    requires parts { blank.parts ≡ L.parts }
+    requires some { 0 < blank.parts }
+    ensures { IfOk result (λ book. book ≡ seen) }
+{
+    let (counted, share) = blank.open::<L>();
+    let mut steps = Steps::new(counted, share);
+    let book = Book::new(alloc, seen, &mut steps)?;
+    Ok(Shared::new(alloc, book)?)
+}
