@@ -1,7 +1,7 @@
 -- The books of the living editions, and what they answer.
 -- Oracle Database Development Guide 19c, Using Edition-Based Redefinition, Name Resolution for Editioned and Noneditioned
 -- Objects; that compiled units are held in a book for each edition is own.
-use Rattle.std.specs.Prelude.{◌≡◌, Bool, true, if◌then◌else◌, List, All, find, Option, Some, None, IfSome}
+use Rattle.std.specs.Prelude.{◌≡◌, Bool, true, if◌then◌else◌, List, All, find, Option, Some, None, IfSome, Result, IfOk, OnOk}
 use Rattle.ebr_base.specs.declared.numbers.EditionNo.{EditionNo}
 use Rattle.ebr_ast.specs.declared.view.EditionView.{EditionView}
 use Rattle.ebr_ast.specs.Views.{IsInOrder}
@@ -48,6 +48,18 @@ HasBook c e views = view_in e views ≡ Some (View c e)
 abbrev pub ServeAll : Lists → List EditionView → Type 0
 ServeAll c views = (e : EditionNo) → is_living c.editions.made e ≡ true → HasCodeOf (View c e) (served_in views e)
 
+-- Books that are kept: each is of all that its edition sees, and none that was current before is lost.
+pub record Keeps (c : Lists) (old new : List EditionView) : Type 0 where
+  pub current : AreCurrent c new
+  pub others : (e : EditionNo) → HasBook c e old → HasBook c e new
+
+-- What is answered is the book of all that an edition sees, with the code of its units, and it is kept.
+pub record Gives {E : Type 0} (c : Lists) (e : EditionNo) (old : List EditionView) (result : Result EditionView E) (new : List EditionView) : Type 0 where
+  pub book : IfOk result (λ v. IsViewOf c e v)
+  pub code : IfOk result (λ v. HasCodeOf (View c e) (served v))
+  pub there : OnOk result (HasBook c e new)
+  pub keeps : Keeps c old new
+
 -- all that an edition sees, where it lives
 abbrev pub living_view : Lists → EditionNo → Option EditionView
 living_view c e = if is_living c.editions.made e then Some (View c e) else None
@@ -57,6 +69,12 @@ pub record IsBookIn (c : Lists) (e : EditionNo) (book : Option EditionView) : Ty
   pub is : book ≡ living_view c e
   pub order : IfSome book (λ v. IsInOrder v)
   pub code : IfSome book (λ v. HasCodeOf (View c e) (served v))
+
+-- What is answered is this book, and it is kept.
+pub record GivesLiving {E : Type 0} (c : Lists) (e : EditionNo) (old : List EditionView) (result : Result (Option EditionView) E) (new : List EditionView) : Type 0 where
+  pub book : IfOk result (λ book. IsBookIn c e book)
+  pub there : OnOk result (is_living c.editions.made e ≡ true → HasBook c e new)
+  pub keeps : Keeps c old new
 
 -- There are lists that the catalogue keeps, in which objects stand under their own keys. Definitions leave no other catalogue.
 pub record IsKept (now : Catalogue) : Type 0 where

@@ -1,15 +1,13 @@
 //! The books of the living editions.
 
-ghost use Rattle.std.specs.Prelude.{◌≡◌, [], ◌∷◌, ◌++◌, ◌<◌, true, filter, IfOk, OnOk, OnErr};
+ghost use Rattle.std.specs.Prelude.{◌≡◌, [], ◌∷◌, ◌++◌, ◌<◌, filter, All, IfOk, OnOk, OnErr};
 ghost use Rattle.std.specs.Option.{option_copied};
 ghost use Rattle.ebr_ast.specs.Views.{IsInOrder};
-ghost use Rattle.ebr_cross.specs.Catalogue.{IsViewOf, Lists};
+ghost use Rattle.ebr_cross.specs.Catalogue.{Lists};
 ghost use Rattle.ebr_cross.specs.Records.{with_record};
-ghost use Rattle.ebr_editions.specs.Editions.{is_living};
-ghost use Rattle.ebr_laws.specs.Served.{HasCodeOf};
-ghost use Rattle.ebr_units.specs.Living.{AreCurrent, ForBooks, ForBooksBefore, ForSeen, HasBook, IsBookIn, IsKept, ServeAll, served_in, view_in};
-ghost use Rattle.ebr_units.specs.Served.{served};
-ghost use Rattle.ebr_units.specs.inside.Books.{is_below};
+ghost use Rattle.ebr_editions.specs.Editions.{leaf, IsLine};
+ghost use Rattle.ebr_units.specs.Living.{AreCurrent, ForBooks, ForBooksBefore, ForSeen, Gives, GivesLiving, IsKept, Keeps, ServeAll, served_in, view_in};
+ghost use Rattle.ebr_units.specs.inside.Books.{is_up_to};
 
 use crate::book::Book;
 use ebr_ast::EditionView;
@@ -17,6 +15,7 @@ use ebr_base::{Class, CloneIn, EditionNo, Name, NoMemory, Shared, Stamp};
 use ebr_code::{CodeBook, Unit};
 use ebr_compile::Steps;
 use ebr_cross::{Catalogue, CatalogueRecord, view_of};
+use ebr_editions::Chain;
 use std::alloc::Global;
 use std::marker::{Brand, Model};
 use std::sync::ledger::{Blank, Ledger};
@@ -63,8 +62,15 @@ impl Units {
         match record {
             CatalogueRecord::EditionGone(_) => {}
             CatalogueRecord::Default(_) => {}
-            CatalogueRecord::Edition { .. } => self.keep_below(c.chain.leaf()),
-            _ => self.drop_all(),
+            CatalogueRecord::Edition { .. } => self.keep_before(&c.chain, c.chain.leaf()),
+            CatalogueRecord::Object(object) => {
+                self.keep_before(&c.chain, object.get().stamp.edition)
+            }
+            CatalogueRecord::ObjectGone { edition, .. } => self.keep_before(&c.chain, *edition),
+            CatalogueRecord::PackageGone { edition, .. } => self.keep_before(&c.chain, *edition),
+            CatalogueRecord::Table(_)
+            | CatalogueRecord::Column { .. }
+            | CatalogueRecord::TableGone(_) => self.drop_all(),
         }
     }
 
@@ -77,10 +83,7 @@ impl Units {
         e: EditionNo,
     ) -> Result<Option<Shared<Book>>, NoMemory>
         requires { IsKept c.now }
-        ensures book { ForBooks c.now self.old (λ lists. IfOk result (λ book. IsBookIn lists e book)) }
-        ensures kept { ForBooks c.now self.old (λ lists. OnOk result (is_living lists.editions.made e ≡ true → HasBook lists e self.new)) }
-        ensures others { ForBooks c.now self.old (λ lists. (d : _) → HasBook lists d self.old → HasBook lists d self.new) }
-        ensures current { ForBooks c.now self.old (λ lists. AreCurrent lists self.new) }
+        ensures { ForBooks c.now self.old (λ lists. GivesLiving lists e self.old result self.new) }
     {
         if !c.chain.lives(e) {
             return Ok(None);
@@ -96,11 +99,7 @@ impl Units {
         seen: &Shared<EditionView>,
     ) -> Result<Shared<Book>, NoMemory>
         requires { IsInOrder seen.now }
-        ensures book { ForSeen seen.now self.old (λ c. IfOk result (λ book. book ≡ seen.now)) }
-        ensures code { ForSeen seen.now self.old (λ c. IfOk result (λ book. HasCodeOf seen.now (served book))) }
-        ensures kept { ForSeen seen.now self.old (λ c. OnOk result (HasBook c seen.now.edition self.new)) }
-        ensures others { ForSeen seen.now self.old (λ c. (d : _) → HasBook c d self.old → HasBook c d self.new) }
-        ensures current { ForSeen seen.now self.old (λ c. AreCurrent c self.new) }
+        ensures { ForSeen seen.now self.old (λ c. Gives c seen.now.edition self.old result self.new) }
     {
         if let Some(book) = self.found(seen.get().edition) {
             return book.clone_in(alloc);
@@ -113,9 +112,9 @@ impl Units {
     pub fn make_all(&mut self, alloc: Global, c: &Catalogue) -> Result<(), NoMemory>
         requires { IsKept c.now }
         ensures serve { ForBooks c.now self.old (λ lists. OnOk result (ServeAll lists self.new)) }
-        ensures current { ForBooks c.now self.old (λ lists. AreCurrent lists self.new) }
+        ensures keeps { ForBooks c.now self.old (λ lists. Keeps lists self.old self.new) }
     {
-        for before in 0..c.chain.leaf().0 {
+        for before in 0..last_living(&c.chain) {
             self.book(alloc, c, EditionNo(before + 1))?;
         }
         Ok(())
@@ -129,10 +128,7 @@ impl Units {
         e: EditionNo,
     ) -> Result<Shared<Book>, NoMemory>
         requires { IsKept c.now }
-        ensures book { ForBooks c.now self.old (λ lists. IfOk result (λ book. IsViewOf lists e book)) }
-        ensures kept { ForBooks c.now self.old (λ lists. OnOk result (HasBook lists e self.new)) }
-        ensures others { ForBooks c.now self.old (λ lists. (d : _) → HasBook lists d self.old → HasBook lists d self.new) }
-        ensures current { ForBooks c.now self.old (λ lists. AreCurrent lists self.new) }
+        ensures { ForBooks c.now self.old (λ lists. Gives lists e self.old result self.new) }
     {
         if let Some(book) = self.found(e) {
             return book.clone_in(alloc);
@@ -160,11 +156,22 @@ impl Units {
         book_in(self.books.as_slice(), e)
     }
 
-    /// Keeps the books of the editions that were made before an edition.
-    fn keep_below(&mut self, e: EditionNo)
-        ensures { self.new ≡ filter (is_below e) self.old }
+    /// Keeps the books of the editions that were made before an edition. Their lines don't come to it.
+    fn keep_before(&mut self, chain: &Chain, e: EditionNo)
+        ensures before { All (λ v. v.edition.0 < e.0) self.new }
+        ensures current { (c : Lists) → AreCurrent c self.old → AreCurrent c self.new }
+        ensures line { IsLine chain.now }
     {
-        keep_below(&mut self.books, e);
+        match chain.parent(e) {
+            Some(parent) => self.keep_up_to(parent),
+            None => self.drop_all(),
+        }
+    }
+
+    fn keep_up_to(&mut self, e: EditionNo)
+        ensures { self.new ≡ filter (is_up_to e) self.old }
+    {
+        keep_up_to(&mut self.books, e);
     }
 
     fn drop_all(&mut self)
@@ -198,10 +205,20 @@ fn book_in(books: &[Shared<Book>], e: EditionNo) -> Option<&Shared<Book>>
     books.iter().find(|book| number_of(book) == e.0)
 }
 
-fn keep_below(books: &mut Vec<Shared<Book>>, e: EditionNo)
-    ensures { books.new.items ≡ filter (is_below e) books.old.items }
+fn keep_up_to(books: &mut Vec<Shared<Book>>, e: EditionNo)
+    ensures { books.new.items ≡ filter (is_up_to e) books.old.items }
 {
-    books.retain(|book| number_of(book) < e.0);
+    books.retain(|book| number_of(book) <= e.0);
+}
+
+/// The number of the leaf, the living edition that was made last.
+fn last_living(chain: &Chain) -> u32
+    ensures leaf { result ≡ (leaf chain.now.made).0 }
+    ensures line { IsLine chain.now }
+{
+    // That editions are numbered in the order of creation is a clause of this call.
+    let _default = chain.default();
+    chain.leaf().0
 }
 
 /// The number of a book's edition.

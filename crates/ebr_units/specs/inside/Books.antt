@@ -1,7 +1,7 @@
 -- The books that a definition leaves current.
-use Rattle.std.specs.Prelude.{Bool, nat_lt}
+use Rattle.std.specs.Prelude.{Bool, nat_le}
 use Rattle.ebr_base.specs.declared.numbers.EditionNo.{EditionNo}
 use Rattle.ebr_ast.specs.declared.view.EditionView.{EditionView}
 
-abbrev pub is_below : EditionNo → EditionView → Bool
-is_below e v = nat_lt v.edition.0 e.0
+abbrev pub is_up_to : EditionNo → EditionView → Bool
+is_up_to e v = nat_le v.edition.0 e.0
