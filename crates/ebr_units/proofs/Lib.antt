@@ -1,2 +1,5 @@
 mod Entries
 mod Halving
+mod Kept
+mod Made
+mod Unchanged

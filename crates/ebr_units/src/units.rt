@@ -54,12 +54,12 @@ impl Units {
         }
     }
 
-    /// Takes notice of a definition: `c` is the catalogue after it, and `record` what it left for ever. Books of editions that
+    /// Takes notice of a definition: `c` is the catalogue after it, and `made` the record of it. Books of editions that
     /// may see something else now are dropped; books that were handed out stay as they are. It takes no memory.
-    pub fn after_ddl(&mut self, c: &Catalogue, record: &CatalogueRecord)
-        ensures { ForBooksBefore c.now self.old record.now (λ lists. AreCurrent (with_record lists record.now) self.new) }
+    pub fn after_ddl(&mut self, c: &Catalogue, made: &CatalogueRecord)
+        ensures { ForBooksBefore c.now self.old made.now (λ lists. AreCurrent (with_record lists made.now) self.new) }
     {
-        match record {
+        match made {
             CatalogueRecord::EditionGone(_) => {}
             CatalogueRecord::Default(_) => {}
             CatalogueRecord::Edition { .. } => self.keep_before(&c.chain, c.chain.leaf()),
