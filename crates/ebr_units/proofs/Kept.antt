@@ -1,7 +1,9 @@
 -- Books that are kept, from one call to the next.
-use Rattle.std.proofs.Common.{◌≡◌, ◌<◌, ℕ, Bool, true, false, cond, List, [], ◌∷◌, ◌++◌, find, Option, Some, None, IfSome, Result, Ok, Err, IfOk, OnOk, OnErr, refl, sym, ap, subst, ◌∙◌}
+use Rattle.std.proofs.Common.{◌≡◌, ◌<◌, ℕ, Bool, true, false, cond, List, [], ◌∷◌, ◌++◌, filter, find, Option, Some, None, IfSome, Result, Ok, Err, IfOk, OnOk, OnErr, refl, sym, ap, subst, ◌∙◌, arith}
 use Rattle.std.specs.List.{All}
-use Rattle.std.proofs.lemmas.List.Elements.{All-nil, All-cons, All-head, All-tail, All-push}
+use Rattle.std.specs.Result.{IsErr}
+use Rattle.std.proofs.lemmas.List.Elements.{All-head, All-tail, All-push, All-filter, All-weaker, filter_passes}
+use Rattle.std.proofs.lemmas.Bool.{leb-true}
 use Rattle.ebr_base.specs.declared.numbers.EditionNo.{EditionNo}
 use Rattle.ebr_ast.specs.declared.view.EditionView.{EditionView}
 use Rattle.ebr_ast.specs.Views.{IsInOrder}
@@ -11,12 +13,16 @@ use Rattle.ebr_cross.specs.Catalogue.{Lists, IsViewOf, View}
 use Rattle.ebr_laws.specs.Served.{HasCodeOf}
 use Rattle.ebr_units.specs.Served.{served}
 use Rattle.ebr_units.specs.Living.{is_of, view_in, served_by, served_in, AreCurrent, HasBook, ServeAll, Keeps, Gives, living_view, IsBookIn, GivesLiving}
+use Rattle.ebr_units.specs.inside.Books.{is_up_to}
 
 abbrev pub current : Lists → EditionView → Type 0
 current c v = IsViewOf c v.edition v
 
 pub has-code : (v : EditionView) → HasCodeOf v (served v)
 has-code v = record { unit = λ key. refl; stamp = λ key. refl }
+
+pub a-view : (c : Lists) (e : EditionNo) (w v : EditionView) → w ≡ v → v ≡ View c e → IsInOrder v → IsViewOf c e w
+a-view c e w v same is order = record { is = same ∙ is; order = subst IsInOrder (sym same) order }
 
 -- the code of another view that is this one
 pub has-code-of : (v w : EditionView) → w ≡ v → HasCodeOf v (served w)
@@ -78,9 +84,9 @@ gives-kept c e vs b (Err x) all is same = record { book = tt; code = tt; there =
 -- a book that was made is answered
 pub gives-new : {E : Type 0} (c : Lists) (e : EditionNo) (old new : List EditionView) (w : EditionView) (r : Result EditionView E) → AreCurrent c old → IsViewOf c e w → view_in e old ≡ None
     → IfOk r (λ x. x ≡ w) → OnOk r (new ≡ old ++ w ∷ []) → OnErr r (new ≡ old) → Gives c e old r new
-gives-new c e old new w (Ok x) all seen none same more kept =
+gives-new {E = E} c e old new w (Ok x) all seen none same more kept =
     let at : w.edition ≡ e = ap (λ (v : EditionView). v.edition) seen.is in
-    subst (λ vs. Gives c e old (Ok x) vs) (sym more) (record {
+    subst (λ vs. Gives {E = E} c e old (Ok x) vs) (sym more) (record {
       book = subst (λ v. IsViewOf c e v) (sym same) seen;
       code = has-code-of (View c e) x (same ∙ seen.is);
       there = pushed-there e old w none (is_edition-same w.edition e (ap (λ (d : EditionNo). d.0) at)) ∙ ap Some seen.is;
@@ -89,7 +95,7 @@ gives-new c e old new w (Ok x) all seen none same more kept =
 gives-new c e old new w (Err x) all seen none same more kept = record { book = tt; code = tt; there = tt; keeps = kept-same c old new all kept }
 
 -- no book of an edition that doesn't live
-pub gives-none : {E : Type 0} (c : Lists) (e : EditionNo) (vs : List EditionView) (lives : Bool) → lives ≡ is_living c.editions.made e → lives ≡ false → AreCurrent c vs → GivesLiving {E} c e vs (Ok None) vs
+pub gives-none : {E : Type 0} (c : Lists) (e : EditionNo) (vs : List EditionView) (lives : Bool) → lives ≡ is_living c.editions.made e → lives ≡ false → AreCurrent c vs → GivesLiving {E = E} c e vs (Ok None) vs
 gives-none c e vs lives is gone all =
     let dead : is_living c.editions.made e ≡ false = sym is ∙ gone in
     record {
@@ -100,15 +106,30 @@ gives-none c e vs lives is gone all =
 
 -- the book of an edition that lives
 pub gives-living : {E F : Type 0} (c : Lists) (e : EditionNo) (old new : List EditionView) (lives : Bool) (b : EditionView) (r : Result EditionView F) → lives ≡ is_living c.editions.made e → lives ≡ true → r ≡ Ok b → Gives c e old r new
-    → GivesLiving {E} c e old (Ok (Some b)) new
-gives-living {E} {F} c e old new lives b r is there done given =
+    → GivesLiving {E = E} c e old (Ok (Some b)) new
+gives-living {F = F} c e old new lives b r is there done given =
     let alive : is_living c.editions.made e ≡ true = sym is ∙ there in
-    let g : Gives {F} c e old (Ok b) new = subst (λ x. Gives c e old x new) done given in
+    let g : Gives {E = F} c e old (Ok b) new = subst (λ x. Gives c e old x new) done given in
     record {
       book = record { is = ap Some g.book.is ∙ sym (ap (λ x. cond x (Some (View c e)) None) alive); order = g.book.order; code = g.code };
       there = λ living. g.there;
       keeps = g.keeps;
     }
 
-pub gives-no-living : {E F : Type 0} (c : Lists) (e : EditionNo) (old new : List EditionView) (r : Result EditionView F) (x : E) → Gives c e old r new → GivesLiving c e old (Err x) new
-gives-no-living c e old new r x given = record { book = tt; there = tt; keeps = given.keeps }
+pub gives-no-living : {E F : Type 0} (c : Lists) (e : EditionNo) (old new : List EditionView) (done : Result EditionView F) (r : Result (Option EditionView) E) → IsErr r → Gives c e old done new → GivesLiving c e old r new
+gives-no-living c e old new done (Ok b) failed given = absurd cc
+gives-no-living c e old new done (Err x) failed given = record { book = tt; there = tt; keeps = given.keeps }
+
+pub on-err : {T E : Type 0} (P : Type 0) (r : Result T E) → IsErr r → OnOk r P
+on-err P (Ok x) failed = absurd cc
+on-err P (Err x) failed = tt
+
+-- ---- the books of editions up to a number
+
+pub kept-before : (p e : EditionNo) (old new : List EditionView) → new ≡ filter (is_up_to p) old → p.0 < e.0 → All (λ v. v.edition.0 < e.0) new
+kept-before p e old new is low =
+    subst (All (λ (v : EditionView). v.edition.0 < e.0)) (sym is)
+    (All-weaker (λ (v : EditionView). is_up_to p v ≡ true) (λ (v : EditionView). v.edition.0 < e.0) (λ v h. let up = leb-true v.edition.0 p.0 h in omega (arith, up, low)) (filter (is_up_to p) old) (filter_passes (is_up_to p) old))
+
+pub kept-current : (c : Lists) (p : EditionNo) (old new : List EditionView) → new ≡ filter (is_up_to p) old → AreCurrent c old → AreCurrent c new
+kept-current c p old new is all = subst (AreCurrent c) (sym is) (All-filter (is_up_to p) (current c) old all)

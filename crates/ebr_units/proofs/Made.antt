@@ -28,16 +28,16 @@ rises n e (x ∷ xs) h low = by x.living (rises (suc n) e xs h.1 (omega (arith, 
 -- an edition that lives has no greater number than the last one that does
 within : (n : ℕ) (d : EditionNo) (xs : List EditionEntry) (e : EditionNo) → IsNumberedFrom n xs → is_living xs e ≡ true → e.0 ≤ (last_of d (living xs)).0
 within n d [] e h lives = false_true lives
-within n d (x ∷ xs) e h lives = by x.living refl (is_numbered e x) refl lives
+within n d (x ∷ xs) e h lives = by (λ last there. within (suc n) last xs e h.1 there) x.living refl (is_numbered e x) refl lives
   where
-    by : (b : Bool) → x.living ≡ b → (t : Bool) → is_numbered e x ≡ t → living_entry (cond t (Some x) (edition_of xs e)) ≡ true → e.0 ≤ (last_of d (cond b (x ∷ living xs) (living xs))).0
-    by true l true t lives =
+    by : ((last : EditionNo) → is_living xs e ≡ true → e.0 ≤ (last_of last (living xs)).0) → (b : Bool) → x.living ≡ b → (t : Bool) → is_numbered e x ≡ t → living_entry (cond t (Some x) (edition_of xs e)) ≡ true → e.0 ≤ (last_of d (cond b (x ∷ living xs) (living xs))).0
+    by f true l true t lives =
         let same : x.number.0 ≡ e.0 = ap (λ (y : EditionNo). y.0) (same_edition x.number e t) in
         let up = rises (suc n) x.number xs h.1 (omega (arith, h.0)) in
         omega (arith, same, up)
-    by true l false t lives = within (suc n) x.number xs e h.1 lives
-    by false l true t lives = false_true (sym l ∙ lives)
-    by false l false t lives = within (suc n) d xs e h.1 lives
+    by f true l false t lives = f x.number lives
+    by f false l true t lives = false_true (sym l ∙ lives)
+    by f false l false t lives = f d lives
 
 pub at-most-leaf : (c : Editions) (e : EditionNo) → IsLine c → is_living c.made e ≡ true → e.0 ≤ (leaf c.made).0
 at-most-leaf c e line lives = within 0 first_edition c.made e line.numbered lives
@@ -63,8 +63,8 @@ made-none now c vs line is all = record {
 }
 
 pub made-one : {E : Type 0} (c : Lists) (old now next : List EditionView) (n : ℕ) (e : EditionNo) (b : Option EditionView) (r : Result (Option EditionView) E) → e.0 ≡ n + 1 → r ≡ Ok b → MadeUpTo c old n now → GivesLiving c e now r next → MadeUpTo c old (n + 1) next
-made-one {E} c old now next n e b r at is before gives =
-    let g : GivesLiving {E} c e now (Ok b) next = subst (λ x. GivesLiving c e now x next) is gives in
+made-one {E = E} c old now next n e b r at is before gives =
+    let g : GivesLiving {E = E} c e now (Ok b) next = subst (λ x. GivesLiving c e now x next) is gives in
     record {
       made = λ d lives low.
           by_test (is_edition d e)

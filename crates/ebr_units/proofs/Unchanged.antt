@@ -11,7 +11,7 @@ use Rattle.ebr_ast.specs.declared.view.EditionView.{EditionView}
 use Rattle.ebr_ast.specs.declared.view.Object.{Object}
 use Rattle.ebr_ast.specs.Views as views
 use Rattle.ebr_editions.specs.declared.entry.EditionEntry.{EditionEntry}
-use Rattle.ebr_editions.specs.Editions.{Editions, IsLine, HasSmallerParent, is_edition, is_numbered, parent_entry, parent_of, leaf, line_up}
+use Rattle.ebr_editions.specs.Editions.{Editions, IsLine, HasSmallerParent, is_edition, is_numbered, parent_entry, parent_of, leaf, line_up, line_of}
 use Rattle.ebr_editions.specs.Objects.{ObjectEntry, with_key, entry_or, nearest, is_in, is_entry_of, next_stamp, with_entry, last_entry, last_object, keys_of}
 use Rattle.ebr_editions.proofs.Lists.{is_edition-other}
 use Rattle.ebr_cross.specs.declared.record.CatalogueRecord.{CatalogueRecord}
@@ -68,11 +68,11 @@ apart-push p [] q h = (by (p q) h, refl)
     by : (b : Bool) → (b || false) ≡ false → b ≡ false
     by true h = h
     by false h = refl
-apart-push p (k ∷ keys) q h = by (p k) h
+apart-push p (k ∷ keys) q h = by (apart-push p keys q) (p k) h
   where
-    by : (b : Bool) → (b || list_any p (keys ++ q ∷ [])) ≡ false → (p q ≡ false) × ((b || list_any p keys) ≡ false)
-    by true h = absurd cc
-    by false h = apart-push p keys q h
+    by : (list_any p (keys ++ q ∷ []) ≡ false → (p q ≡ false) × (list_any p keys ≡ false)) → (b : Bool) → (b || list_any p (keys ++ q ∷ [])) ≡ false → (p q ≡ false) × ((b || list_any p keys) ≡ false)
+    by f true h = absurd cc
+    by f false h = f h
 
 apart-with : (k q : ObjectKey) (keys : List ObjectKey) (b : Bool) → list_any (same_key q) keys ≡ b → list_any (same_key k) (cond b keys (keys ++ q ∷ [])) ≡ false → (same_key k q ≡ false) × (list_any (same_key k) keys ≡ false)
 apart-with k q keys true t h = (by (same_key k q) refl, h)
@@ -107,7 +107,7 @@ nearest-none at none (d ∷ ds) = ap (λ x. entry_or x (nearest at ds)) (none d)
 none-seen : (c : Lists) (e : EditionNo) (k : ObjectKey) → list_any (same_key k) (keys_of c.entries) ≡ false → visible c e k ≡ None
 none-seen c e k h =
     let apart = (not-entered k c.entries [] h).0 in
-    nearest-none (λ d. last_object c.entries d k) (λ d. ap (option_map (λ (x : ObjectEntry Object). x.object)) (none-last k d c.entries None apart)) _
+    nearest-none (λ d. last_object c.entries d k) (λ d. ap (option_map (λ (x : ObjectEntry Object). x.object)) (none-last k d c.entries None apart)) (line_of c.editions.made e)
 
 -- ---- what an edition sees
 
