@@ -1,5 +1,5 @@
 -- Books that are kept, from one call to the next.
-use Rattle.std.proofs.Common.{◌≡◌, ◌<◌, ℕ, Bool, true, false, cond, List, [], ◌∷◌, ◌++◌, filter, find, Option, Some, None, IfSome, Result, Ok, Err, IfOk, OnOk, OnErr, refl, sym, ap, subst, ◌∙◌, arith}
+use Rattle.std.proofs.Common.{◌≡◌, ◌<◌, Bool, true, false, cond, List, [], ◌∷◌, ◌++◌, filter, Option, Some, None, IfSome, Result, Ok, Err, IfOk, OnOk, OnErr, refl, sym, ap, subst, ◌∙◌, arith}
 use Rattle.std.specs.List.{All}
 use Rattle.std.specs.Result.{IsErr}
 use Rattle.std.proofs.lemmas.List.Elements.{All-head, All-tail, All-push, All-filter, All-weaker, filter_passes}
@@ -12,7 +12,7 @@ use Rattle.ebr_editions.proofs.Lists.{same_edition, is_edition-same, false_true}
 use Rattle.ebr_cross.specs.Catalogue.{Lists, IsViewOf, View}
 use Rattle.ebr_laws.specs.Served.{HasCodeOf}
 use Rattle.ebr_units.specs.Served.{served}
-use Rattle.ebr_units.specs.Living.{is_of, view_in, served_by, served_in, AreCurrent, HasBook, ServeAll, Keeps, Gives, living_view, IsBookIn, GivesLiving}
+use Rattle.ebr_units.specs.Living.{is_of, view_in, AreCurrent, Keeps, Gives, GivesLiving}
 use Rattle.ebr_units.specs.inside.Books.{is_up_to}
 
 abbrev pub current : Lists → EditionView → Type 0

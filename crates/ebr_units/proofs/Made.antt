@@ -1,5 +1,5 @@
 -- The books of all living editions, made in the order of their numbers.
-use Rattle.std.proofs.Common.{◌≡◌, ◌<◌, ◌≤◌, ℕ, suc, ◌+◌, Bool, true, false, cond, List, [], ◌∷◌, fold, find, Option, Some, None, Result, Ok, Err, IfOk, OnOk, refl, sym, ap, subst, ◌∙◌, arith}
+use Rattle.std.proofs.Common.{◌≡◌, ◌≤◌, ℕ, suc, ◌+◌, Bool, true, false, cond, List, [], ◌∷◌, fold, Option, Some, Result, Ok, refl, sym, ap, subst, ◌∙◌, arith}
 use Rattle.ebr_base.specs.declared.numbers.EditionNo.{EditionNo}
 use Rattle.ebr_ast.specs.declared.view.EditionView.{EditionView}
 use Rattle.ebr_editions.specs.declared.entry.EditionEntry.{EditionEntry}
@@ -9,7 +9,7 @@ use Rattle.ebr_editions.proofs.Line.{living-entry, edition_of-above}
 use Rattle.ebr_cross.specs.declared.catalogue.Catalogue.{Catalogue}
 use Rattle.ebr_cross.specs.Catalogue.{Lists, View, kept}
 use Rattle.ebr_laws.specs.Served.{HasCodeOf}
-use Rattle.ebr_units.specs.Living.{view_in, served_by, AreCurrent, HasBook, ServeAll, Keeps, GivesLiving}
+use Rattle.ebr_units.specs.Living.{served_by, AreCurrent, HasBook, ServeAll, Keeps, GivesLiving}
 use Rattle.ebr_units.proofs.Kept.{has-code, kept-all}
 
 -- ---- the numbers of living editions
