@@ -1,0 +1,19 @@
+//! Tests of queries: their texts, and what they give over data that scripts set up.
+//!
+//! They stand above the readers, so that a query is its text.
+#![tactic(auto)]
+
+#[cfg(test)]
+mod catalogue;
+#[cfg(test)]
+mod printing;
+#[cfg(test)]
+mod queries;
+#[cfg(test)]
+mod reading;
+#[cfg(test)]
+mod script;
+#[cfg(test)]
+mod steps;
+#[cfg(test)]
+mod transactions;

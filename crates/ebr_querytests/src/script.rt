@@ -1,0 +1,284 @@
+//! Scripts of three sessions, each step with what it answers.
+
+ghost use Rattle.std.specs.Prelude.{◌≡◌, true, is_some, IfOk, IfSome};
+ghost use Rattle.ebr_tx.specs.Data.{IsLive, IsIn, own, names_of};
+ghost use Rattle.ebr_querytests.specs.World.{the_names, the_tables};
+
+use crate::catalogue::{Editions, two_editions};
+use crate::printing::{answer, done, refusal};
+use crate::reading::{first_word, query};
+use crate::steps::{held, locks, release, take};
+use ebr_ast::{EditionView, Query};
+use ebr_base::{Bytes, List, NoMemory, SessionId, TableId, TxId};
+use ebr_names::is_in_order;
+use ebr_query::run;
+use ebr_sqlcheck::{Binds, check_query};
+use ebr_tx::Transactions;
+use std::alloc::Global;
+
+const A: TxId = TxId {
+    session: SessionId(1),
+    depth: 0,
+};
+
+const B: TxId = TxId {
+    session: SessionId(2),
+    depth: 0,
+};
+
+const C: TxId = TxId {
+    session: SessionId(3),
+    depth: 0,
+};
+
+/// The transaction of a letter, and whether a step of it is in the second edition.
+fn session(word: &str) -> Option<(TxId, bool)>
+    ensures { IfSome result (λ found. IsIn the_names found.0) }
+{
+    match word {
+        "A" => Some((A, false)),
+        "A2" => Some((A, true)),
+        "B" => Some((B, false)),
+        "C" => Some((C, false)),
+        _ => None,
+    }
+}
+
+/// What a query gives that has passed its checks, or the refusal of these.
+fn checked(
+    alloc: Global,
+    tx: &mut Transactions,
+    t: TxId,
+    v: &EditionView,
+    q: &Query,
+) -> Result<Bytes, NoMemory>
+    requires live { IsLive tx.old.contents t }
+    requires begun { is_some (own tx.old.contents t).begun ≡ true }
+    ensures stacks { names_of tx.new.contents.live ≡ names_of tx.old.contents.live }
+    ensures tables { tx.new.contents.tables ≡ tx.old.contents.tables }
+{
+    if !is_in_order(v) {
+        return Err(NoMemory);
+    }
+    match check_query(alloc, v, q, &Binds { values: &[] }) {
+        Ok(()) => answer(alloc, run(alloc, tx, t, v, q, &[])),
+        Err(stop) => refusal(alloc, b"check ", stop),
+    }
+}
+
+/// What the query of a text gives.
+fn select(
+    alloc: Global,
+    tx: &mut Transactions,
+    t: TxId,
+    v: &EditionView,
+    text: &str,
+) -> Result<Bytes, NoMemory>
+    requires live { IsLive tx.old.contents t }
+    requires begun { is_some (own tx.old.contents t).begun ≡ true }
+    ensures stacks { names_of tx.new.contents.live ≡ names_of tx.old.contents.live }
+    ensures tables { tx.new.contents.tables ≡ tx.old.contents.tables }
+{
+    let q = query(alloc, text)?;
+    checked(alloc, tx, t, v, q.get())
+}
+
+/// What a step answers of a transaction that has begun.
+fn begun_step(
+    alloc: Global,
+    tx: &mut Transactions,
+    t: TxId,
+    v: &EditionView,
+    text: &str,
+) -> Result<Bytes, NoMemory>
+    requires live { IsLive tx.old.contents t }
+    requires begun { is_some (own tx.old.contents t).begun ≡ true }
+    requires tables { tx.old.contents.tables ≡ the_tables }
+    ensures stacks { names_of tx.new.contents.live ≡ names_of tx.old.contents.live }
+    ensures tables { tx.new.contents.tables ≡ tx.old.contents.tables }
+{
+    let (what, rest) = first_word(text);
+    match what {
+        "SELECT" => select(alloc, tx, t, v, text),
+        "locks" => locks(alloc, tx, t),
+        "held" => held(alloc, tx, t, rest),
+        _ => done(alloc, take(alloc, tx, t, what, rest)),
+    }
+}
+
+/// What a step answers. `begin` begins the transaction, and all others want one that has begun.
+fn step(
+    alloc: Global,
+    tx: &mut Transactions,
+    t: TxId,
+    v: &EditionView,
+    text: &str,
+) -> Result<Bytes, NoMemory>
+    requires live { IsLive tx.old.contents t }
+    requires tables { tx.old.contents.tables ≡ the_tables }
+    ensures stacks { names_of tx.new.contents.live ≡ names_of tx.old.contents.live }
+    ensures tables { tx.new.contents.tables ≡ tx.old.contents.tables }
+{
+    if text == "begin" {
+        tx.begin(t);
+        return done(alloc, Ok(()));
+    }
+    if !tx.begun(t) {
+        return Err(NoMemory);
+    }
+    begun_step(alloc, tx, t, v, text)
+}
+
+/// What a line answers, whose first word is the session's.
+fn said(
+    alloc: Global,
+    tx: &mut Transactions,
+    seen: &Editions,
+    line: &str,
+) -> Result<Bytes, NoMemory>
+    requires names { names_of tx.old.contents.live ≡ the_names }
+    requires tables { tx.old.contents.tables ≡ the_tables }
+    ensures stacks { names_of tx.new.contents.live ≡ names_of tx.old.contents.live }
+    ensures tables { tx.new.contents.tables ≡ tx.old.contents.tables }
+{
+    let (word, text) = first_word(line);
+    let Some((t, second)) = session(word) else {
+        return Err(NoMemory);
+    };
+    let v = if second {
+        seen.second.get()
+    } else {
+        seen.first.get()
+    };
+    step(alloc, tx, t, v, text)
+}
+
+/// A line, and what is wanted of it: what stands behind ` => `, or else that it is done.
+fn parted(line: &str) -> (&str, &str) {
+    match line.split_once(" => ") {
+        Some((step, wanted)) => (step, wanted),
+        None => (line, "OK"),
+    }
+}
+
+/// What a line answers that is something else than it says. A line that begins with `-` is a remark.
+fn fault(
+    alloc: Global,
+    tx: &mut Transactions,
+    seen: &Editions,
+    line: &str,
+) -> Result<Option<String>, NoMemory>
+    requires names { names_of tx.old.contents.live ≡ the_names }
+    requires tables { tx.old.contents.tables ≡ the_tables }
+    ensures stacks { names_of tx.new.contents.live ≡ names_of tx.old.contents.live }
+    ensures tables { tx.new.contents.tables ≡ tx.old.contents.tables }
+{
+    if line.starts_with('-') {
+        return Ok(None);
+    }
+    let (text, wanted) = parted(line);
+    let found = said(alloc, tx, seen, text)?;
+    if found.as_slice() == wanted.as_bytes() {
+        return Ok(None);
+    }
+    Ok(Some(format!(in alloc; "{text} gives {found:?}")?))
+}
+
+/// The first fault of a script.
+fn fault_of(
+    alloc: Global,
+    tx: &mut Transactions,
+    seen: &Editions,
+    script: &str,
+) -> Result<Option<String>, NoMemory>
+    requires names { names_of tx.old.contents.live ≡ the_names }
+    requires tables { tx.old.contents.tables ≡ the_tables }
+    ensures names { names_of tx.new.contents.live ≡ the_names }
+    ensures tables { tx.new.contents.tables ≡ the_tables }
+{
+    for line in script.lines() {
+        let found = fault(alloc, tx, seen, line)?;
+        if found.is_some() {
+            return Ok(found);
+        }
+    }
+    Ok(None)
+}
+
+/// The rows of all tables but E, in one commit.
+static DATA: &str = "\
+B begin
+B insert T 1,a,10
+B insert T 2,b,20
+B insert T 3,c,30
+B insert U 1,1
+B insert U 2,3
+B insert K 1,x
+B insert K -,y
+B insert K 1,z
+B insert K 0,w
+B insert G 999999999999999999,B
+B insert G 1,a
+B insert G -1,-
+B insert PERSON_T 1,Grace Hopper,-,-
+B insert PERSON_T 2,Ada Lovelace,-,-
+B insert ORDERS_T 1,300,3,0
+B insert ORDERS_T 2,1999,19,99
+B insert ORDERS_T 4,505,5,5
+B insert ORDERS_T 5,1250,12,50
+B insert L 1
+B insert L 2
+B insert L 3
+B insert L 4
+B insert L 5
+B insert L 6
+B insert L 7
+B insert L 8
+B insert L 9
+B insert L 10
+B commit
+";
+
+/// Three sessions, and the tables without rows.
+fn three_sessions(alloc: Global) -> Result<Transactions, NoMemory>
+    ensures names { IfOk result (λ tx. names_of tx.contents.live ≡ the_names) }
+    ensures tables { IfOk result (λ tx. tx.contents.tables ≡ the_tables) }
+{
+    let mut tx = Transactions::new(alloc, 3)?;
+    tx.add_table(TableId(1), List::new(alloc))?;
+    tx.add_table(TableId(2), List::new(alloc))?;
+    tx.add_table(TableId(3), List::new(alloc))?;
+    tx.add_table(TableId(4), List::new(alloc))?;
+    tx.add_table(TableId(5), List::new(alloc))?;
+    tx.add_table(TableId(6), List::new(alloc))?;
+    tx.add_table(TableId(7), List::new(alloc))?;
+    tx.add_table(TableId(8), List::new(alloc))?;
+    Ok(tx)
+}
+
+/// The first fault of a script over the data.
+fn fault_over(
+    alloc: Global,
+    tx: &mut Transactions,
+    seen: &Editions,
+    script: &str,
+) -> Result<Option<String>, NoMemory>
+    requires names { names_of tx.old.contents.live ≡ the_names }
+    requires tables { tx.old.contents.tables ≡ the_tables }
+{
+    let found = fault_of(alloc, tx, seen, DATA)?;
+    if found.is_some() {
+        return Ok(found);
+    }
+    fault_of(alloc, tx, seen, script)
+}
+
+/// What the first line of a script answers that answers something else than it says.
+pub fn first_fault(alloc: Global, script: &str) -> Result<Option<String>, NoMemory> {
+    let seen = two_editions(alloc)?;
+    let mut tx = three_sessions(alloc)?;
+    let found = fault_over(alloc, &mut tx, &seen, script);
+    release(tx);
+    release(seen);
+    found
+}
