@@ -1,0 +1,9 @@
+pub mod Counts
+pub mod CodeCounts
+pub mod CallCounts
+pub mod Counted
+pub mod Going
+pub mod Runs
+pub mod NextAsks
+pub mod Examples
+pub mod Opening
