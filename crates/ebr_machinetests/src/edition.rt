@@ -29,7 +29,8 @@ pub fn name(alloc: Global, text: &str) -> Result<Name, NoMemory> {
     Name::of(alloc, text.as_bytes())?.ok_or(NoMemory)
 }
 
-fn tokens_of(alloc: Global, text: &str) -> Result<List<Token>, NoMemory> {
+/// The tokens of a text; where it has none, the test fails with want of memory.
+pub fn tokens_of(alloc: Global, text: &str) -> Result<List<Token>, NoMemory> {
     if text.len() >= MAX_COUNT {
         return Err(NoMemory);
     }

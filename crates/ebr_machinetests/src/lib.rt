@@ -8,6 +8,8 @@ mod bodies;
 #[cfg(test)]
 mod edition;
 #[cfg(test)]
+mod editions;
+#[cfg(test)]
 mod given;
 #[cfg(test)]
 mod packages;

@@ -1,0 +1,273 @@
+//! The books of several editions, after definitions in each of them, as Oracle Database Development Guide 19c, Using
+//! Edition-Based Redefinition, has what an edition sees. How definitions are stamped is own.
+
+ghost use Rattle.std.specs.Prelude.{IfOk};
+ghost use Rattle.ebr_units.specs.Living.{IsKept};
+
+use crate::edition::{name, tokens_of};
+use crate::given::number;
+use crate::run::{first_row, release};
+use ebr_ast::Definition;
+use ebr_base::{Bytes, Class, EditionNo, NoMemory, Shared};
+use ebr_code::CodeBook;
+use ebr_cross::{Catalogue, CatalogueRecord, view_of};
+use ebr_ddlparse::definition;
+use ebr_lexer::Token;
+use ebr_names::is_in_order;
+use ebr_plparse::created;
+use ebr_units::Units;
+use std::alloc::Global;
+use std::rt::HostRuntime;
+use std::test::Fail;
+
+/// What the books of editions 1, 2 and 3 answer for H and P after a definition, the edition that it is made in, and its text.
+/// Behind a name stand its stamp and `+` where it has a compiled unit, else `!`.
+static DEFINITIONS: &str = "\
+1 H1.1+;2 none;3 none; @ 1 @ CREATE PROCEDURE h IS BEGIN NULL; END;~\
+1 H1.1+ P1.2+;2 none;3 none; @ 1 @ CREATE PROCEDURE p IS BEGIN h; END;~\
+1 H1.1+ P1.2+;2 H1.1+ P1.2+;3 none; @ 1 @ CREATE EDITION v2~\
+1 H1.1+ P1.2+;2 H2.1+ P1.2!;3 none; @ 2 @ CREATE OR REPLACE PROCEDURE h(n NUMBER) IS BEGIN NULL; END;~\
+1 H1.1+ P1.2+;2 H2.1+ P1.2!;3 H2.1+ P1.2!; @ 2 @ CREATE EDITION v3~\
+1 H1.1+ P1.2+;2 H2.1+ P1.2!;3 H2.1+ P3.1+; @ 3 @ CREATE OR REPLACE PROCEDURE p IS BEGIN h(1); END;~\
+1 H1.3+ P1.2!;2 H2.1+ P1.2!;3 H2.1+ P3.1+; @ 1 @ CREATE OR REPLACE PROCEDURE h(a NUMBER, b NUMBER) IS BEGIN NULL; END;~\
+1 H1.3+ P1.2!;2 H2.2+ P1.2+;3 H2.2+ P3.1!; @ 2 @ CREATE OR REPLACE PROCEDURE h IS BEGIN NULL; END;~\
+1 P1.2!;2 H2.2+ P1.2+;3 H2.2+ P3.1!; @ 1 @ DROP PROCEDURE h~\
+1 P1.2!;2 H2.2+ P1.2+;3 H2.2+ P3.1!; @ 1 @ CREATE TABLE t (id NUMBER(9) PRIMARY KEY)~\
+1 P1.2!;2 H2.2+ P1.2+;3 H2.2+ P3.1!; @ 1 @ ALTER DATABASE DEFAULT EDITION = v2~\
+1 P1.2!;2 H2.2+ P1.2+;3 none; @ 1 @ DROP EDITION v3 CASCADE~\
+1 P1.2!;2 P1.2!;3 none; @ 2 @ DROP PROCEDURE h~\
+";
+
+/// A catalogue in which nothing is defined.
+fn nothing_defined(alloc: Global) -> Result<Catalogue, NoMemory>
+    ensures { IfOk result (λ c. IsKept c) }
+{
+    Catalogue::new(alloc)
+}
+
+/// The definition that tokens spell; where they spell none, the test fails with want of memory.
+fn defined(alloc: Global, tokens: &[Token]) -> Result<Definition, NoMemory> {
+    match created(alloc, tokens)? {
+        Some(what) => Ok(what),
+        None => definition(alloc, tokens)?.ok_or(NoMemory),
+    }
+}
+
+fn definition_of(alloc: Global, text: &str) -> Result<Shared<Definition>, NoMemory> {
+    let tokens = tokens_of(alloc, text)?;
+    let what = defined(alloc, tokens.as_slice())?;
+    Ok(Shared::new(alloc, what)?)
+}
+
+/// Carries out a definition; where it is refused, the test fails with want of memory.
+fn apply(
+    alloc: Global,
+    c: &mut Catalogue,
+    e: EditionNo,
+    what: &Definition,
+) -> Result<CatalogueRecord, NoMemory>
+    requires { IsKept c.old }
+    ensures { IsKept c.new }
+{
+    let text = Bytes::new(alloc);
+    match c.apply(alloc, e, &[], what, &text) {
+        Ok(made) => Ok(made),
+        Err(_) => Err(NoMemory),
+    }
+}
+
+fn define(
+    alloc: Global,
+    c: &mut Catalogue,
+    units: &mut Units,
+    e: EditionNo,
+    text: &str,
+) -> Result<(), NoMemory>
+    requires { IsKept c.old }
+    ensures { IsKept c.new }
+{
+    let what = definition_of(alloc, text)?;
+    let made = apply(alloc, c, e, what.get())?;
+    units.after_ddl(c, &made);
+    release(made);
+    Ok(())
+}
+
+fn mark(valid: bool) -> &'static str {
+    if valid { "+" } else { "!" }
+}
+
+/// What a book answers for a name in an edition.
+fn answered<B: CodeBook>(
+    alloc: Global,
+    book: &B,
+    e: EditionNo,
+    text: &str,
+    out: &mut Bytes,
+) -> Result<(), NoMemory> {
+    let name = name(alloc, text)?;
+    let Some(stamp) = book.stamp(e, Class::Unit, &name) else {
+        return Ok(());
+    };
+    let valid = mark(book.unit(e, Class::Unit, &name).is_some());
+    let (edition, count) = (stamp.edition.0, stamp.count);
+    let line = format!(in alloc; " {text}{edition}.{count}{valid}")?;
+    out.extend(line.as_bytes())
+}
+
+fn both_names<B: CodeBook>(
+    alloc: Global,
+    book: &B,
+    e: EditionNo,
+    out: &mut Bytes,
+) -> Result<(), NoMemory> {
+    answered(alloc, book, e, "H", out)?;
+    answered(alloc, book, e, "P", out)
+}
+
+/// How the books are asked for.
+#[derive(Clone, Copy)]
+enum Way {
+    /// For an edition.
+    Book,
+    /// From what an edition sees.
+    View,
+    /// All together.
+    All,
+}
+
+fn by_book(
+    alloc: Global,
+    c: &Catalogue,
+    units: &mut Units,
+    e: EditionNo,
+    out: &mut Bytes,
+) -> Result<(), NoMemory>
+    requires { IsKept c.now }
+{
+    match units.book(alloc, c, e)? {
+        Some(book) => both_names(alloc, book.get(), e, out),
+        None => out.extend(b" none"),
+    }
+}
+
+fn by_view(
+    alloc: Global,
+    c: &Catalogue,
+    units: &mut Units,
+    e: EditionNo,
+    out: &mut Bytes,
+) -> Result<(), NoMemory> {
+    let seen = Shared::new(alloc, view_of(c, alloc, e)?)?;
+    if !is_in_order(seen.get()) {
+        return Err(NoMemory);
+    }
+    let book = units.book_of(alloc, &seen)?;
+    both_names(alloc, book.get(), e, out)
+}
+
+fn together(
+    alloc: Global,
+    c: &Catalogue,
+    units: &mut Units,
+    e: EditionNo,
+    out: &mut Bytes,
+) -> Result<(), NoMemory>
+    requires { IsKept c.now }
+{
+    units.make_all(alloc, c)?;
+    both_names(alloc, units, e, out)
+}
+
+/// What the book of an edition answers.
+fn in_edition(
+    alloc: Global,
+    c: &Catalogue,
+    units: &mut Units,
+    way: Way,
+    e: EditionNo,
+    out: &mut Bytes,
+) -> Result<(), NoMemory>
+    requires { IsKept c.now }
+{
+    match way {
+        Way::Book => by_book(alloc, c, units, e, out),
+        Way::View | Way::All if !c.chain.lives(e) => out.extend(b" none"),
+        Way::View => by_view(alloc, c, units, e, out),
+        Way::All => together(alloc, c, units, e, out),
+    }
+}
+
+/// What the books of editions 1, 2 and 3 answer.
+fn in_editions(
+    alloc: Global,
+    c: &Catalogue,
+    units: &mut Units,
+    way: Way,
+    out: &mut Bytes,
+) -> Result<(), NoMemory>
+    requires { IsKept c.now }
+{
+    for before in 0..3 {
+        let e = EditionNo(before + 1);
+        let number = format!(in alloc; "{}", e.0)?;
+        out.extend(number.as_bytes())?;
+        in_edition(alloc, c, units, way, e, out)?;
+        out.push(b';')?;
+    }
+    Ok(())
+}
+
+/// What the books answer after the first definition of a table behind which they answer something else than its row says.
+fn fault_among(
+    alloc: Global,
+    c: &mut Catalogue,
+    units: &mut Units,
+    way: Way,
+    table: &str,
+) -> Result<Option<String>, NoMemory>
+    requires { IsKept c.old }
+{
+    let mut rest = table;
+    for _row in 0..table.len() {
+        let Some((wanted, edition, text, rows)) = first_row(rest) else {
+            return Ok(None);
+        };
+        define(alloc, c, units, EditionNo(number(edition)), text)?;
+        let mut found = Bytes::new(alloc);
+        in_editions(alloc, c, units, way, &mut found)?;
+        if found.as_slice() != wanted.as_bytes() {
+            return Ok(Some(format!(in alloc; "after {text}: {found:?}")?));
+        }
+        rest = rows;
+    }
+    Ok(None)
+}
+
+/// The fault of a way to ask, from a catalogue in which nothing is defined.
+fn fault(alloc: Global, way: Way) -> Result<Option<String>, NoMemory> {
+    let mut c = nothing_defined(alloc)?;
+    let mut units = Units::new(alloc);
+    let fault = fault_among(alloc, &mut c, &mut units, way, DEFINITIONS);
+    release(c);
+    release(units);
+    fault
+}
+
+#[test]
+fn books_follow_definitions(rt: HostRuntime) -> Result<(), Fail> {
+    assert_eq!(&rt; fault(rt.alloc(), Way::Book)?, None);
+    Ok(())
+}
+
+#[test]
+fn books_of_views_follow_definitions(rt: HostRuntime) -> Result<(), Fail> {
+    assert_eq!(&rt; fault(rt.alloc(), Way::View)?, None);
+    Ok(())
+}
+
+#[test]
+fn all_books_together_follow_definitions(rt: HostRuntime) -> Result<(), Fail> {
+    assert_eq!(&rt; fault(rt.alloc(), Way::All)?, None);
+    Ok(())
+}
