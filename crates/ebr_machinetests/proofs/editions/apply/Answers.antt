@@ -7,5 +7,5 @@ returns-in-Ok c =
     let was = c.requires in
     record { lists = with_record was.lists c.in-Ok.made; own_keys = c.in-Ok.ensures.own_keys was.lists was.is was.own_keys; is = (c.in-Ok.ensures.applies was.lists was.is).1 }
 
-pub returns-in-Err : goal.returns-in-Err
-returns-in-Err c = kept-refused _ _ _ _ c.in-Err.ensures.applies c.requires
+pub returns : goal.returns
+returns c = kept-refused _ _ _ _ c.in-Err.ensures.applies c.requires
