@@ -3,7 +3,7 @@
 ghost use Rattle.std.specs.Prelude.{IfSome};
 ghost use Rattle.ebr_querytests.specs.World.{IsThere};
 
-use crate::reading::{first_word, name, view};
+use crate::reading::{first_line, first_word, name, view};
 use ebr_ast::{EditionView, Object, UnitTree};
 use ebr_base::{
     Bytes, Class, ColType, Column, EditionNo, List, NoMemory, ObjectKey, Shared, Stamp, TableDef,
@@ -91,8 +91,13 @@ fn table(alloc: Global, text: &str) -> Result<TableDef, NoMemory> {
 
 fn tables(alloc: Global) -> Result<List<TableDef>, NoMemory> {
     let mut tables = List::new(alloc);
-    for line in TABLES.lines() {
+    let mut rest = TABLES;
+    for _turn in 0..TABLES.len() {
+        let Some((line, more)) = first_line(rest) else {
+            break;
+        };
         tables.push(table(alloc, line)?)?;
+        rest = more;
     }
     Ok(tables)
 }
@@ -120,8 +125,13 @@ fn object(alloc: Global, text: &str) -> Result<Shared<Object>, NoMemory> {
 
 fn objects(alloc: Global, text: &str) -> Result<List<Shared<Object>>, NoMemory> {
     let mut objects = List::new(alloc);
-    for line in text.lines() {
+    let mut rest = text;
+    for _turn in 0..text.len() {
+        let Some((line, more)) = first_line(rest) else {
+            break;
+        };
         objects.push(object(alloc, line)?)?;
+        rest = more;
     }
     Ok(objects)
 }

@@ -8,6 +8,11 @@ use ebr_lexer::{LexStop, Token, lex};
 use ebr_sqlparse::read_query;
 use std::alloc::Global;
 
+/// The first line, and the rest, where a line is there.
+pub fn first_line(text: &str) -> Option<(&str, &str)> {
+    text.split_once('\n')
+}
+
 /// The first word, and the rest.
 pub fn first_word(text: &str) -> (&str, &str) {
     match text.split_once(' ') {

@@ -6,7 +6,7 @@ ghost use Rattle.ebr_querytests.specs.World.{the_names, the_tables};
 
 use crate::catalogue::{Editions, two_editions};
 use crate::printing::{answer, done, refusal};
-use crate::reading::{first_word, query};
+use crate::reading::{first_line, first_word, query};
 use crate::steps::{held, locks, release, take};
 use ebr_ast::{EditionView, Query};
 use ebr_base::{Bytes, List, NoMemory, SessionId, TableId, TxId};
@@ -31,15 +31,14 @@ const C: TxId = TxId {
     depth: 0,
 };
 
-/// The transaction of a letter, and whether a step of it is in the second edition.
-fn session(word: &str) -> Option<(TxId, bool)>
-    ensures { IfSome result (λ found. IsIn the_names found.0) }
+/// The transaction of a letter.
+fn session(letter: u8) -> Option<TxId>
+    ensures { IfSome result (λ t. IsIn the_names t) }
 {
-    match word {
-        "A" => Some((A, false)),
-        "A2" => Some((A, true)),
-        "B" => Some((B, false)),
-        "C" => Some((C, false)),
+    match letter {
+        b'A' => Some(A),
+        b'B' => Some(B),
+        b'C' => Some(C),
         _ => None,
     }
 }
@@ -129,7 +128,23 @@ fn step(
     begun_step(alloc, tx, t, v, text)
 }
 
-/// What a line answers, whose first word is the session's.
+fn first_byte(word: &str) -> u8 {
+    match word.as_bytes().first() {
+        Some(byte) => *byte,
+        None => 0,
+    }
+}
+
+/// The edition that a word tells: the second one where something stands behind the letter.
+fn edition<'a>(seen: &'a Editions, word: &str) -> &'a EditionView {
+    if word.len() > 1 {
+        seen.second.get()
+    } else {
+        seen.first.get()
+    }
+}
+
+/// What a line answers, whose first word is the session's letter, with a `2` behind it where a query is in the second edition.
 fn said(
     alloc: Global,
     tx: &mut Transactions,
@@ -142,15 +157,10 @@ fn said(
     ensures tables { tx.new.contents.tables ≡ tx.old.contents.tables }
 {
     let (word, text) = first_word(line);
-    let Some((t, second)) = session(word) else {
+    let Some(t) = session(first_byte(word)) else {
         return Err(NoMemory);
     };
-    let v = if second {
-        seen.second.get()
-    } else {
-        seen.first.get()
-    };
-    step(alloc, tx, t, v, text)
+    step(alloc, tx, t, edition(seen, word), text)
 }
 
 /// A line, and what is wanted of it: what stands behind ` => `, or else that it is done.
@@ -196,11 +206,16 @@ fn fault_of(
     ensures names { names_of tx.new.contents.live ≡ the_names }
     ensures tables { tx.new.contents.tables ≡ the_tables }
 {
-    for line in script.lines() {
+    let mut rest = script;
+    for _turn in 0..script.len() {
+        let Some((line, more)) = first_line(rest) else {
+            return Ok(None);
+        };
         let found = fault(alloc, tx, seen, line)?;
         if found.is_some() {
             return Ok(found);
         }
+        rest = more;
     }
     Ok(None)
 }
