@@ -1,0 +1,295 @@
+-- A session's asks, what it printed and its transcript are those of its run.
+use Rattle.std.proofs.Common.{ℕ, zero, suc, ◌≡◌, ◌≤◌, true, false, List, [], ◌∷◌, ◌++◌, length, take, Option, Some, None, IfSome, refl, sym, ◌∙◌, ap, subst, arith, true≢false, inl, inr}
+use Rattle.std.proofs.Math.Seq.{take-append_seam}
+use Rattle.ebr_base.specs.declared.numbers.EditionNo.{EditionNo}
+use Rattle.ebr_base.specs.declared.numbers.SessionId.{SessionId}
+use Rattle.ebr_script.specs.Pieces.{pieces_of}
+use Rattle.ebr_asks.specs.declared.ask.Ask.{Ask}
+use Rattle.ebr_asks.specs.declared.ask.Ask.TheVariants as ask
+use Rattle.ebr_asks.specs.declared.answer.Answer.{Answer}
+use Rattle.ebr_asks.specs.declared.answer.Answer.TheVariants as answer
+use Rattle.ebr_asks.specs.declared.entry.Exchange.{Exchange}
+use Rattle.ebr_code.specs.Books.{Book}
+use Rattle.ebr_calls.specs.Steps.{Out, Ended, Outcome, ended, leaving}
+use Rattle.ebr_calls.specs.Courses.{AllContinue, Asks, Continues, Course, GoesOn, Place, place, state_at, with_answer}
+use Rattle.ebr_session.specs.declared.session.Phase.{Phase}
+use Rattle.ebr_session.specs.declared.session.Phase.TheVariants as phase
+use Rattle.ebr_session.specs.Has.{Follows, HasAsked, HasPrinted, IsPrefix, Suits, answers, asks, ends, exchange, printed_before, stops}
+use Rattle.ebr_session.specs.declared.work.Stage.TheVariants as stage
+use Rattle.ebr_session.specs.declared.work.Work.{Work}
+use Rattle.ebr_session.specs.Sessions.{Printed, SessionRun, most_room, run_pieces}
+use Rattle.ebr_session.specs.inside.Kept.{HasRoom, Kept}
+use Rattle.ebr_session.specs.inside.Requests.{Reading, Stays, rest_of}
+use Rattle.ebr_session.specs.inside.Holds.{HasFailed, HasQuit, Holds, IsAnswered, Parts, Waits, WillAsk, before_last, course_behind, progress, spot}
+use Rattle.ebr_session.proofs.Exchanges.{answers_more, as_many, asks_more, length_more, run_left, run_more, run_quit, run_unquit, same_course, went_on_more}
+use Rattle.ebr_session.proofs.Asking.{awaits_asks, awaits_leave, next_pieces, prefix_same, will_answered, will_ask}
+
+-- ---- runs
+
+-- an ask that is out, to which no answer comes
+out_now : (f : Course) (q : Ask) (p : Place) → Asks f q p → f [] None ≡ ended (state_at (record p { asks = p.asks ++ q ∷ [] }) [] None) Out
+out_now f q p h = h.by [] None
+
+-- it quits
+left_now : (f : Course) (q : Ask) (p : Place) → Asks f q p → (coming : List Answer) → f coming (Some zero) ≡ leaving (state_at p coming (Some zero))
+left_now f q p h coming = h.by coming (Some zero)
+
+-- an answer that ends it
+ended_now : (f : Course) (q : Ask) (x : Answer) (p : Place) → Asks f q p → stops x ≡ true → f (x ∷ []) None ≡ ended (state_at (record p { asks = p.asks ++ q ∷ [] }) [] None) Ended
+ended_now f q answer.DiskFault p h e = h.by (answer.DiskFault ∷ []) None
+ended_now f q answer.NoMemory p h e = h.by (answer.NoMemory ∷ []) None
+ended_now f q answer.Stopped p h e = h.by (answer.Stopped ∷ []) None
+ended_now f q (answer.View v) p h e = absurd (true≢false (sym e))
+ended_now f q (answer.Rows rows) p h e = absurd (true≢false (sym e))
+ended_now f q (answer.Count n m l) p h e = absurd (true≢false (sym e))
+ended_now f q answer.Done p h e = absurd (true≢false (sym e))
+ended_now f q answer.Invalid p h e = absurd (true≢false (sym e))
+ended_now f q (answer.Refused c m l) p h e = absurd (true≢false (sym e))
+
+pub continues_of : (x : Answer) → stops x ≡ false → Continues x
+continues_of answer.DiskFault e = absurd (true≢false e)
+continues_of answer.NoMemory e = absurd (true≢false e)
+continues_of answer.Stopped e = absurd (true≢false e)
+continues_of x e = tt
+
+pub stays_of : (q : Ask) (x : Answer) → ends q x ≡ false → Stays q × (stops x ≡ false)
+stays_of ask.Leave x e = absurd (true≢false e)
+stays_of q x e = (tt, e)
+
+-- ---- what was printed for the answers before
+
+-- behind one answer more that is what is printed for those that there were
+pub before_more : (script : List ℕ) (mine : List Exchange) (e : Exchange) → printed_before script (answers (mine ++ e ∷ [])) (length (mine ++ e ∷ [])) ≡ Printed script (answers mine)
+before_more script mine e =
+    ap (λ l. printed_before script l (length (mine ++ e ∷ []))) (answers_more mine e)
+    ∙ ap (printed_before script (answers mine ++ e.answer ∷ [])) (length_more mine e)
+    ∙ ap (λ n. Printed script (take n (answers mine ++ e.answer ∷ []))) (sym (as_many mine))
+    ∙ ap (Printed script) (take-append_seam (answers mine) (e.answer ∷ []))
+
+-- what was printed before counts the answers before it alone
+before_same : (script : List ℕ) (mine : List Exchange) (e : Exchange) (n : ℕ) → n ≤ length mine → printed_before script (answers (mine ++ e ∷ [])) n ≡ printed_before script (answers mine) n
+before_same script mine e zero h = refl
+before_same script mine e (suc n) h = ap (Printed script) (ap (take n) (answers_more mine e) ∙ take_before n (answers mine) (e.answer ∷ []) (let l = as_many mine in omega (arith, l, h)))
+  where
+    take_before : (n : ℕ) (xs ys : List Answer) → n ≤ length xs → take n (xs ++ ys) ≡ take n xs
+    take_before zero xs ys h = refl
+    take_before (suc n) [] ys h = absurd (omega (arith, h))
+    take_before (suc n) (x ∷ xs) ys h = ap (λ l. x ∷ l) (take_before n xs ys (omega (arith, h)))
+
+all_of : (mine : List Exchange) → take (length mine) (answers mine) ≡ answers mine
+all_of [] = refl
+all_of (e ∷ mine) = ap (λ l. e.answer ∷ l) (all_of mine)
+
+first_of : (mine : List Exchange) (e : Exchange) → take (length mine) (answers (mine ++ e ∷ [])) ≡ answers mine
+first_of mine e = ap (take (length mine)) (answers_more mine e) ∙ ap (λ n. take n (answers mine ++ e.answer ∷ [])) (sym (as_many mine)) ∙ take-append_seam (answers mine) (e.answer ∷ [])
+
+-- ---- by phase
+
+module _ {B : Type 0} (serves : B → EditionNo → Book) (s : Parts B) where
+  abbrev mine : List Exchange
+  mine = s.kept.exchanges
+
+  abbrev script : List ℕ
+  script = s.script.script
+
+  abbrev run : Option ℕ → Outcome
+  run quit = SessionRun script (answers mine) quit
+
+  -- what the run prints before its next ask
+  printed_next : (w : WillAsk (course_behind script mine) (asks mine) s.printed) → (run None).state.printed ≡ w.at.printed
+  printed_next w = ap (λ (o : Outcome). o.state.printed) (run_unquit script mine ∙ out_now (course_behind script mine) w.ask w.at w.will)
+
+  pub printed_part : WillAsk (course_behind script mine) (asks mine) s.printed → IsPrefix s.printed (run None).state.printed
+  printed_part w = record { rest = w.more.rest; whole = printed_next w ∙ w.more.whole }
+
+  -- ---- it waits
+
+  module _ (q : Ask) (h : Waits serves q s) where
+    abbrev will : Asks (course_behind script mine) q (spot mine s)
+    will = awaits_asks serves s.work.stage q (course_behind script mine) (rest_of s.script) (spot mine s) h.awaits
+
+    out_run : run None ≡ ended (state_at (place (asks mine ++ q ∷ []) s.printed s.work.packages s.work.room) [] None) Out
+    out_run = run_unquit script mine ∙ out_now (course_behind script mine) q (spot mine s) will
+
+    pub follows_waits : Follows (progress phase.Working (Some q) s)
+    follows_waits = subst (λ k. Follows (record (progress phase.Working (Some q) s) { quit = k })) (sym h.no_quit) (record {
+      asked = record { flow_is = ap (λ (o : Outcome). o.flow) out_run; asks_are = ap (λ (o : Outcome). o.state.asks) out_run };
+      printed = sym (ap (λ (o : Outcome). o.state.printed) out_run);
+      went_on = (h.went_on, tt);
+    })
+
+    pub next_waits : WillAsk (course_behind script mine) (asks mine) s.printed
+    next_waits = will_ask (course_behind script mine) q (spot mine s) will
+
+  -- ---- it goes on
+
+  follows_so : (p : Phase) → (w : WillAsk (course_behind script mine) (asks mine) s.printed) → s.printed ≡ before_last s → AllContinue (answers mine) → s.quit ≡ None
+      → Follows (record { session = s.session; script = script; transcript = mine; printed = s.printed; quit = s.quit; out = None; ended = false })
+  follows_so p w still went none = subst (λ k. Follows (record { session = s.session; script = script; transcript = mine; printed = s.printed; quit = k; out = None; ended = false })) (sym none) (record {
+    asked = tt;
+    printed = (still, printed_part w);
+    went_on = (went, tt);
+  })
+
+  pub follows_answered : IsAnswered serves s → Follows (progress phase.Working None s)
+  follows_answered h = follows_so phase.Working h.next h.still h.went_on h.no_quit
+
+  pub follows_failed : (out : Option Ask) → HasFailed s → Follows (progress phase.Failed out s)
+  follows_failed out h = follows_so phase.Failed h.next h.still h.went_on h.no_quit
+
+  -- ---- it has quit
+
+  module _ (out : Option Ask) (h : HasQuit out s) where
+    left_run : run (Some (length mine)) ≡ leaving (state_at h.next.at [] (Some zero))
+    left_run = run_quit script mine ∙ left_now (course_behind script mine) h.next.ask h.next.at h.next.will []
+
+    whole : IsPrefix s.printed (run (Some (length mine))).state.printed
+    whole = record { rest = h.next.more.rest; whole = ap (λ (o : Outcome). o.state.printed) left_run ∙ h.next.more.whole }
+
+    all_printed : (run (Some (length mine))).state.printed ≡ Printed script (take (length mine) (answers mine))
+    all_printed = ap (λ (o : Outcome). o.state.printed) left_run ∙ sym (printed_next h.next) ∙ ap (Printed script) (sym (all_of mine))
+
+    asks_left : (run (Some (length mine))).state.asks ≡ asks mine ++ ask.Leave ∷ []
+    asks_left = ap (λ (o : Outcome). o.state.asks) left_run ∙ ap (λ l. l ++ ask.Leave ∷ []) h.next.asks_are
+
+    asked_quit : (o : Option Ask) → IfSome o (λ q. q ≡ ask.Leave) → HasAsked false o (record (progress phase.Quitting o s) { quit = Some (length mine) })
+    asked_quit None l = tt
+    asked_quit (Some q) l = record { flow_is = ap (λ (o : Outcome). o.flow) left_run; asks_are = asks_left ∙ ap (λ a. asks mine ++ a ∷ []) (sym l) }
+
+    pub follows_quit : Follows (progress phase.Quitting out s)
+    follows_quit = subst (λ k. Follows (record (progress phase.Quitting out s) { quit = k })) (sym h.quit_is) (record {
+      asked = asked_quit out h.leave;
+      printed = (h.least, whole, all_printed);
+      went_on = (h.went_on, refl);
+    })
+
+-- Whatever its phase is, it follows its run.
+pub follows : {B : Type 0} (serves : B → EditionNo → Book) (p : Phase) (out : Option Ask) (s : Parts B) → Holds serves p out s → Follows (progress p out s)
+follows serves phase.Working (Some q) s h = follows_waits serves s q h
+follows serves phase.Working None s h = follows_answered serves s h
+follows serves phase.Failed out s h = follows_failed serves s out h
+follows serves phase.Quitting out s h = follows_quit serves s out h
+follows serves phase.Over out s h = h
+
+-- ---- an answer is taken
+
+-- what a session keeps where it has taken an answer
+abbrev pub with_exchange : {B : Type 0} → Exchange → Option B → Kept → Parts B → Parts B
+with_exchange e book kept s = record s { kept = kept; book = book }
+
+module _ {B : Type 0} (serves : B → EditionNo → Book) (s : Parts B) (kept : Kept) (book : Option B) (q : Ask) (x : Answer) (more : kept.exchanges ≡ s.kept.exchanges ++ exchange q x ∷ []) where
+  abbrev old : List Exchange
+  old = s.kept.exchanges
+
+  abbrev text : List ℕ
+  text = s.script.script
+
+  abbrev now : Parts B
+  now = record s { kept = kept; book = book }
+
+  -- It goes on.
+  module _ (h : Waits serves q s) (room : HasRoom 1 kept) (suits : Suits serves x book) (stays : Stays q) (goes : Continues x) where
+    next_taken : WillAsk (course_behind text (old ++ exchange q x ∷ [])) (asks (old ++ exchange q x ∷ [])) s.printed
+    next_taken = subst (λ (f : Course). WillAsk f (asks (old ++ exchange q x ∷ [])) s.printed) (sym (same_course text old (exchange q x)))
+        (subst (λ (made : List Ask). WillAsk (with_answer x (course_behind text old)) made s.printed) (sym (asks_more old (exchange q x)))
+        (will_answered serves s.work.stage q x book (course_behind text old) (rest_of s.script) (spot old s) (next_pieces text s.script.left) stays goes suits h.awaits))
+
+    printed_here : s.printed ≡ printed_before text (answers (old ++ exchange q x ∷ [])) (length (old ++ exchange q x ∷ []))
+    printed_here = sym (before_more text old (exchange q x) ∙ ap (λ (o : Outcome). o.state.printed) (out_run serves s q h))
+
+    pub goes_on : IsAnswered serves now
+    goes_on = record {
+      by = inr (record { before = old; last = exchange q x; is = more; suits = suits; awaits = h.awaits });
+      next = subst (λ (l : List Exchange). WillAsk (course_behind text l) (asks l) s.printed) (sym more) next_taken;
+      still = subst (λ (l : List Exchange). s.printed ≡ printed_before text (answers l) (length l)) (sym more) printed_here;
+      went_on = subst (λ (l : List Exchange). AllContinue (answers l)) (sym more) (went_on_more old (exchange q x) h.went_on goes);
+      no_quit = h.no_quit;
+      room = room;
+    }
+
+  -- It has ended.
+  ended_as : (k : Option ℕ) → s.quit ≡ k → (o : Outcome) → SessionRun text (answers (old ++ exchange q x ∷ [])) k ≡ o → o.flow ≡ Ended → o.state.asks ≡ asks old ++ q ∷ []
+      → HasPrinted k true None (record { session = s.session; script = text; transcript = old ++ exchange q x ∷ []; printed = s.printed; quit = k; out = None; ended = true })
+      → AllContinue (answers old) → ends q x ≡ true → IfSome k (λ n. (n ≡ length old) × (q ≡ ask.Leave)) → Follows (progress phase.Over None now)
+  ended_as k quit_is o run_is flow made printed went over quits =
+      subst (λ (l : List Exchange). Follows (record { session = s.session; script = text; transcript = l; printed = s.printed; quit = s.quit; out = None; ended = true })) (sym more)
+      (subst (λ (j : Option ℕ). Follows (record { session = s.session; script = text; transcript = old ++ exchange q x ∷ []; printed = s.printed; quit = j; out = None; ended = true })) (sym quit_is)
+      (record {
+        asked = record { flow_is = ap (λ (r : Outcome). r.flow) run_is ∙ flow; asks_are = ap (λ (r : Outcome). r.state.asks) run_is ∙ (made ∙ sym (asks_more old (exchange q x))) };
+        printed = printed;
+        went_on = (exchange q x, record { before = old; is = refl; went_on = went; ends = over; quit = quits });
+      }))
+
+  -- where it waited
+  ended_run : (h : Waits serves q s) → (o : Outcome) → course_behind text old (x ∷ []) None ≡ o → o.flow ≡ Ended → o.state.asks ≡ asks old ++ q ∷ [] → o.state.printed ≡ s.printed → ends q x ≡ true → Follows (progress phase.Over None now)
+  ended_run h o is flow made printed over =
+      let r = run_more text old (exchange q x) ∙ is in
+      ended_as None h.no_quit o r flow made (sym (ap (λ (r : Outcome). r.state.printed) r ∙ printed)) h.went_on over tt
+
+  stopped : (h : Waits serves q s) → stops x ≡ true → ends q x ≡ true → Follows (progress phase.Over None now)
+  stopped h e over = ended_run h _ (ended_now (course_behind text old) q x (spot old s) (will serves s q h) e) refl refl refl over
+
+pub ends_waits : {B : Type 0} (serves : B → EditionNo → Book) (s : Parts B) (kept : Kept) (book : Option B) (q : Ask) (x : Answer) → kept.exchanges ≡ s.kept.exchanges ++ exchange q x ∷ [] → Waits serves q s → ends q x ≡ true
+    → Follows (progress phase.Over None (record s { kept = kept; book = book }))
+ends_waits serves s kept book ask.Leave x more h e =
+    let g = awaits_leave serves s.work.stage (course_behind s.script.script s.kept.exchanges) (rest_of s.script) (spot s.kept.exchanges s) h.awaits in
+    ended_run serves s kept book ask.Leave x more h _ (g.by (x ∷ []) None) refl refl refl e
+ends_waits serves s kept book q x more h e = stopped serves s kept book q x more h e e
+
+-- where it had quit
+pub ends_quit : {B : Type 0} (serves : B → EditionNo → Book) (s : Parts B) (kept : Kept) (book : Option B) (q : Ask) (x : Answer) → kept.exchanges ≡ s.kept.exchanges ++ exchange q x ∷ [] → HasQuit (Some q) s
+    → Follows (progress phase.Over None (record s { kept = kept; book = book }))
+ends_quit serves s kept book q x more h =
+    let mine = s.kept.exchanges in
+    let text = s.script.script in
+    let r = run_left text mine (exchange q x) ∙ left_now (course_behind text mine) h.next.ask h.next.at h.next.will (x ∷ []) in
+    let made : h.next.at.asks ++ ask.Leave ∷ [] ≡ asks mine ++ q ∷ [] = ap (λ l. l ++ ask.Leave ∷ []) h.next.asks_are ∙ ap (λ a. asks mine ++ a ∷ []) (sym h.leave) in
+    let small : length mine ≤ length mine = omega arith in
+    ended_as serves s kept book q x more (Some (length mine)) h.quit_is _ r refl made (
+      subst (λ l. IsPrefix l s.printed) (sym (before_same text mine (exchange q x) (length mine) small)) h.least,
+      record { rest = h.next.more.rest; whole = ap (λ (o : Outcome). o.state.printed) r ∙ h.next.more.whole },
+      ap (λ (o : Outcome). o.state.printed) r ∙ sym (printed_next serves s h.next) ∙ ap (Printed text) (sym (first_of mine (exchange q x))),
+    )
+    h.went_on (subst (λ (a : Ask). ends a x ≡ true) (sym h.leave) refl) (refl, h.leave)
+
+-- ---- it quits
+
+pub quits_waits : {B : Type 0} (serves : B → EditionNo → Book) (s : Parts B) (q : Ask) → Waits serves q s → HasRoom 1 s.kept → HasQuit None (record s { quit = Some (length s.kept.exchanges) })
+quits_waits serves s q h room = record { next = next_waits serves s q h; least = h.least; went_on = h.went_on; quit_is = refl; leave = tt; room = room }
+
+pub quits_failed : {B : Type 0} (s : Parts B) → HasFailed s → HasQuit None (record s { quit = Some (length s.kept.exchanges) })
+quits_failed s h = record { next = h.next; least = prefix_same _ _ h.still; went_on = h.went_on; quit_is = refl; leave = tt; room = h.room }
+
+pub failed_of : {B : Type 0} (serves : B → EditionNo → Book) (s : Parts B) → IsAnswered serves s → HasFailed s
+failed_of serves s h = record { next = h.next; still = h.still; went_on = h.went_on; no_quit = h.no_quit; room = h.room }
+
+pub quits_quit : {B : Type 0} (s : Parts B) (out : Option Ask) → HasQuit out s → HasQuit None (record s { quit = Some (length s.kept.exchanges) })
+quits_quit s out h = record { next = h.next; least = h.least; went_on = h.went_on; quit_is = refl; leave = tt; room = h.room }
+
+pub leaves_quit : {B : Type 0} (s : Parts B) (out : Option Ask) → HasQuit out s → HasQuit (Some ask.Leave) s
+leaves_quit s out h = record { next = h.next; least = h.least; went_on = h.went_on; quit_is = h.quit_is; leave = refl; room = h.room }
+
+-- ---- it begins
+
+begun_holds : {B : Type 0} (serves : B → EditionNo → Book) (id : SessionId) (script : List ℕ) (kept : Kept) (book : Option B) → kept.exchanges ≡ [] → HasRoom 1 kept
+    → IsAnswered serves (record { session = id; script = record { script = script; left = pieces_of script }; kept = kept; printed = []; quit = None; work = record { packages = []; room = most_room; fresh = []; stage = stage.Start }; book = book })
+begun_holds serves id script kept book none room =
+    let goes : GoesOn (course_behind script []) (run_pieces script (pieces_of script)) (place [] [] [] most_room) = record { by = λ coming quit. refl } in
+    subst (λ (k : Kept). IsAnswered serves (record { session = id; script = record { script = script; left = pieces_of script }; kept = k; printed = []; quit = None; work = record { packages = []; room = most_room; fresh = []; stage = stage.Start }; book = book }))
+    (λ i. record { exchanges = sym none i; room = kept.room })
+    (record {
+      by = inl (record { none = refl; ready = tt; goes = goes });
+      next = next_pieces script (pieces_of script) (course_behind script []) (place [] [] [] most_room) goes;
+      still = refl;
+      went_on = tt;
+      no_quit = refl;
+      room = subst (λ (l : List Exchange). HasRoom 1 (record { exchanges = l; room = kept.room })) none room;
+    })
+
+pub new_holds : {B : Type 0} (serves : B → EditionNo → Book) (id : SessionId) (script : List ℕ) (reading : Reading) (kept : Kept) (printed : List ℕ) (work : Work B) (book : Option B) → reading ≡ record { script = script; left = pieces_of script } → kept.exchanges ≡ [] → HasRoom 1 kept
+    → printed ≡ [] → work ≡ record { packages = []; room = most_room; fresh = []; stage = stage.Start } → IsAnswered serves (record { session = id; script = reading; kept = kept; printed = printed; quit = None; work = work; book = book })
+new_holds serves id script reading kept printed work book r none room p w =
+    subst (λ (y : Reading). IsAnswered serves (record { session = id; script = y; kept = kept; printed = printed; quit = None; work = work; book = book })) (sym r)
+    (subst (λ (l : List ℕ). IsAnswered serves (record { session = id; script = record { script = script; left = pieces_of script }; kept = kept; printed = l; quit = None; work = work; book = book })) (sym p)
+    (subst (λ (v : Work _). IsAnswered serves (record { session = id; script = record { script = script; left = pieces_of script }; kept = kept; printed = []; quit = None; work = v; book = book })) (sym w)
+    (begun_holds serves id script kept book none room)))

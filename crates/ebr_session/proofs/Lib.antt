@@ -1,0 +1,6 @@
+mod Exchanges
+mod Asking
+mod Following
+mod Taking
+mod Doing
+mod Advancing

@@ -1,0 +1,157 @@
+-- Where a session stands, as its callers see it, and what it has done by then.
+use Rattle.std.specs.Prelude.{ℕ, zero, suc, ◌≡◌, ◌≤◌, Bool, true, false, List, [], ◌∷◌, ◌++◌, length, map, take, Option, Some, None, IfSome, Result, Ok, Err}
+use Rattle.ebr_base.specs.declared.clone_in.NoMemory.{NoMemory}
+use Rattle.ebr_base.specs.declared.numbers.EditionNo.{EditionNo}
+use Rattle.ebr_base.specs.declared.numbers.SessionId.{SessionId}
+use Rattle.ebr_ast.specs.declared.definition.Definition.{Definition}
+use Rattle.ebr_ast.specs.Views.{IsInOrder}
+use Rattle.ebr_script.specs.Pieces.{CreatesObject, stored_definition}
+use Rattle.ebr_asks.specs.declared.ask.Ask.{Ask}
+use Rattle.ebr_asks.specs.declared.ask.Ask.TheVariants as ask
+use Rattle.ebr_asks.specs.declared.answer.Answer.{Answer}
+use Rattle.ebr_asks.specs.declared.answer.Answer.TheVariants as answer
+use Rattle.ebr_asks.specs.declared.entry.Exchange.{Exchange}
+use Rattle.ebr_code.specs.Books.{Book}
+use Rattle.ebr_laws.specs.Served.{HasCodeOf}
+use Rattle.ebr_calls.specs.Steps.{Outcome, Flow, Out, Ended, most_steps}
+use Rattle.ebr_calls.specs.Courses.{AllContinue}
+use Rattle.ebr_session.specs.declared.next.NextAsk.{NextAsk}
+use Rattle.ebr_session.specs.declared.next.NextAsk.TheVariants as next
+use Rattle.ebr_session.specs.Sessions.{SessionRun, Printed}
+
+-- the asks and the answers of a transcript
+abbrev pub asks : List Exchange → List Ask
+asks mine = map (λ (x : Exchange). x.ask) mine
+
+abbrev pub answers : List Exchange → List Answer
+answers mine = map (λ (x : Exchange). x.answer) mine
+
+abbrev pub exchange : Ask → Answer → Exchange
+exchange q x = record { ask = q; answer = x }
+
+-- Where a session stands.
+pub record Progress : Type 0 where
+  pub session : SessionId
+  pub script : List ℕ
+  pub transcript : List Exchange  -- its asks, with the answers that it took
+  pub printed : List ℕ
+  pub quit : Option ℕ  -- after how many answers it quit, if it did
+  pub out : Option Ask  -- the ask that waits for its answer
+  pub ended : Bool
+
+-- ---- what its calls do
+
+abbrev pub begun : SessionId → List ℕ → Progress
+begun id script = record { session = id; script = script; transcript = []; printed = []; quit = None; out = None; ended = false }
+
+-- an answer after which a session goes on with nothing
+abbrev pub stops : Answer → Bool
+stops answer.DiskFault = true
+stops answer.NoMemory = true
+stops answer.Stopped = true
+stops x = false
+
+-- whether a session ends with this answer to its ask
+abbrev pub ends : Ask → Answer → Bool
+ends ask.Leave x = true
+ends q x = stops x
+
+-- An answer was taken.
+abbrev pub answered : Option Ask → Answer → Progress → Progress
+answered None x s = s
+answered (Some q) x s = record s { transcript = s.transcript ++ exchange q x ∷ []; out = None; ended = ends q x }
+
+-- It has quit, unless it had ended: the ask that was out is dropped.
+abbrev pub quitting : Bool → Progress → Progress
+quitting true s = s
+quitting false s = record s { quit = Some (length s.transcript); out = None }
+
+-- the bytes that a script may have
+abbrev pub most_bytes : ℕ
+most_bytes = 1048576
+
+-- a text that goes with a definition: the stored text of the object that it creates, and else none
+pub record IsTextOf (what : Definition) (text : List ℕ) : Type 0 where
+  pub spelled : CreatesObject what → stored_definition text ≡ Some what
+  pub none : (CreatesObject what → ⊥) → text ≡ []
+  pub small : length text ≤ most_bytes
+
+-- what the engine needs of an ask
+abbrev pub IsFit : Ask → Type 0
+IsFit (ask.Sql s binds left) = left ≤ most_steps
+IsFit (ask.Ddl what text) = IsTextOf what text
+IsFit q = Unit {0}
+
+-- what comes with an answer: with a view, a book that answers the code of what it sees
+abbrev pub Suits : {B : Type 0} → (B → EditionNo → Book) → Answer → Option B → Type 0
+Suits serves (answer.View v) (Some b) = IsInOrder v × HasCodeOf v (serves b v.edition)
+Suits serves (answer.View v) None = ⊥
+Suits serves x book = Unit {0}
+
+pub record IsPrefix (xs ys : List ℕ) : Type 0 where
+  pub rest : List ℕ
+  pub whole : ys ≡ xs ++ rest
+
+-- The next ask is out. A session that has quit leaves, and prints nothing more.
+pub record MakesAsk (q : Ask) (old new : Progress) : Type 0 where
+  pub goes_on : old.ended ≡ false
+  pub is : new ≡ record old { printed = new.printed; out = Some q }
+  pub more : IsPrefix old.printed new.printed
+  pub leaves : IfSome old.quit (λ n. (q ≡ ask.Leave) × (new.printed ≡ old.printed))
+  pub fit : IsFit q
+
+-- What comes of going on. One that found no memory stays where it was, and one that has quit or ended needs none.
+abbrev pub Advances : Result NextAsk NoMemory → Progress → Progress → Type 0
+Advances (Ok (next.Ask q)) old new = MakesAsk q old new
+Advances (Ok next.Done) old new = (old.ended ≡ true) × (new ≡ old)
+Advances (Err e) old new = (old.ended ≡ false) × (old.quit ≡ None) × (new ≡ old)
+
+-- ---- what it has done
+
+-- what its script does with the answers that it took
+abbrev pub run_of : Progress → Outcome
+run_of s = SessionRun s.script (answers s.transcript) s.quit
+
+-- what a script prints for all but the last of so many answers; nothing where there is none
+abbrev pub printed_before : List ℕ → List Answer → ℕ → List ℕ
+printed_before script given zero = []
+printed_before script given (suc n) = Printed script (take n given)
+
+-- The run stands so, and has made just these asks.
+pub record Made (flow : Flow) (made : List Ask) (s : Progress) : Type 0 where
+  pub flow_is : (run_of s).flow ≡ flow
+  pub asks_are : (run_of s).state.asks ≡ made
+
+-- What it asked is what its run asks: where an ask is out it is the run's next one, and where it has ended the run has.
+abbrev pub HasAsked : Bool → Option Ask → Progress → Type 0
+HasAsked true out s = Made Ended (asks s.transcript) s
+HasAsked false (Some q) s = Made Out (asks s.transcript ++ q ∷ []) s
+HasAsked false None s = Unit {0}
+
+-- It printed what its run prints; between an answer and the next ask, what is printed for the answers before. One that quits
+-- for want of memory has printed a part of what is printed for the answers that it took before, and at least what is printed
+-- for all of them but the last.
+abbrev pub HasPrinted : Option ℕ → Bool → Option Ask → Progress → Type 0
+HasPrinted None false None s = (s.printed ≡ printed_before s.script (answers s.transcript) (length s.transcript)) × IsPrefix s.printed (run_of s).state.printed
+HasPrinted None false (Some q) s = s.printed ≡ (run_of s).state.printed
+HasPrinted None true out s = s.printed ≡ (run_of s).state.printed
+HasPrinted (Some n) ended out s = IsPrefix (printed_before s.script (answers s.transcript) n) s.printed × IsPrefix s.printed (run_of s).state.printed × ((run_of s).state.printed ≡ Printed s.script (take n (answers s.transcript)))
+
+-- The last exchange ended it, and none before; if it quit, that one is Leave.
+pub record EndsWith (last : Exchange) (s : Progress) : Type 0 where
+  pub before : List Exchange
+  pub is : s.transcript ≡ before ++ last ∷ []
+  pub went_on : AllContinue (answers before)
+  pub ends : ends last.ask last.answer ≡ true
+  pub quit : IfSome s.quit (λ n. (n ≡ length before) × (last.ask ≡ ask.Leave))
+
+-- No answer but the last one ended it.
+abbrev pub WentOn : Bool → Progress → Type 0
+WentOn true s = (last : Exchange) × EndsWith last s
+WentOn false s = AllContinue (answers s.transcript) × IfSome s.quit (λ n. n ≡ length s.transcript)
+
+-- A session's asks, what it printed and its transcript are those of its run with the answers that it took.
+pub record Follows (s : Progress) : Type 0 where
+  pub asked : HasAsked s.ended s.out s
+  pub printed : HasPrinted s.quit s.ended s.out s
+  pub went_on : WentOn s.ended s

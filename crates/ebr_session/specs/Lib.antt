@@ -1,0 +1,3 @@
+pub mod Sessions
+pub mod Has
+pub mod inside

@@ -1,0 +1,4 @@
+pub mod Kept
+pub mod Requests
+pub mod Stages
+pub mod Holds

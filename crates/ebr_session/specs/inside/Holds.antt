@@ -1,0 +1,117 @@
+-- What holds of a session between its calls.
+use Rattle.std.specs.Prelude.{ℕ, ◌≡◌, ◌⊎◌, Bool, true, false, List, [], ◌∷◌, ◌++◌, length, Option, Some, None, IfSome}
+use Rattle.ebr_base.specs.declared.numbers.EditionNo.{EditionNo}
+use Rattle.ebr_base.specs.declared.numbers.SessionId.{SessionId}
+use Rattle.ebr_asks.specs.declared.ask.Ask.{Ask}
+use Rattle.ebr_asks.specs.declared.ask.Ask.TheVariants as ask
+use Rattle.ebr_asks.specs.declared.entry.Exchange.{Exchange}
+use Rattle.ebr_code.specs.Books.{Book}
+use Rattle.ebr_calls.specs.Courses.{AllContinue, Asks, Course, GoesOn, Place, after, place}
+use Rattle.ebr_session.specs.declared.session.Phase.{Phase}
+use Rattle.ebr_session.specs.declared.session.Phase.TheVariants as phase
+use Rattle.ebr_session.specs.declared.work.Work.{Work}
+use Rattle.ebr_session.specs.Has.{Follows, IsPrefix, Progress, Suits, answers, asks, printed_before}
+use Rattle.ebr_session.specs.Sessions.{SessionRun}
+use Rattle.ebr_session.specs.inside.Kept.{HasRoom, Kept}
+use Rattle.ebr_session.specs.inside.Requests.{Reading, rest_of}
+use Rattle.ebr_session.specs.inside.Stages.{Awaits, IsReady}
+
+-- what a session keeps
+pub record Parts (B : Type 0) : Type 0 where
+  pub session : SessionId
+  pub script : Reading
+  pub kept : Kept
+  pub printed : List ℕ
+  pub quit : Option ℕ
+  pub work : Work B
+  pub book : Option B
+
+-- the ask that is out; one of a step that failed isn't
+abbrev pub out_of : Phase → Option Ask → Option Ask
+out_of phase.Working out = out
+out_of phase.Quitting out = out
+out_of p out = None
+
+abbrev pub is_over : Phase → Bool
+is_over phase.Over = true
+is_over p = false
+
+abbrev pub phase_behind : Bool → Phase → Phase
+phase_behind true p = phase.Over
+phase_behind false p = p
+
+abbrev pub progress : {B : Type 0} → Phase → Option Ask → Parts B → Progress
+progress p out s = record { session = s.session; script = s.script.script; transcript = s.kept.exchanges; printed = s.printed; quit = s.quit; out = out_of p out; ended = is_over p }
+
+-- what a session does behind a transcript
+abbrev pub course_behind : List ℕ → List Exchange → Course
+course_behind script mine coming quit = SessionRun script (answers mine ++ coming) (after (length mine) quit)
+
+abbrev pub spot : {B : Type 0} → List Exchange → Parts B → Place
+spot mine s = place (asks mine) s.printed s.work.packages s.work.room
+
+-- Nothing was asked yet.
+pub record First {B : Type 0} (s : Parts B) : Type 0 where
+  pub none : s.kept.exchanges ≡ []
+  pub ready : IsReady s.work.stage
+  pub goes : GoesOn (course_behind s.script.script []) (rest_of s.script) (spot [] s)
+
+-- The last answer was taken, and nothing was done with it.
+pub record Answered {B : Type 0} (serves : B → EditionNo → Book) (s : Parts B) : Type 0 where
+  pub before : List Exchange
+  pub last : Exchange
+  pub is : s.kept.exchanges ≡ before ++ last ∷ []
+  pub suits : Suits serves last.answer s.book
+  pub awaits : Awaits serves s.work.stage last.ask (course_behind s.script.script before) (rest_of s.script) (spot before s)
+
+-- What the run asks next, whatever memory there is, and what it prints before.
+pub record WillAsk (f : Course) (made : List Ask) (printed : List ℕ) : Type 0 where
+  pub ask : Ask
+  pub at : Place
+  pub asks_are : at.asks ≡ made
+  pub more : IsPrefix printed at.printed
+  pub will : Asks f ask at
+
+abbrev pub before_last : {B : Type 0} → Parts B → List ℕ
+before_last s = printed_before s.script.script (answers s.kept.exchanges) (length s.kept.exchanges)
+
+-- It waits for an answer.
+pub record Waits {B : Type 0} (serves : B → EditionNo → Book) (q : Ask) (s : Parts B) : Type 0 where
+  pub awaits : Awaits serves s.work.stage q (course_behind s.script.script s.kept.exchanges) (rest_of s.script) (spot s.kept.exchanges s)
+  pub least : IsPrefix (before_last s) s.printed
+  pub went_on : AllContinue (answers s.kept.exchanges)
+  pub no_quit : s.quit ≡ None
+  pub room : HasRoom 2 s.kept
+
+-- It can go on.
+pub record IsAnswered {B : Type 0} (serves : B → EditionNo → Book) (s : Parts B) : Type 0 where
+  pub by : First s ⊎ Answered serves s
+  pub next : WillAsk (course_behind s.script.script s.kept.exchanges) (asks s.kept.exchanges) s.printed
+  pub still : s.printed ≡ before_last s
+  pub went_on : AllContinue (answers s.kept.exchanges)
+  pub no_quit : s.quit ≡ None
+  pub room : HasRoom 1 s.kept
+
+-- It found no memory.
+pub record HasFailed {B : Type 0} (s : Parts B) : Type 0 where
+  pub next : WillAsk (course_behind s.script.script s.kept.exchanges) (asks s.kept.exchanges) s.printed
+  pub still : s.printed ≡ before_last s
+  pub went_on : AllContinue (answers s.kept.exchanges)
+  pub no_quit : s.quit ≡ None
+  pub room : HasRoom 1 s.kept
+
+-- It has quit, and is to leave.
+pub record HasQuit {B : Type 0} (out : Option Ask) (s : Parts B) : Type 0 where
+  pub next : WillAsk (course_behind s.script.script s.kept.exchanges) (asks s.kept.exchanges) s.printed
+  pub least : IsPrefix (before_last s) s.printed
+  pub went_on : AllContinue (answers s.kept.exchanges)
+  pub quit_is : s.quit ≡ Some (length s.kept.exchanges)
+  pub leave : IfSome out (λ q. q ≡ ask.Leave)
+  pub room : HasRoom 1 s.kept
+
+abbrev pub Holds : {B : Type 0} → (B → EditionNo → Book) → Phase → Option Ask → Parts B → Type 0
+Holds serves phase.Working (Some q) s = Waits serves q s
+Holds serves phase.Working None s = IsAnswered serves s
+Holds serves phase.Failed out s = HasFailed s
+Holds serves phase.Quitting out s = HasQuit out s
+Holds serves phase.Over out s = Follows (progress phase.Over out s)
