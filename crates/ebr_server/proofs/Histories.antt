@@ -1,6 +1,10 @@
 -- Histories with one more entry.
 use Rattle.std.proofs.Common.{◌≡◌, ◌≢◌, List, [], ◌∷◌, ◌++◌, refl, sym, ap, ◌∙◌, subst, append_assoc, append-nil, ◌<◌}
-use Rattle.std.specs.Prelude.{vec_len, vec_capacity}
+use Rattle.std.specs.Prelude.{Option, vec_len, vec_capacity}
+use Rattle.ebr_ast.specs.declared.view.EditionView.{EditionView}
+use Rattle.ebr_calls.specs.Courses.{Continues}
+use Rattle.ebr_session.specs.Has.{IsFit, Suits}
+use Rattle.ebr_units.specs.Served.{served}
 use Rattle.ebr_base.specs.declared.numbers.EditionNo.{EditionNo}
 use Rattle.ebr_asks.specs.declared.ask.Ask.{Ask}
 use Rattle.ebr_asks.specs.declared.ask.Ask.TheVariants.{Leave}
@@ -10,9 +14,9 @@ use Rattle.ebr_asks.specs.declared.entry.Entry.{Entry}
 use Rattle.ebr_server.specs.declared.engine.Engine.{Engine}
 use Rattle.ebr_server.specs.Records.{catalogue_of}
 use Rattle.ebr_server.specs.Machine.{Database, Session, Reply, the_session, start}
-use Rattle.ebr_server.specs.History.{After, Legal, Answered, GoesOn, IsLive, next}
-use Rattle.ebr_server.specs.inside.Engine.{IsOpen, Answers, HasOrder, IsNoFault, IsSpelled, Keeps, LeavesReply, ForHeld, entries, entry_of}
-use Rattle.ebr_server.proofs.Replies.{IsReply, is_reply, reply_order, in_edition}
+use Rattle.ebr_server.specs.History.{After, Legal, Answered, IsLive, next}
+use Rattle.ebr_server.specs.inside.Engine.{IsOpen, Answers, ComesWith, IsNoFault, Keeps, LeavesReply, ForHeld, entries, entry_of}
+use Rattle.ebr_server.proofs.Replies.{IsReply, is_reply, reply_suits, in_edition}
 
 pub After-append : (db : Database) (h : List Entry) (x : Entry) → After db (h ++ x ∷ []) ≡ next (After db h) x
 After-append db [] x = refl
@@ -38,20 +42,21 @@ one_entry old mid new ask answer copy added same is =
     added ∙ ap (λ h. h ++ entry_of ask copy ∷ []) same ∙ ap (λ x. old ++ entry_of ask x ∷ []) is
 
 -- An answer after which the session goes on is neither want of memory nor a fault.
-no_want : (x : Answer) → GoesOn x → x ≢ NoMemory
-no_want x on is = subst GoesOn is on
+no_want : (x : Answer) → Continues x → x ≢ NoMemory
+no_want x on is = subst Continues is on
 
-no_fault_on : (x : Answer) → GoesOn x → IsNoFault x
+no_fault_on : (x : Answer) → Continues x → IsNoFault x
 no_fault_on DiskFault on = absurd on
 no_fault_on x on = tt
 
 -- What the engine has done where it answered without want of memory.
-pub record HasReplied (old new : Engine) (ask : Ask) (answer : Answer) : Type 0 where
+pub record HasReplied (old new : Engine) (ask : Ask) (answer : Answer) (book : Option EditionView) : Type 0 where
   pub entry : entries new ≡ entries old ++ entry_of ask answer ∷ []
+  pub comes : ComesWith ask answer book
   pub reply : ForHeld old.current (λ c e. LeavesReply ask new.current answer c e)
   pub room : ask ≢ Leave → vec_len new.history < vec_capacity new.history
 
-module _ (old new : Engine) (ask : Ask) (answer : Answer) (h : IsOpen old) (r : HasReplied old new ask answer) where
+module _ (old new : Engine) (ask : Ask) (answer : Answer) (book : Option EditionView) (h : IsOpen old) (r : HasReplied old new ask answer book) where
   abbrev db : Database
   db = After start (entries old)
 
@@ -76,14 +81,14 @@ module _ (old new : Engine) (ask : Ask) (answer : Answer) (h : IsOpen old) (r : 
   legal_by : answer ≢ NoMemory → answer ≡ (Reply db the_session ask).answer → Legal start (entries new)
   legal_by memory same = subst (Legal start) (append-nil (entries new)) (goes_on memory same [] tt)
 
-  replied : ask ≢ Leave → IsSpelled ask → IsReply new.current answer (Reply db the_session ask)
-  replied stays spells = subst (λ d. IsReply new.current answer (Reply d the_session ask)) (sym is_db) (is_reply new.current answer db.records e ask stays spells left)
+  replied : ask ≢ Leave → IsFit ask → IsReply new.current answer (Reply db the_session ask)
+  replied stays fit = subst (λ d. IsReply new.current answer (Reply d the_session ask)) (sym is_db) (is_reply new.current answer db.records e ask stays fit left)
 
-  answers_stays : ask ≢ Leave → IsSpelled ask → Answers old new ask answer
-  answers_stays stays spells = let is = replied stays spells in record {
+  answers_stays : ask ≢ Leave → IsFit ask → Answers old new ask answer book
+  answers_stays stays fit = let is = replied stays fit in record {
     entry = r.entry;
     legal = legal_by (no_want answer is.goes_on) is.answer_is;
-    order = reply_order new.current answer (catalogue_of db.records) e ask left;
+    suits = reply_suits new.current answer book (catalogue_of db.records) e ask left r.comes;
     no_fault = no_fault_on answer is.goes_on;
     leaves = λ same. absurd (stays same);
     stays_open = λ memory stays. record {
@@ -93,15 +98,15 @@ module _ (old new : Engine) (ask : Ask) (answer : Answer) (h : IsOpen old) (r : 
     };
   }
 
-answers_leave : (old new : Engine) (answer : Answer) (h : IsOpen old) (r : HasReplied old new Leave answer) → Answers old new Leave answer
-answers_leave old new answer h r =
-    let done : answer ≡ Done = (left old new Leave answer h r).answer_is in
+answers_leave : (old new : Engine) (answer : Answer) (book : Option EditionView) (h : IsOpen old) (r : HasReplied old new Leave answer book) → Answers old new Leave answer book
+answers_leave old new answer book h r =
+    let done : answer ≡ Done = (left old new Leave answer book h r).answer_is in
     let same : answer ≡ (Reply (After start (entries old)) the_session Leave).answer =
-    done ∙ ap (λ d. (Reply d the_session Leave).answer) (sym (is_db old new Leave answer h r)) in
+    done ∙ ap (λ d. (Reply d the_session Leave).answer) (sym (is_db old new Leave answer book h r)) in
     record {
       entry = r.entry;
-      legal = legal_by old new Leave answer h r (λ is. by_done (sym done ∙ is)) same;
-      order = subst HasOrder (sym done) tt;
+      legal = legal_by old new Leave answer book h r (λ is. by_done (sym done ∙ is)) same;
+      suits = subst (λ x. Suits (λ v e. served v) x book) (sym done) tt;
       no_fault = subst IsNoFault (sym done) tt;
       leaves = λ is. done;
       stays_open = λ memory stays. absurd (stays refl);
@@ -110,6 +115,6 @@ answers_leave old new answer h r =
     by_done : Done ≡ NoMemory → ⊥
     by_done is = cc
 
-pub answers : (old new : Engine) (ask : Ask) (answer : Answer) → IsOpen old → IsSpelled ask → HasReplied old new ask answer → Answers old new ask answer
-answers old new Leave answer h spells r = answers_leave old new answer h r
-answers old new ask answer h spells r = answers_stays old new ask answer h r (λ is. cc) spells
+pub answers : (old new : Engine) (ask : Ask) (answer : Answer) (book : Option EditionView) → IsOpen old → IsFit ask → HasReplied old new ask answer book → Answers old new ask answer book
+answers old new Leave answer book h fit r = answers_leave old new answer book h r
+answers old new ask answer book h fit r = answers_stays old new ask answer book h r (λ is. cc) fit

@@ -4,9 +4,6 @@ pub mod Histories
 pub mod ReadBytes
 pub mod Additions
 pub mod Outputs
-pub mod Runs
-pub mod Steps
-pub mod Pieces
-pub mod Ends
+pub mod Turns
 pub mod Outcomes
 pub mod NextViews

@@ -9,7 +9,7 @@ use Rattle.ebr_ast.specs.declared.definition.Definition.{Definition}
 use Rattle.ebr_ast.specs.declared.definition.Definition.TheVariants.{CreateObject}
 use Rattle.ebr_check.specs.Verdict.{is_valid}
 use Rattle.ebr_server.specs.Machine.{answer_in, creation_answer}
-use Rattle.ebr_server.specs.History.{GoesOn}
+use Rattle.ebr_calls.specs.Courses.{Continues}
 use Rattle.ebr_cross.specs.declared.catalogue.Catalogue.{Catalogue}
 use Rattle.ebr_cross.specs.declared.record.CatalogueRecord.{CatalogueRecord}
 use Rattle.ebr_cross.specs.Catalogue.{Lists, HaveOwnKeys, IsViewOf, View, kept}
@@ -44,10 +44,10 @@ order_in v (CreateObject replace u) = by (is_valid v u)
     by false = tt
 order_in v what = tt
 
-pub goes_on_in : (v : EditionView) (what : Definition) → GoesOn (answer_in v what)
+pub goes_on_in : (v : EditionView) (what : Definition) → Continues (answer_in v what)
 goes_on_in v (CreateObject replace u) = by (is_valid v u)
   where
-    by : (b : Bool) → GoesOn (creation_answer b)
+    by : (b : Bool) → Continues (creation_answer b)
     by true = tt
     by false = tt
 goes_on_in v what = tt

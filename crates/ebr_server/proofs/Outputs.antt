@@ -1,47 +1,110 @@
--- What a worker's bytes say of its output.
-use Rattle.std.proofs.Common.{ℕ, ◌≡◌, ◌+◌, ◌-◌, ◌≤◌, List, [], ◌++◌, length, take, drop, Option, Err, arith, refl, sym, ◌∙◌, ap, subst, append_assoc, append-nil}
+-- What a worker's fields say of its work.
+use Rattle.std.proofs.Common.{ℕ, ◌≡◌, ◌+◌, ◌-◌, ◌≤◌, Bool, true, false, List, [], ◌++◌, length, take, drop, Option, Some, None, Result, Ok, Err, arith, refl, sym, ◌∙◌, ap, subst, append-nil, length-append}
+use Rattle.std.specs.Prelude.{IfSome, if◌then◌else◌}
+use Rattle.std.specs.Bool.{OnTrue, OnFalse}
 use Rattle.std.proofs.Math.Seq.{take-add}
-use Rattle.std.proofs.lemmas.List.{take-append-drop, take-append-le, drop-append-le}
-use Rattle.ebr_server.specs.declared.worker.Halt.TheVariants.{NoMemory}
-use Rattle.ebr_server.specs.Program.{IsPrefix}
-use Rattle.ebr_server.specs.inside.Output.{Output, WritesOn, Prints, PrintsPart}
+use Rattle.std.proofs.lemmas.List.{take-append-drop, take-append-le, take_all}
+use Rattle.ebr_base.specs.declared.clone_in.NoMemory.{NoMemory}
+use Rattle.ebr_ast.specs.declared.view.EditionView.{EditionView}
+use Rattle.ebr_outside.specs.Faults.{Rises}
+use Rattle.ebr_outside.specs.Sink.{appended}
+use Rattle.ebr_asks.specs.declared.ask.Ask.{Ask}
+use Rattle.ebr_asks.specs.declared.answer.Answer.{Answer}
+use Rattle.ebr_session.specs.declared.next.NextAsk.{NextAsk}
+use Rattle.ebr_session.specs.declared.next.NextAsk.TheVariants as next
+use Rattle.ebr_session.specs.Has.{Advances, Follows, IsPrefix, Progress, answered, ends, quitting}
+use Rattle.ebr_server.specs.declared.engine.Engine.{Engine}
+use Rattle.ebr_server.specs.declared.exit.ExitCode.{ExitCode}
+use Rattle.ebr_server.specs.inside.Engine.{Answers}
+use Rattle.ebr_server.specs.inside.Work.{Work}
+use Rattle.ebr_server.specs.inside.Worker.{Advanced, Asked, Flushed, code_of}
 
--- the output of bytes of which so many are written
-abbrev pub output : ℕ → List ℕ → Option (List ℕ) → ℕ → Output
-output w p held faults = record { written = take w p; pending = drop w p; held = held; faults = faults }
+-- a session of whose printed bytes so many are written
+abbrev pub work : Progress → ℕ → Option (List ℕ) → ℕ → Work
+work s n held faults = record { session = s; written = take n s.printed; held = held; faults = faults }
 
-part_at : (w : ℕ) (p more t : List ℕ) (held : Option (List ℕ)) (faults : ℕ) → w ≤ length p → IsPrefix more t → PrintsPart t (output w p held faults) (output w (p ++ more) held faults)
-part_at w p more t held faults within first = record {
-  part = drop w p ++ more;
-  first = subst (λ z. IsPrefix (drop w p ++ more) (drop w p ++ z)) (sym first.whole) (record { rest = first.rest; whole = sym (append_assoc (drop w p) more first.rest) });
-  is = ap (λ xs. record { written = xs; pending = drop w (p ++ more); held = held; faults = faults }) (take-append-le w p more within)
-      ∙ ap (λ xs. record { written = take w p; pending = xs; held = held; faults = faults }) (drop-append-le w p more within);
-}
+prefix_same : (p q : List ℕ) → p ≡ q → IsPrefix p q
+prefix_same p q same = record { rest = []; whole = sym (append-nil q) ∙ ap (λ xs. xs ++ []) (sym same) }
 
--- Only the first bytes of a text were printed.
-pub prints_part : (o : Output) (w : ℕ) (p p' more t : List ℕ) (held : Option (List ℕ)) (faults : ℕ) → output w p held faults ≡ o → w ≤ length p → p' ≡ p ++ more → IsPrefix more t
-    → Prints (Err NoMemory) t o (output w p' held faults)
-prints_part o w p p' more t held faults view within grown first =
-    subst (λ x. PrintsPart t x (output w p' held faults)) view
-    (subst (λ bytes. PrintsPart t (output w p held faults) (output w bytes held faults)) (sym grown) (part_at w p more t held faults within first))
+-- a session that goes on prints more
+printed_more : (r : Result NextAsk NoMemory) (s t : Progress) → Advances r s t → IsPrefix s.printed t.printed
+printed_more (Ok (next.Ask q)) s t a = a.more
+printed_more (Ok next.Done) s t a = prefix_same _ _ (ap (λ (x : Progress). x.printed) (sym a.1))
+printed_more (Err m) s t a = prefix_same _ _ (ap (λ (x : Progress). x.printed) (sym a.2))
 
-pub nothing_of : (t : List ℕ) → IsPrefix [] t
-nothing_of t = record { rest = t; whole = refl }
+part_same : (n : ℕ) (p q : List ℕ) → IsPrefix p q → n ≤ length p → take n q ≡ take n p
+part_same n p q more within = ap (take n) more.whole ∙ take-append-le n p more.rest within
 
-pub first_of : (xs ys : List ℕ) → IsPrefix xs (xs ++ ys)
-first_of xs ys = record { rest = ys; whole = refl }
+-- What was written stays so, and within what was printed.
+pub written_same : (r : Result NextAsk NoMemory) (s t : Progress) (n : ℕ) → Advances r s t → n ≤ length s.printed → take n t.printed ≡ take n s.printed
+written_same r s t n a within = part_same n s.printed t.printed (printed_more r s t a) within
 
-pub as_before : (p p' : List ℕ) → p' ≡ p → p' ≡ p ++ []
-as_before p p' same = same ∙ sym (append-nil p)
+pub written_within : (r : Result NextAsk NoMemory) (s t : Progress) (n : ℕ) → Advances r s t → n ≤ length s.printed → n ≤ length t.printed
+written_within r s t n a within =
+    let more : IsPrefix s.printed t.printed = printed_more r s t a in
+    let grown : length t.printed ≡ length s.printed + length more.rest = ap length more.whole ∙ length-append s.printed more.rest in
+    omega (arith, grown, within)
+
+pub advanced : (r : Result NextAsk NoMemory) (o : Work) (s t : Progress) (n : ℕ) (held : Option (List ℕ)) (faults : ℕ) → work s n held faults ≡ o → n ≤ length s.printed → Advances r s t → Follows t
+    → Advanced r o (work t n held faults)
+advanced r o s t n held faults view within a f =
+    let same : take n t.printed ≡ take n s.printed = written_same r s t n a within in
+    let did : Advanced r (work s n held faults) (work t n held faults) = record {
+      advances = a;
+      follows = f;
+      same = ap (λ bytes. record { session = t; written = bytes; held = held; faults = faults }) same;
+    } in
+    subst (λ x. Advanced r x (work t n held faults)) view did
+
+-- What the sink holds is what was written.
+pub held_written : (p q : List ℕ) (n m : ℕ) (held held' : Option (List ℕ)) → q ≡ p → n ≤ m → IfSome held (λ bytes. bytes ≡ take n p) → held' ≡ appended held (take (m - n) (drop n q)) → IfSome held' (λ bytes. bytes ≡ take m p)
+held_written p q n m None held' same onward was now = subst (λ h. IfSome h (λ bytes. bytes ≡ take m p)) (sym now) tt
+held_written p q n m (Some bytes) held' same onward was now =
+    let at : n + (m - n) ≡ m = omega (arith, onward) in
+    let whole : bytes ++ take (m - n) (drop n q) ≡ take m p =
+    ap (λ xs. xs ++ take (m - n) (drop n q)) was ∙ ap (λ xs. take n p ++ take (m - n) (drop n xs)) same ∙ sym (take-add n (m - n) p) ∙ ap (λ k. take k p) at in
+    subst (λ h. IfSome h (λ bytes. bytes ≡ take m p)) (sym now) whole
 
 -- More bytes were written.
-pub writes_on : (o : Output) (w w' : ℕ) (p : List ℕ) (held held' : Option (List ℕ)) (faults faults' : ℕ) → output w p held faults ≡ o → w ≤ w' → faults ≤ faults'
-    → WritesOn o (output w' p held' faults')
-writes_on o w w' p held held' faults faults' view onward counted =
-    let at : w + (w' - w) ≡ w' = omega (arith, onward) in
-    let on : WritesOn (output w p held faults) (output w' p held' faults') = record {
-      same = take-append-drop w' p ∙ sym (take-append-drop w p);
-      grown = record { rest = take (w' - w) (drop w p); whole = ap (λ k. take k p) (sym at) ∙ take-add w (w' - w) p };
+pub flushed : (all : Bool) (o : Work) (s : Progress) (n m : ℕ) (held held' : Option (List ℕ)) (faults faults' : ℕ) → work s n held faults ≡ o → n ≤ m → faults ≤ faults'
+    → OnTrue all (length s.printed ≤ m) → OnFalse all (Rises faults faults') → Flushed all o (work s m held' faults')
+flushed all o s n m held held' faults faults' view onward counted whole failed =
+    let at : n + (m - n) ≡ m = omega (arith, onward) in
+    let did : Flushed all (work s n held faults) (work s m held' faults') = record {
+      session = refl;
+      grown = record { rest = take (m - n) (drop n s.printed); whole = ap (λ k. take k s.printed) (sym at) ∙ take-add n (m - n) s.printed };
+      part = record { rest = drop m s.printed; whole = sym (take-append-drop m s.printed) };
       counted = counted;
+      whole = all_of all whole;
+      failed = failed;
     } in
-    subst (λ x. WritesOn x (output w' p held' faults')) view on
+    subst (λ x. Flushed all x (work s m held' faults')) view did
+  where
+    all_of : (all : Bool) → OnTrue all (length s.printed ≤ m) → OnTrue all (take m s.printed ≡ s.printed)
+    all_of true within = take_all m s.printed within
+    all_of false within = tt
+
+-- The session took an answer.
+pub asked : (q : Ask) (x : Answer) (book : Option EditionView) (over : Bool) (o : Work) (s t : Progress) (n : ℕ) (held : Option (List ℕ)) (faults : ℕ) (e e' : Engine) (c : ExitCode)
+    → work s n held faults ≡ o → s.out ≡ Some q → t ≡ answered s.out x s → Follows t → Answers e e' q x book → c ≡ code_of x → over ≡ t.ended
+    → Asked q (if over then Some c else None) o (work t n held faults) e e'
+asked q x book over o s t n held faults e e' c view out took f answers is_code ended =
+    let is : t ≡ answered (Some q) x s = took ∙ ap (λ out. answered out x s) out in
+    let did : Asked q (if over then Some c else None) (work s n held faults) (work t n held faults) e e' = record {
+      answer = x;
+      book = book;
+      answers = answers;
+      took = ap (λ u. work u n held faults) is;
+      follows = f;
+      ends = ap (λ b. if b then Some c else None) (ended ∙ ap (λ (u : Progress). u.ended) is) ∙ ap (λ d. if ends q x then Some d else None) is_code;
+    } in
+    subst (λ w. Asked q (if over then Some c else None) w (work t n held faults) e e') view did
+
+-- The session dropped its ask.
+pub quits : (o : Work) (s t : Progress) (n : ℕ) (held : Option (List ℕ)) (faults : ℕ) → work s n held faults ≡ o → t ≡ quitting s.ended s → work t n held faults ≡ record o { session = quitting o.session.ended o.session }
+quits o s t n held faults view is =
+    subst (λ (w : Work). work t n held faults ≡ record w { session = quitting w.session.ended w.session }) view (by s.ended is)
+  where
+    by : (b : Bool) → t ≡ quitting b s → work t n held faults ≡ record (work s n held faults) { session = quitting b s }
+    by true is = ap (λ u. work u n held faults) is
+    by false is = ap (λ u. work u n held faults) is

@@ -31,10 +31,8 @@ use Rattle.ebr_columns.specs.Columns.{column_type}
 use Rattle.ebr_cross.specs.Definitions as spec
 use Rattle.ebr_cross.specs.Kinds.{kind_of, name_of, key_of}
 use Rattle.ebr_cross.specs.Records.{with_record}
-use Rattle.ebr_script.specs.Pieces.{stored_definition}
-use Rattle.ebr_asks.specs.declared.ask.Ask.TheVariants.{Ddl}
+use Rattle.ebr_script.specs.Pieces.{CreatesObject, stored_definition}
 use Rattle.ebr_server.specs.Records.{Record, Object as ObjectRecord, Edition, EditionGone, Default, Gone, PackageGone, Table, Column, TableGone, record_of, with_named, with_stored, after_record, catalogue_of}
-use Rattle.ebr_server.specs.inside.Engine.{IsSpelled}
 
 pub catalogue_of-append : (records : List Record) (r : Record) → catalogue_of (records ++ r ∷ []) ≡ after_record (catalogue_of records) r
 catalogue_of-append records r = fold-append after_record first_lists records (r ∷ [])
@@ -231,7 +229,7 @@ created c e replace u text None name r spells kind_is name_is is = cc
 
 -- whatever a definition leaves
 pub reads_back : (c : Lists) (e : EditionNo) (sessions : List EditionNo) (what : Definition) (text : List ℕ) (r : CatalogueRecord)
-    → AreSpelled c.entries → IsSpelled (Ddl what text) → spec.outcome c e sessions what text ≡ Ok r → ReadsBack c r
+    → AreSpelled c.entries → (CreatesObject what → stored_definition text ≡ Some what) → spec.outcome c e sessions what text ≡ Ok r → ReadsBack c r
 reads_back c e sessions (definition.CreateEdition name parent) text r all spells is =
     recorded c (λ d. made.Edition name (spec.parent_in c parent)) (λ d. refl) (create_answer c.editions.made name parent) r is
 reads_back c e sessions (definition.DropEdition name cascade) text r all spells is = dropped c sessions cascade (drop_answer c.editions.made name) r is

@@ -1,7 +1,6 @@
 -- Histories: the asks of all sessions in one order, with their answers.
 use Rattle.std.specs.Prelude.{◌≡◌, ◌==◌, Bool, IsSome, List, [], ◌∷◌, map, filter}
 use Rattle.ebr_base.specs.declared.numbers.SessionId.{SessionId}
-use Rattle.ebr_asks.specs.declared.ask.Ask.{Ask}
 use Rattle.ebr_asks.specs.declared.ask.Ask.TheVariants.{Leave}
 use Rattle.ebr_asks.specs.declared.answer.Answer.{Answer}
 use Rattle.ebr_asks.specs.declared.answer.Answer.TheVariants.{DiskFault, NoMemory, Stopped}
@@ -25,13 +24,6 @@ IsLive db s = IsSome (session_edition db s)
 abbrev pub AllStopped : Database → List Entry → Type 0
 AllStopped db [] = Unit {0}
 AllStopped db (x ∷ history) = IsLive db x.session × (x.ask ≡ Leave) × (x.answer ≡ Stopped) × AllStopped (next db x) history
-
--- an answer after which the session goes on
-abbrev pub GoesOn : Answer → Type 0
-GoesOn DiskFault = ⊥
-GoesOn NoMemory = ⊥
-GoesOn Stopped = ⊥
-GoesOn answer = Unit {0}
 
 -- an answer after which the session has ended
 abbrev pub EndsRun : Answer → Type 0
@@ -61,14 +53,3 @@ exchange x = record { ask = x.ask; answer = x.answer }
 -- what one session sees of a history
 abbrev pub Mine : List Entry → SessionId → List Exchange
 Mine history s = map exchange (filter (is_of s) history)
-
-abbrev pub asks : List Exchange → List Ask
-asks = map (λ x. x.ask)
-
-abbrev pub answers : List Exchange → List Answer
-answers = map (λ x. x.answer)
-
--- The session went on after each of its answers.
-abbrev pub AllGoOn : List Exchange → Type 0
-AllGoOn [] = Unit {0}
-AllGoOn (x ∷ mine) = GoesOn x.answer × AllGoOn mine

@@ -91,7 +91,8 @@ edition_set (Err code) db s x = refused db code
 abbrev pub left : Database → SessionId → Session → Replied
 left db s x = unchanged (with_session db s (record x { edition = None })) Done
 
--- The reply to a session in its edition. What no session asks yet is refused.
+-- The reply to a session in its edition. Rows and transactions aren't there yet: what asks for them is refused, and code may
+-- catch that.
 abbrev pub reply_in : EditionNo → Database → SessionId → Session → Ask → Replied
 reply_in e db s x Begin = unchanged db (View (catalogue.View (catalogue_of db.records) e))
 reply_in e db s x (Ddl what text) = defined db e what (outcome (catalogue_of db.records) e (editions_in_use db.sessions) what text)

@@ -1,5 +1,5 @@
 -- The program: its words, what it prints last, and what it serves.
-use Rattle.std.specs.Prelude.{ℕ, zero, suc, ◌≡◌, ◌≢◌, Bool, true, false, not, ◌&&◌, if◌then◌else◌, List, [], ◌∷◌, ◌++◌, length, take, codes, Option, Some, None, IfSome, slice_get, unwrap_or, ◌⊎◌, option_and_then}
+use Rattle.std.specs.Prelude.{ℕ, ◌≡◌, ◌≢◌, Bool, true, false, not, ◌&&◌, if◌then◌else◌, List, [], ◌∷◌, ◌++◌, length, codes, Option, Some, None, IfSome, slice_get, unwrap_or, ◌⊎◌, option_and_then}
 use Rattle.std.specs.Str.{bytes_eq}
 use Rattle.ebr_server.specs.declared.exit.ExitCode.{ExitCode}
 use Rattle.ebr_server.specs.declared.exit.ExitCode.TheVariants as code
@@ -9,9 +9,12 @@ use Rattle.ebr_asks.specs.declared.answer.Answer.{Answer}
 use Rattle.ebr_asks.specs.declared.answer.Answer.TheVariants.{Done, DiskFault}
 use Rattle.ebr_asks.specs.declared.entry.Entry.{Entry}
 use Rattle.ebr_asks.specs.declared.entry.Exchange.{Exchange}
+use Rattle.ebr_calls.specs.Steps.{Ended, line_of}
+use Rattle.ebr_calls.specs.Courses.{AllContinue}
+use Rattle.ebr_session.specs.Has.{IsPrefix, answers, asks, printed_before}
+use Rattle.ebr_session.specs.Sessions.{SessionRun, Printed}
 use Rattle.ebr_server.specs.Machine.{the_session}
-use Rattle.ebr_server.specs.History.{Mine, asks, answers, EndsRun, AllGoOn}
-use Rattle.ebr_server.specs.Sessions.{SessionRun, Printed, Ended, line_of}
+use Rattle.ebr_server.specs.History.{Mine, EndsRun}
 
 abbrev pub is_empty : List ℕ → Bool
 is_empty [] = true
@@ -41,15 +44,11 @@ last_line code.SinkFault words = []
 last_line code.NoMemory words = line_of (codes "out of memory")
 last_line (code.TooLong at) words = line_of (codes "too long: " ++ word_at words at)
 
-pub record IsPrefix (xs ys : List ℕ) : Type 0 where
-  pub rest : List ℕ
-  pub whole : ys ≡ xs ++ rest
-
 -- A session left: it went on after each answer before, and its last one is Done, to Leave.
 pub record HasLeft (mine : List Exchange) : Type 0 where
   pub before : List Exchange
   pub last : mine ≡ before ++ record { ask = Leave; answer = Done } ∷ []
-  pub went_on : AllGoOn before
+  pub went_on : AllContinue (answers before)
 
 -- A session's exchanges are just those of its run for the answers that it was given, and this is what the run prints.
 -- With `quit` it quits after so many of them.
@@ -64,10 +63,6 @@ pub record RanToEnd (script : List ℕ) (mine : List Exchange) (replies : List �
   pub ran : Ran script mine None replies
 
 -- what a script prints for all answers but the last; nothing where there is none
-abbrev pub printed_before : List ℕ → List Answer → ℕ → List ℕ
-printed_before script given zero = []
-printed_before script given (suc n) = Printed script (take n given)
-
 abbrev pub printed_before_last : List ℕ → List Answer → List ℕ
 printed_before_last script given = printed_before script given (length given)
 
@@ -85,7 +80,7 @@ pub record RanOut (script : List ℕ) (mine : List Exchange) (replies : List ℕ
   pub ask : Ask
   pub answer : Answer
   pub last : mine ≡ before ++ record { ask = ask; answer = answer } ∷ []
-  pub went_on : AllGoOn before
+  pub went_on : AllContinue (answers before)
   pub ends : EndsRun answer
   pub no_fault : answer ≢ DiskFault
   pub ran : Ran script mine None replies

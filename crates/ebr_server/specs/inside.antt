@@ -1,5 +1,5 @@
 pub mod Engine
 pub mod Reading
 pub mod Report
-pub mod Output
+pub mod Work
 pub mod Worker

@@ -7,7 +7,7 @@ ghost use Rattle.ebr_server.specs.Machine.{start};
 ghost use Rattle.ebr_server.specs.History.{Legal};
 ghost use Rattle.ebr_server.specs.Program.{script_word, script_bytes, Tried, Served, StopsTooLong, IsComplete, HasRun};
 
-use crate::engine::Engine;
+use crate::engine::{Engine, SESSION};
 use crate::exit::ExitCode;
 use crate::read::{MAX_SCRIPT, ReadErr, read_script};
 use crate::report::write_last_line;
@@ -15,6 +15,7 @@ use crate::worker::Worker;
 use ebr_asks::Entry;
 use ebr_base::{Bytes, List};
 use ebr_outside::{Host, HostErr, Sink};
+use ebr_session::Session;
 use std::alloc::Global;
 
 /// What a run hands back.
@@ -71,14 +72,14 @@ fn run_session<C: Drop, R: Sink>(alloc: Global, script: &[u8], report: R) -> Out
     ensures counted { R.faults report ≤ R.faults result.report }
     ensures failed { result.code ≡ ExitCode.SinkFault → Rises (R.faults report) (R.faults result.report) }
 {
-    let Ok(pieces) = ebr_script::pieces(alloc, script) else {
+    let Ok(session) = Session::new(alloc, SESSION, script) else {
         return stopped(alloc, ExitCode::NoMemory, None, report);
     };
     let Ok(mut engine) = Engine::start(alloc) else {
         return stopped(alloc, ExitCode::NoMemory, None, report);
     };
-    let mut worker = Worker::new(alloc, report);
-    let code = worker.run(alloc, &mut engine, script, pieces.into_vec());
+    let mut worker = Worker::new(session, report);
+    let code = worker.run(&mut engine);
     Outcome {
         code,
         source: None,

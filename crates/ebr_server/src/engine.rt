@@ -1,25 +1,30 @@
 //! The engine: it answers one ask at a time, and keeps the history of all of them.
 
 ghost use Rattle.std.specs.Prelude.{◌≡◌, ◌≢◌, ◌<◌, ◌≤◌, ◌+◌, [], ◌∷◌, ◌++◌, IfOk, IfSome, OnOk, OnErr, IsOk, vec_len, vec_capacity};
+ghost use Rattle.ebr_ast.specs.Views.{IsInOrder};
 ghost use Rattle.ebr_check.specs.Verdict.{is_valid};
 ghost use Rattle.ebr_cross.specs.Catalogue.{Lists, HaveOwnKeys, IsViewOf, View, first_lists, kept};
 ghost use Rattle.ebr_cross.specs.Definitions.{outcome, set_edition};
 ghost use Rattle.ebr_cross.specs.Records.{with_record};
 ghost use Rattle.ebr_editions.specs.Editions.{first_edition};
 ghost use Rattle.ebr_server.specs.Machine.{answer_in, creation_answer};
-ghost use Rattle.ebr_server.specs.inside.Engine.{ForHeld, Holds, IsHeld, LeavesDefined, LeavesReply, LeavesSet};
-ghost use Rattle.ebr_asks.specs.declared.answer.Answer.TheVariants.{Refused};
+ghost use Rattle.ebr_server.specs.inside.Engine.{ComesWith, ForHeld, Holds, IsBookOf, IsHeld, Leaves, LeavesDefined, LeavesReply, LeavesSet};
+ghost use Rattle.ebr_asks.specs.declared.answer.Answer.TheVariants.{Refused, View as view_answer};
 ghost use Rattle.ebr_asks.specs.declared.ask.Ask.TheVariants.{Leave};
 
-use crate::checks::passes;
 use ebr_asks::{Answer, Ask, Entry};
 use ebr_ast::{Definition, EditionView, UnitTree};
 use ebr_base::{Bytes, CloneIn, Code, EditionNo, List, Name, NoMemory, SessionId, Shared, Stop};
+use ebr_check::check;
 use ebr_cross::{Catalogue, CatalogueRecord, view_after, view_of};
+use ebr_units::{Book, Units};
 use std::alloc::Global;
 
 /// The one session.
-const SESSION: SessionId = SessionId(1);
+pub const SESSION: SessionId = SessionId(1);
+
+/// What is answered, and with a view the book of what it shows.
+pub type Given = (Answer, Option<Shared<Book>>);
 
 /// The catalogue, and where the one session stands in it.
 #[derive(Drop)]
@@ -27,8 +32,10 @@ struct Current {
     catalogue: Catalogue,
     /// The session's edition.
     edition: EditionNo,
-    /// All that the session's edition sees, where a call has asked for it since that changed.
+    /// All that the session's edition sees, where it was asked for since that changed.
     view: Option<Shared<EditionView>>,
+    /// The compiled units.
+    units: Units,
 }
 
 /// The edition machine with its one session. Every answer makes one entry in its history.
@@ -40,7 +47,8 @@ pub struct Engine {
 }
 
 impl Engine {
-    ghost use Rattle.ebr_server.specs.inside.Engine.{IsOpen, Answers, IsSpelled, entries, entry_of};
+    ghost use Rattle.ebr_session.specs.Has.{IsFit};
+    ghost use Rattle.ebr_server.specs.inside.Engine.{IsOpen, Answers, entries, entry_of};
 
     /// An engine with an empty database, whose session is live.
     pub fn start(alloc: Global) -> Result<Engine, NoMemory>
@@ -56,43 +64,44 @@ impl Engine {
         })
     }
 
-    /// Answers one ask of the session. Room for one last entry is kept, so that each ask has its entry, and Leave takes
-    /// no memory.
-    pub fn answer(&mut self, ask: Ask) -> Answer
+    /// Answers one ask of the session, and hands out the book with a view. Room for one last entry is kept, so that each
+    /// ask has its entry, and Leave takes no memory.
+    pub fn answer(&mut self, ask: Ask) -> Given
         requires open { IsOpen self.old }
-        requires spelled { IsSpelled ask }
-        ensures { Answers self.old self.new ask result }
+        requires fit { IsFit ask }
+        ensures { Answers self.old self.new ask result.0 result.1 }
     {
         match self.try_reply(&ask) {
-            Ok((answer, copy)) => {
+            Ok((given, copy)) => {
                 self.add_entry(ask, copy);
-                answer
+                given
             }
             Err(NoMemory) => {
                 self.add_entry(ask, Answer::NoMemory);
-                Answer::NoMemory
+                (Answer::NoMemory, None)
             }
         }
     }
 
     /// Replies to the ask, with a copy of the answer for the history, and for every ask but Leave makes room for its entry
     /// and a last one.
-    fn try_reply(&mut self, ask: &Ask) -> Result<(Answer, Answer), NoMemory>
+    fn try_reply(&mut self, ask: &Ask) -> Result<(Given, Answer), NoMemory>
         requires { IsHeld self.old.current }
         ensures history { entries self.new ≡ entries self.old }
-        ensures reply { ForHeld self.old.current (λ c e. IfOk result (λ pair. LeavesReply ask.now self.new.current pair.0 c e)) }
-        ensures copy { IfOk result (λ pair. pair.1 ≡ pair.0) }
+        ensures reply { ForHeld self.old.current (λ c e. IfOk result (λ pair. LeavesReply ask.now self.new.current pair.0.0 c e)) }
+        ensures book { IfOk result (λ pair. ComesWith ask.now pair.0.0 pair.0.1) }
+        ensures copy { IfOk result (λ pair. pair.1 ≡ pair.0.0) }
         ensures room { ask.now ≢ Leave
             → OnOk result (vec_len self.new.history + 2 ≤ vec_capacity self.new.history) }
         ensures leave { ask.now ≡ Leave → IsOk result }
         ensures capacity { vec_capacity self.old.history ≤ vec_capacity self.new.history }
     {
         if let Ask::Leave = ask {
-            return Ok((Answer::Done, Answer::Done));
+            return Ok(((Answer::Done, None), Answer::Done));
         }
         self.history.reserve(2)?;
-        let answer = reply_to(self.alloc, &mut self.current, ask)?;
-        twice(self.alloc, answer)
+        let given = reply_to(self.alloc, &mut self.current, ask)?;
+        with_copy(self.alloc, given)
     }
 
     /// Adds an entry to the history, where there is room for it.
@@ -127,27 +136,40 @@ fn first_current(alloc: Global) -> Result<Current, NoMemory>
         catalogue: Catalogue::new(alloc)?,
         edition: EditionNo(1),
         view: None,
+        units: Units::new(alloc),
     })
 }
 
 /// Replies to an ask.
-fn reply_to(alloc: Global, current: &mut Current, ask: &Ask) -> Result<Answer, NoMemory>
+fn reply_to(alloc: Global, current: &mut Current, ask: &Ask) -> Result<Given, NoMemory>
     requires { IsHeld current.old }
-    ensures { ForHeld current.old (λ c e. IfOk result (λ answer. LeavesReply ask.now current.new answer c e)) }
+    ensures reply { ForHeld current.old (λ c e. IfOk result (λ given. LeavesReply ask.now current.new given.0 c e)) }
+    ensures book { IfOk result (λ given. ComesWith ask.now given.0 given.1) }
 {
     match ask {
-        Ask::Begin => Ok(Answer::View(view(alloc, current)?)),
-        Ask::Ddl { what, text } => define(alloc, current, what.get(), text.get()),
-        Ask::SetEdition(name) => Ok(switch(alloc, current, name)),
-        Ask::EndCall { .. } | Ask::Leave => Ok(Answer::Done),
+        Ask::Begin => begin(alloc, current),
+        Ask::Ddl { what, text } => Ok((define(alloc, current, what.get(), text.get())?, None)),
+        Ask::SetEdition(name) => Ok((switch(alloc, current, name), None)),
+        Ask::EndCall { .. } | Ask::Leave => Ok((Answer::Done, None)),
         Ask::Sql { .. }
         | Ask::Commit
         | Ask::Rollback
         | Ask::Savepoint(_)
         | Ask::BackTo(_)
         | Ask::PushAuto
-        | Ask::PopAuto { .. } => Ok(refusal(alloc, Code::Ebr(1))),
+        | Ask::PopAuto { .. } => Ok((refusal(alloc, Code::Ebr(1)), None)),
     }
+}
+
+/// Begins a call: all that the session's edition sees, with its book, which serves the call to its end.
+fn begin(alloc: Global, current: &mut Current) -> Result<Given, NoMemory>
+    requires { IsHeld current.old }
+    ensures reply { ForHeld current.old (λ c e. IfOk result (λ given. Leaves current.new given.0 (view_answer (View c e)) c e)) }
+    ensures book { IfOk result (λ given. IsBookOf given.0 given.1) }
+{
+    let view = view(alloc, current)?;
+    let book = current.units.book_of(alloc, &view)?;
+    Ok((Answer::View(view), Some(book)))
 }
 
 /// All that the session's edition sees. It is made once, shared, and after a definition made from the one before.
@@ -177,6 +199,7 @@ fn define(
     match current.catalogue.apply(alloc, e, &[e], what, text) {
         Ok(record) => {
             current.view = next_view(alloc, &current.catalogue, &current.view, &record);
+            current.units.after_ddl(&current.catalogue, &record);
             answer_in(alloc, current, what)
         }
         Err(Stop::Raised(code)) => Ok(refusal(alloc, code)),
@@ -212,6 +235,15 @@ fn creation_answer(
     } else {
         Ok(Answer::Invalid)
     }
+}
+
+/// Whether a unit is valid against what an edition sees.
+fn passes(alloc: Global, view: &EditionView, unit: &UnitTree) -> Result<bool, NoMemory>
+    requires { IsInOrder view.now }
+    ensures { IfOk result (λ valid. valid ≡ is_valid view.now unit.now) }
+{
+    let fault = check(alloc, view, unit)?;
+    Ok(fault.is_none())
 }
 
 /// The view after a definition, where there was one before. Where there is no memory for it, it is made at the next call.
@@ -255,10 +287,10 @@ fn refusal(alloc: Global, code: Code) -> Answer
     }
 }
 
-/// A value with a copy of it.
-fn twice<T: CloneIn>(alloc: Global, value: T) -> Result<(T, T), NoMemory>
-    ensures { IfOk result (λ pair. (pair.0 ≡ value) × (pair.1 ≡ value)) }
+/// A value with what comes with it, and a copy of the value.
+fn with_copy<T: CloneIn, B: Drop>(alloc: Global, given: (T, B)) -> Result<((T, B), T), NoMemory>
+    ensures { IfOk result (λ pair. (pair.0 ≡ given) × (pair.1 ≡ given.0)) }
 {
-    let copy = value.clone_in(alloc)?;
-    Ok((value, copy))
+    let copy = given.0.clone_in(alloc)?;
+    Ok((given, copy))
 }

@@ -4,7 +4,7 @@ ghost use Rattle.std.specs.Prelude.{◌≡◌, ◌++◌, ◌≤◌};
 ghost use Rattle.std.specs.Bool.{OnTrue, OnFalse};
 ghost use Rattle.ebr_outside.specs.Faults.{Rises};
 ghost use Rattle.ebr_outside.specs.Sink.{appended};
-ghost use Rattle.ebr_server.specs.Sessions.{line_of};
+ghost use Rattle.ebr_calls.specs.Steps.{line_of};
 ghost use Rattle.ebr_server.specs.Program.{last_line, word_at};
 ghost use Rattle.ebr_server.specs.inside.Report.{AddsPart};
 

@@ -1,3 +1,3 @@
-pub mod Trees
+pub mod Blocks
 pub mod Valid
 pub mod Replayed

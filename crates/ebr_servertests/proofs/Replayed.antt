@@ -26,12 +26,15 @@ use Rattle.ebr_asks.specs.declared.entry.Entry.{Entry}
 use Rattle.ebr_asks.specs.declared.entry.Exchange.{Exchange}
 use Rattle.ebr_server.specs.Records.{Record, Edition, Object as ObjectRecord, catalogue_of, with_stored}
 use Rattle.ebr_server.specs.Machine.{the_session, start, Session, Database, Replied, Reply, creation_answer, defined, unchanged, edition_set}
-use Rattle.ebr_server.specs.History.{Mine, Legal, Answered, IsLive, GoesOn, AllGoOn, answers, asks}
-use Rattle.ebr_server.specs.Sessions.{SessionRun, Ended, ended, line_of}
+use Rattle.ebr_calls.specs.Steps.{Ended, ended, line_of}
+use Rattle.ebr_calls.specs.Courses.{Continues, AllContinue}
+use Rattle.ebr_session.specs.Has.{answers, asks}
+use Rattle.ebr_session.specs.Sessions.{SessionRun}
+use Rattle.ebr_server.specs.History.{Mine, Legal, Answered, IsLive}
 use Rattle.ebr_server.specs.Program.{RanToEnd}
 use Rattle.ebr_servertests.specs.WorkedScripts.{Gives, Makes, CallsGive, UpgradeGives, procedure, printing, call_of}
-use Rattle.ebr_servertests.proofs.Trees.{printed_line-is, called_name-call}
-use Rattle.ebr_servertests.proofs.Valid.{procedure_is_valid, call_checks}
+use Rattle.ebr_servertests.proofs.Blocks.{a_prints, b_prints, a_prints_next}
+use Rattle.ebr_servertests.proofs.Valid.{made_in, seeing, procedure_is_valid, call_checks}
 
 abbrev exchanged : Ask → Answer → Exchange
 exchanged a x = record { ask = a; answer = x }
@@ -39,7 +42,7 @@ exchanged a x = record { ask = a; answer = x }
 abbrev entry : Ask → Answer → Entry
 entry a x = record { session = the_session; ask = a; answer = x }
 
-answered_so : (x reply : Answer) (on stopped : Type 0) → GoesOn x → x ≡ reply → on → Answered x reply on stopped
+answered_so : (x reply : Answer) (on stopped : Type 0) → Continues x → x ≡ reply → on → Answered x reply on stopped
 answered_so (View v) reply on stopped goes same rest = (same, rest)
 answered_so (Rows rows) reply on stopped goes same rest = (same, rest)
 answered_so (Count n s l) reply on stopped goes same rest = (same, rest)
@@ -51,16 +54,16 @@ answered_so NoMemory reply on stopped goes same rest = absurd goes
 answered_so Stopped reply on stopped goes same rest = absurd goes
 
 -- one ask that the machine answers so
-legal_on : (db db' : Database) (ask : Ask) (x : Answer) (records : List Record) (h : List Entry) → IsLive db the_session → GoesOn x
+legal_on : (db db' : Database) (ask : Ask) (x : Answer) (records : List Record) (h : List Entry) → IsLive db the_session → Continues x
     → Reply db the_session ask ≡ record { database = db'; answer = x; records = records } → Legal db' h → Legal db (entry ask x ∷ h)
 legal_on db db' ask x records h live goes is rest =
     (live, answered_so x _ _ _ goes (sym (ap (λ (r : Replied). r.answer) is)) (subst (λ d. Legal d h) (sym (ap (λ (r : Replied). r.database) is)) rest))
 
 -- a whole script that was run to its end, and what it printed
-ran_so : (script : List ℕ) (h : List Entry) (before : List Exchange) (printed : List ℕ) → Mine h the_session ≡ before ++ record { ask = Leave; answer = Done } ∷ [] → AllGoOn before
-    → SessionRun script (answers (Mine h the_session)) None ≡ ended (record { asks = asks (Mine h the_session); printed = printed; coming = []; quit = None }) Ended
+ran_so : (script : List ℕ) (h : List Entry) (before : List Exchange) (printed : List ℕ) (room : ℕ) → Mine h the_session ≡ before ++ record { ask = Leave; answer = Done } ∷ [] → AllContinue (answers before)
+    → SessionRun script (answers (Mine h the_session)) None ≡ ended (record { asks = asks (Mine h the_session); printed = printed; packages = []; room = room; coming = []; quit = None }) Ended
     → RanToEnd script (Mine h the_session) printed
-ran_so script h before printed last on run = record {
+ran_so script h before printed room last on run = record {
   left = record { before = before; last = last; went_on = on };
   ran = record { asked = ap (λ o. o.state.asks) run; printed_is = ap (λ o. o.state.printed) run; ended = ap (λ o. o.flow) run };
 }
@@ -100,25 +103,11 @@ pub nothing_gives : (script : List ℕ) → pieces_of script ≡ [] → Gives sc
 nothing_gives script pieces = record {
   history = entry Leave Done ∷ [];
   legal = legal_on start (left_from []) Leave Done [] [] refl tt refl tt;
-  ran = ran_so script (entry Leave Done ∷ []) [] [] refl tt (simp pieces);
+  ran = ran_so script (entry Leave Done ∷ []) [] [] 16777216 refl tt (simp pieces);
 }
 
 abbrev first_edition : EditionNo
 first_edition = record { 0 = 1 }
-
--- a procedure of the name A, as the first definition in an edition
-abbrev made_in : EditionNo → List ℕ → List ℕ → Object
-made_in e text line = record {
-  key = unit_key name_a;
-  text = text;
-  tree = unit.Subprogram (record { head = record { name = name_a; parameters = []; result = None }; body = printing line });
-  stamp = record { edition = e; count = 1 };
-  enabled = true;
-}
-
--- what an edition sees where there is one object
-abbrev seeing : EditionNo → Object → EditionView
-seeing e o = record { edition = e; objects = o ∷ []; tables = [] }
 
 -- the catalogue with the first procedure
 abbrev c1 : List ℕ → List ℕ → Lists
@@ -200,8 +189,8 @@ calls_give script p q r pieces made first second =
           (legal_on there there Begin seen [] h5 refl tt (sees_a script p made)
           (legal_on there there (EndCall true) Done [] h6 refl tt refl
           (legal_on there (left_from (r1 script p made)) Leave Done [] [] refl tt refl tt)))));
-      ran = ran_so script h1 before (ok ++ line_of a ++ ok ++ line_of (codes "ORA-06550")) refl (tt, (tt, (tt, (tt, (tt, tt)))))
-          (simp (pieces, made.spells, first, second, a_is_called first_edition (text_of script p) a, b_is_missing first_edition (text_of script p) a, called_name-call name_a, called_name-call name_b, printed_line-is a));
+      ran = ran_so script h1 before (ok ++ line_of a ++ ok ++ line_of (codes "ORA-06550")) 16777214 refl (tt, (tt, (tt, (tt, (tt, tt)))))
+          (simp (pieces, made.spells, first, second, a_is_called first_edition (text_of script p) a, b_is_missing first_edition (text_of script p) a, a_prints first_edition (text_of script p)));
     }
 
 module _ (script : List ℕ) (p s : Piece) (first : Makes script p false name_a a) (second : Makes script s true name_a b) where
@@ -303,6 +292,6 @@ upgrade_gives script p q r s t u v pieces first child_made child_set second ther
           (legal_on db5 db5 Begin seen_a [] h9 refl tt (sees_first script p s first second)
           (legal_on db5 db5 (EndCall false) Done [] h10 refl tt refl
           (legal_on db5 (left_from (r3 script p s first second)) Leave Done [] [] refl tt refl tt)))))))));
-      ran = ran_so script h1 before (ok ++ ok ++ ok ++ ok ++ line_of b ++ ok ++ ok ++ line_of a ++ ok) refl (tt, (tt, (tt, (tt, (tt, (tt, (tt, (tt, (tt, tt)))))))))
-          (simp (pieces, first.spells, child_made, child_set, second.spells, there_called, base_set, here_called, a_is_called first_edition (text_of script p) a, a_is_called second_edition (text_of script s) b, called_name-call name_a, printed_line-is a, printed_line-is b));
+      ran = ran_so script h1 before (ok ++ ok ++ ok ++ ok ++ line_of b ++ ok ++ ok ++ line_of a ++ ok) 16777212 refl (tt, (tt, (tt, (tt, (tt, (tt, (tt, (tt, (tt, tt)))))))))
+          (simp (pieces, first.spells, child_made, child_set, second.spells, there_called, base_set, here_called, a_is_called first_edition (text_of script p) a, a_is_called second_edition (text_of script s) b, b_prints second_edition (text_of script s), a_prints_next first_edition (text_of script p)));
     }

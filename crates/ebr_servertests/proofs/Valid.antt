@@ -12,7 +12,11 @@ use Rattle.ebr_ast.specs.declared.statement.Stmt.TheVariants as stmt
 use Rattle.ebr_ast.specs.declared.statement.Stmt.TheOpen as form
 use Rattle.ebr_ast.specs.declared.statement.Branch.{Branch}
 use Rattle.ebr_ast.specs.declared.statement.Handler.{Handler}
+use Rattle.ebr_ast.specs.declared.unit.UnitTree.{UnitTree}
 use Rattle.ebr_ast.specs.declared.unit.UnitTree.TheVariants as unit
+use Rattle.ebr_ast.specs.declared.view.Object.{Object}
+use Rattle.ebr_base.specs.declared.numbers.EditionNo.{EditionNo}
+use Rattle.ebr_cross.specs.Kinds.{unit_key}
 use Rattle.ebr_ast.specs.declared.view.EditionView.{EditionView}
 use Rattle.ebr_exprtree.specs.declared.expression.Expr as expression
 use Rattle.ebr_exprtree.specs.declared.expression.Expr.{Expr}
@@ -103,3 +107,23 @@ call_checks v name none =
   where
     call_with : Option Builtin → Env → List Site
     call_with f env = called_with (unless_builtin f (applied env.view [] (record { name = name; member = None }))) [] (within_block [] env)
+
+-- ---- what an edition sees
+
+-- a procedure without parameters that prints a line
+abbrev pub procedure_of : List ℕ → List ℕ → UnitTree
+procedure_of name line = unit.Subprogram (record { head = record { name = name; parameters = []; result = None }; body = printing line })
+
+-- a procedure of the name A, as the first definition in an edition
+abbrev pub made_in : EditionNo → List ℕ → List ℕ → Object
+made_in e text line = record {
+  key = unit_key (codes "A");
+  text = text;
+  tree = procedure_of (codes "A") line;
+  stamp = record { edition = e; count = 1 };
+  enabled = true;
+}
+
+-- what an edition sees where there is one object
+abbrev pub seeing : EditionNo → Object → EditionView
+seeing e o = record { edition = e; objects = o ∷ []; tables = [] }

@@ -15,7 +15,7 @@ enum Kind {
     EndCall,
     FailedCall,
     Leave,
-    /// What no session asks yet.
+    /// What asks for rows or a transaction.
     Other,
 }
 
@@ -64,6 +64,17 @@ static UPGRADED: [Kind; 10] = [
     Kind::Leave,
 ];
 
+const CAUGHT: &[u8] = b"BEGIN COMMIT; EXCEPTION WHEN OTHERS THEN ROLLBACK; END;\n/\nCOMMIT;\n";
+
+static ASKED: [Kind; 6] = [
+    Kind::Begin(0),
+    Kind::Other,
+    Kind::Other,
+    Kind::FailedCall,
+    Kind::Other,
+    Kind::Leave,
+];
+
 fn are(history: &[Entry], kinds: &[Kind]) -> bool {
     if history.len() != kinds.len() {
         return false;
@@ -87,5 +98,6 @@ fn leaves(alloc: Global, script: &[u8], kinds: &[Kind]) -> Result<bool, NoMemory
 fn history_has_each_ask_with_what_its_edition_saw(rt: HostRuntime) -> Result<(), Fail> {
     assert!(rt; leaves(rt.alloc(), FIRST_CALLS, &FIRST)?);
     assert!(rt; leaves(rt.alloc(), UPGRADE, &UPGRADED)?);
+    assert!(rt; leaves(rt.alloc(), CAUGHT, &ASKED)?);
     Ok(())
 }

@@ -2,6 +2,10 @@
 #![tactic(auto)]
 
 #[cfg(test)]
+mod blocks;
+#[cfg(test)]
+mod calls;
+#[cfg(test)]
 mod definitions;
 #[cfg(test)]
 mod editions;
@@ -9,6 +13,8 @@ mod editions;
 mod faults;
 #[cfg(test)]
 mod history;
+#[cfg(test)]
+mod large;
 #[cfg(test)]
 mod limits;
 #[cfg(test)]

@@ -83,7 +83,7 @@ OK
 2
 OK
 ~\
-a statement that isn't run, one that is none, and one that never ends~\
+a statement that is refused, one that is none, and one that never ends~\
 SELECT 1 FROM dual;
 SELEC 1;
 SELECT /* x~\
@@ -128,7 +128,7 @@ EBR-0001
 EBR-0021
 ORA-06550
 ~\
-a block is a call, with parentheses~\
+a block is a call, with parentheses and without~\
 CREATE PROCEDURE a IS BEGIN DBMS_OUTPUT.PUT_LINE('it''s'); END a;
 /
 BEGIN a(); END;
@@ -139,9 +139,10 @@ BEGIN a; END;
 OK
 it's
 OK
-EBR-0001
+it's
+OK
 ~\
-a procedure with a parameter is made and not run yet, and its name is taken~\
+a procedure with a parameter is called with an argument, and its name is taken~\
 CREATE PROCEDURE a(x IN NUMBER) IS BEGIN DBMS_OUTPUT.PUT_LINE('a'); END;
 /
 CREATE PROCEDURE a IS x NUMBER; BEGIN DBMS_OUTPUT.PUT_LINE('a'); END;
@@ -156,7 +157,8 @@ ORA-00955
 ORA-00955
 ORA-00955
 ORA-06550
-EBR-0001
+a
+OK
 ~\
 ";
 

@@ -1,15 +1,12 @@
 //! Worked scripts whose replies the definitions alone give: computed, with no code. What the pieces spell is a premise.
 
-ghost use Rattle.std.specs.Prelude.{◌≡◌, [], Some, ℕ, List as Sequence};
+ghost use Rattle.std.specs.Prelude.{◌≡◌, [], ℕ, List as Sequence};
 ghost use Rattle.ebr_script.specs.Pieces.{pieces_of};
-ghost use Rattle.ebr_server.specs.Forms.{printed_line, called_name};
-ghost use Rattle.ebr_servertests.specs.WorkedScripts.{Gives, CallsGive, UpgradeGives, printing, call_of};
+ghost use Rattle.ebr_servertests.specs.WorkedScripts.{Gives, CallsGive, UpgradeGives};
 
 use crate::run::{FIRST_REPLIES, UPGRADE_REPLIES};
 
 fn definitions_alone_give_the_replies()
-    ensures line { (line : Sequence ℕ) → printed_line (printing line) ≡ Some line }
-    ensures call { (name : Sequence ℕ) → called_name (call_of name) ≡ Some name }
     ensures nothing { (script : Sequence ℕ) → pieces_of script ≡ [] → Gives script [] }
     ensures calls { CallsGive FIRST_REPLIES.now }
     ensures upgrade { UpgradeGives UPGRADE_REPLIES.now }

@@ -1,18 +1,19 @@
 -- What the engine keeps: its history is legal, and it holds the catalogue of the database.
-use Rattle.std.specs.Prelude.{ℕ, ◌≡◌, ◌≢◌, ◌<◌, List, [], ◌∷◌, ◌++◌, Some, IfSome, Result, Ok, Err, vec_len, vec_capacity}
+use Rattle.std.specs.Prelude.{◌≡◌, ◌≢◌, ◌<◌, List, [], ◌∷◌, ◌++◌, Option, Some, IfSome, Result, Ok, Err, vec_len, vec_capacity}
 use Rattle.ebr_base.specs.declared.code.Code.{Code}
 use Rattle.ebr_base.specs.declared.code.Code.TheVariants.{Ebr}
 use Rattle.ebr_base.specs.declared.numbers.EditionNo.{EditionNo}
 use Rattle.ebr_ast.specs.declared.definition.Definition.{Definition}
-use Rattle.ebr_ast.specs.declared.definition.Statement.{Statement}
-use Rattle.ebr_ast.specs.declared.definition.Statement.TheVariants as statement
+use Rattle.ebr_ast.specs.declared.view.EditionView.{EditionView}
 use Rattle.ebr_cross.specs.declared.record.CatalogueRecord.{CatalogueRecord}
 use Rattle.ebr_ast.specs.Views.{IsInOrder}
 use Rattle.ebr_cross.specs.Catalogue.{Lists, HaveOwnKeys, IsViewOf, kept}
 use Rattle.ebr_cross.specs.Catalogue as catalogue
 use Rattle.ebr_cross.specs.Definitions.{outcome, set_edition}
 use Rattle.ebr_cross.specs.Records.{with_record}
-use Rattle.ebr_script.specs.Pieces.{stored_definition, CreatesObject}
+use Rattle.ebr_units.specs.Living.{AreCurrent}
+use Rattle.ebr_units.specs.Served.{served}
+use Rattle.ebr_session.specs.Has.{Suits}
 use Rattle.ebr_asks.specs.declared.ask.Ask.{Ask}
 use Rattle.ebr_asks.specs.declared.ask.Ask.TheVariants.{Begin, Sql, Commit, Rollback, Savepoint, BackTo, Ddl, SetEdition, PushAuto, PopAuto, EndCall, Leave}
 use Rattle.ebr_asks.specs.declared.answer.Answer.{Answer}
@@ -31,13 +32,14 @@ entries e = e.history.items
 abbrev pub entry_of : Ask → Answer → Entry
 entry_of ask answer = record { session = the_session; ask = ask; answer = answer }
 
--- The catalogue is kept of these lists, in which objects stand under their own keys, the session is in this edition, and
--- the view, where there is one, is all that the edition sees.
+-- The catalogue is kept of these lists, in which objects stand under their own keys, the session is in this edition, the
+-- view, where there is one, is all that the edition sees, and so are those of the compiled units for theirs.
 pub record Holds (now : Current) (c : Lists) (e : EditionNo) : Type 0 where
   pub catalogue_is : now.catalogue ≡ kept c
   pub own_keys : HaveOwnKeys c
   pub edition_is : now.edition ≡ e
   pub view_is : IfSome now.view (λ v. IsViewOf c e v)
+  pub units_are : AreCurrent c now.units
 
 -- The objects of a view that was answered stand in order.
 abbrev pub HasOrder : Answer → Type 0
@@ -94,15 +96,15 @@ pub record IsHeld (now : Current) : Type 0 where
 abbrev pub ForHeld : Current → (Lists → EditionNo → Type 0) → Type 0
 ForHeld old P = (c : Lists) (e : EditionNo) → Holds old c e → P c e
 
--- The text of what creates an object spells that creation.
-abbrev pub IsSpelled : Ask → Type 0
-IsSpelled (Ddl what text) = CreatesObject what → stored_definition text ≡ Some what
-IsSpelled ask = Unit {0}
+-- With a view comes the book of it.
+abbrev pub IsBookOf : Answer → Option EditionView → Type 0
+IsBookOf (View v) book = book ≡ Some v
+IsBookOf answer book = Unit {0}
 
--- The text of a statement that creates an object spells that creation.
-abbrev pub KeepsSpelled : Statement → List ℕ → Type 0
-KeepsSpelled (statement.Definition what) text = IsSpelled (Ddl what text)
-KeepsSpelled s text = Unit {0}
+-- what comes with the answer to an ask
+abbrev pub ComesWith : Ask → Answer → Option EditionView → Type 0
+ComesWith Begin answer book = IsBookOf answer book
+ComesWith ask answer book = Unit {0}
 
 -- The one session is in the engine's edition, and the catalogue is that of the database.
 pub record Keeps (now : Current) (db : Database) : Type 0 where
@@ -115,11 +117,12 @@ pub record IsOpen (e : Engine) : Type 0 where
   pub keeps : Keeps e.current (After start (entries e))
   pub room : vec_len e.history < vec_capacity e.history
 
--- The engine made one entry for the ask, with this answer. Unless that is the last one, it can be asked again.
-pub record Answers (old new : Engine) (ask : Ask) (answer : Answer) : Type 0 where
+-- The engine made one entry for the ask, with this answer, and handed out the book of a view. Unless that is the last one,
+-- it can be asked again.
+pub record Answers (old new : Engine) (ask : Ask) (answer : Answer) (book : Option EditionView) : Type 0 where
   pub entry : entries new ≡ entries old ++ entry_of ask answer ∷ []
   pub legal : Legal start (entries new)
-  pub order : HasOrder answer
+  pub suits : Suits (λ v e. served v) answer book
   pub no_fault : IsNoFault answer
   pub leaves : ask ≡ Leave → answer ≡ Done
   pub stays_open : answer ≢ NoMemory → ask ≢ Leave → IsOpen new

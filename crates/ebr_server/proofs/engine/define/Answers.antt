@@ -13,12 +13,14 @@ returns-in-Ok w = λ c e h.
       own_keys = w.in-Ok.ensures.own_keys c h.catalogue_is h.own_keys;
       edition_is = h.edition_is;
       view_is = w.next_view.ensures c e h.own_keys h.view_is applied.1;
+      units_are = w.after_ddl.ensures c h.own_keys h.units_are applied.1;
     }))
     (w.answer_in.ensures.holds (with_record c w.in-Ok.record) e (record {
       catalogue_is = applied.1;
       own_keys = w.in-Ok.ensures.own_keys c h.catalogue_is h.own_keys;
       edition_is = h.edition_is;
       view_is = w.next_view.ensures c e h.own_keys h.view_is applied.1;
+      units_are = w.after_ddl.ensures c h.own_keys h.units_are applied.1;
     }))
 
 pub answer_in-requires : goal.answer_in-requires
@@ -34,5 +36,6 @@ answer_in-requires w =
         own_keys = w.in-Ok.ensures.own_keys c h.catalogue_is h.own_keys;
         edition_is = h.edition_is;
         view_is = w.next_view.ensures c w.requires.edition h.own_keys h.view_is applied.1;
+        units_are = w.after_ddl.ensures c h.own_keys h.units_are applied.1;
       };
     }

@@ -1,12 +1,5 @@
-use Rattle.ebr_servertests.proofs.Trees.{printed_line-is, called_name-call}
 use Rattle.ebr_servertests.proofs.Replayed.{nothing_gives, calls_give, upgrade_gives}
 use Rattle.ebr_servertests.proofs.worked.definitions_alone_give_the_replies.Goals as goal
-
-pub returns-clause-line : goal.returns-clause-line
-returns-clause-line c = printed_line-is
-
-pub returns-clause-call : goal.returns-clause-call
-returns-clause-call c = called_name-call
 
 pub returns-clause-nothing : goal.returns-clause-nothing
 returns-clause-nothing c = nothing_gives

@@ -1,10 +1,22 @@
-use Rattle.ebr_server.proofs.Outputs.{writes_on}
+use Rattle.std.proofs.Common.{◌≤◌, length, arith, ap}
+use Rattle.ebr_server.proofs.Outputs.{flushed, held_written}
 use Rattle.ebr_server.proofs.worker.Worker.flush.Goals as goal
 
-pub returns-then-self-len-clause-writes : goal.returns-then-self-len-clause-writes
-returns-then-self-len-clause-writes g c =
-    writes_on c.args.self.now c.self.inside.written c.offer-self-inside.result c.self.inside.printed _ _ _ _ c.self.view_is c.offer-self-inside.ensures.onward c.offer-self-inside.ensures.counted
+pub invariant_of-self : goal.invariant_of-self
+invariant_of-self g c =
+    let within : c.offer-self-inside.result ≤ length c.self.inside.session.printed = omega (arith, ap length c.printed-printed.ensures, c.offer-self-inside.ensures.within) in
+    (within, held_written _ _ _ _ _ _ c.printed-printed.ensures c.offer-self-inside.ensures.onward c.self.invariant.1 c.offer-self-inside.ensures.held)
 
-pub returns-clause-writes : goal.returns-clause-writes
-returns-clause-writes g c =
-    writes_on c.args.self.now c.self.inside.written c.offer-self-inside.result c.self.inside.printed _ _ _ _ c.self.view_is c.offer-self-inside.ensures.onward c.offer-self-inside.ensures.counted
+pub returns-then-self-printed : goal.returns-then-self-printed
+returns-then-self-printed g c =
+    flushed _ _ _ _ _ _ _ _ _ c.self.view_is c.offer-self-inside.ensures.onward c.offer-self-inside.ensures.counted tt (c.offer-self-inside.ensures.failed c.if-self-printed.true)
+
+pub invariant_of-self-2 : goal.invariant_of-self-2
+invariant_of-self-2 g c =
+    let within : c.offer-self-inside.result ≤ length c.self.inside.session.printed = omega (arith, ap length c.printed-printed.ensures, c.offer-self-inside.ensures.within) in
+    (within, held_written _ _ _ _ _ _ c.printed-printed.ensures c.offer-self-inside.ensures.onward c.self.invariant.1 c.offer-self-inside.ensures.held)
+
+pub returns : goal.returns
+returns g c =
+    let whole : length c.self.inside.session.printed ≤ c.offer-self-inside.result = omega (arith, ap length c.printed-printed.ensures, c.if-self-printed.false) in
+    flushed _ _ _ _ _ _ _ _ _ c.self.view_is c.offer-self-inside.ensures.onward c.offer-self-inside.ensures.counted whole tt

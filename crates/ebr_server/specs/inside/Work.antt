@@ -1,0 +1,10 @@
+-- A session at work, and what its sink tells.
+use Rattle.std.specs.Prelude.{ℕ, List, Option}
+use Rattle.ebr_session.specs.Has.{Progress}
+
+-- Where the session stands, what it printed that is written, what the sink holds, if it tells, and its count of faults.
+pub record Work : Type 0 where
+  pub session : Progress
+  pub written : List ℕ
+  pub held : Option (List ℕ)
+  pub faults : ℕ

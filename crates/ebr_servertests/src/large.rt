@@ -1,0 +1,90 @@
+//! As many steps, printed bytes and calls as there may be, and more.
+
+use crate::run::{MemOutcome, NO_FAULTS, TRY, prints, release, served};
+use ebr_base::{Bytes, NoMemory};
+use ebr_server::{ExitCode, MAX_SCRIPT};
+use std::alloc::Global;
+use std::test::Fail;
+
+#[test]
+fn the_millionth_step_is_the_last(rt: HostRuntime) -> Result<(), Fail> {
+    assert!(rt;
+        prints(
+            rt.alloc(),
+            b"BEGIN LOOP NULL; END LOOP; END;\n/\nBEGIN BEGIN LOOP NULL; END LOOP; EXCEPTION WHEN OTHERS THEN NULL; END; END;\n/\n",
+            b"EBR-0007\nEBR-0007\n"
+        )?
+    );
+    Ok(())
+}
+
+/// Whether a script was run to its end, with replies of so many bytes that end so.
+fn prints_much(outcome: &MemOutcome, bytes: usize, end: &[u8]) -> bool {
+    let held = outcome.report.held();
+    outcome.code == ExitCode::Done && held.len() == bytes && held.ends_with(end)
+}
+
+fn replies_with(
+    alloc: Global,
+    script: &[u8],
+    bytes: usize,
+    end: &[u8],
+) -> Result<bool, NoMemory> {
+    let outcome = served(alloc, TRY, script, NO_FAULTS)?;
+    let much = prints_much(&outcome, bytes, end);
+    release(outcome);
+    Ok(much)
+}
+
+/// 512 lines of 32,768 bytes with their ends, which are 16,777,216 bytes, and then no more.
+const FULL: &[u8] = b"DECLARE x VARCHAR2(32767) := 'a';
+BEGIN
+  FOR i IN 1 .. 14 LOOP x := x || x; END LOOP;
+  x := x || SUBSTR(x, 1, 16383);
+  FOR i IN 1 .. 512 LOOP DBMS_OUTPUT.PUT_LINE(x); END LOOP;
+END;
+/
+BEGIN DBMS_OUTPUT.PUT_LINE(''); END;
+/
+BEGIN DBMS_OUTPUT.PUT_LINE(''); EXCEPTION WHEN OTHERS THEN NULL; END;
+/
+";
+
+const FULL_END: &[u8] = b"aaa\nOK\nEBR-0009\nOK\n";
+
+/// What is printed up to the line that there is no room for stays printed.
+const OVERFULL: &[u8] = b"DECLARE x VARCHAR2(32767) := 'a';
+BEGIN
+  FOR i IN 1 .. 14 LOOP x := x || x; END LOOP;
+  x := x || SUBSTR(x, 1, 16383);
+  DBMS_OUTPUT.PUT_LINE('');
+  LOOP DBMS_OUTPUT.PUT_LINE(x); END LOOP;
+END;
+/
+";
+
+const OVERFULL_END: &[u8] = b"aaa\nEBR-0009\n";
+
+#[test]
+fn a_session_prints_16777216_bytes(rt: HostRuntime) -> Result<(), Fail> {
+    assert!(rt; replies_with(rt.alloc(), FULL, 16777216 + 15, FULL_END)?);
+    assert!(rt; replies_with(rt.alloc(), OVERFULL, 1 + 511 * 32768 + 9, OVERFULL_END)?);
+    Ok(())
+}
+
+/// A procedure, and as many calls of it as a script may hold.
+fn calls(alloc: Global) -> Result<Bytes, NoMemory> {
+    let mut script = Bytes::from_slice(alloc, b"CREATE PROCEDURE p IS BEGIN NULL; END;\n/\n")?;
+    while script.len() <= MAX_SCRIPT - 10 {
+        script.extend(b"CALL p();\n")?;
+    }
+    Ok(script)
+}
+
+#[test]
+fn a_script_of_a_mebibyte_of_calls_runs(rt: HostRuntime) -> Result<(), Fail> {
+    let script = calls(rt.alloc())?;
+    let lines = 1 + script.len() / 10 - 4;
+    assert!(rt; replies_with(rt.alloc(), script.as_slice(), 3 * lines, b"OK\n")?);
+    Ok(())
+}
