@@ -1,3 +1,3 @@
-pub mod Blocks
+pub mod Prints
 pub mod Valid
 pub mod Replayed

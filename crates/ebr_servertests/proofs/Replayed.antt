@@ -33,7 +33,7 @@ use Rattle.ebr_session.specs.Sessions.{SessionRun}
 use Rattle.ebr_server.specs.History.{Mine, Legal, Answered, IsLive}
 use Rattle.ebr_server.specs.Program.{RanToEnd}
 use Rattle.ebr_servertests.specs.WorkedScripts.{Gives, Makes, CallsGive, UpgradeGives, procedure, printing, call_of}
-use Rattle.ebr_servertests.proofs.Blocks.{a_prints, b_prints, a_prints_next}
+use Rattle.ebr_servertests.proofs.Prints.{a_prints, b_prints, a_prints_next}
 use Rattle.ebr_servertests.proofs.Valid.{made_in, seeing, procedure_is_valid, call_checks}
 
 abbrev exchanged : Ask → Answer → Exchange
