@@ -24,12 +24,7 @@ fn prints_much(outcome: &MemOutcome, bytes: usize, end: &[u8]) -> bool {
     outcome.code == ExitCode::Done && held.len() == bytes && held.ends_with(end)
 }
 
-fn replies_with(
-    alloc: Global,
-    script: &[u8],
-    bytes: usize,
-    end: &[u8],
-) -> Result<bool, NoMemory> {
+fn replies_with(alloc: Global, script: &[u8], bytes: usize, end: &[u8]) -> Result<bool, NoMemory> {
     let outcome = served(alloc, TRY, script, NO_FAULTS)?;
     let much = prints_much(&outcome, bytes, end);
     release(outcome);
