@@ -1,6 +1,6 @@
 //! Scripts of three sessions, each step with what it answers.
 
-ghost use Rattle.std.specs.Prelude.{◌≡◌, true, is_some, IfOk, IfSome};
+ghost use Rattle.std.specs.Prelude.{◌≡◌, true, [], is_some, IfSome, OnOk};
 ghost use Rattle.ebr_tx.specs.Data.{IsLive, IsIn, own, names_of};
 ghost use Rattle.ebr_querytests.specs.World.{the_names, the_tables};
 
@@ -254,12 +254,12 @@ B insert L 10
 B commit
 ";
 
-/// Three sessions, and the tables without rows.
-fn three_sessions(alloc: Global) -> Result<Transactions, NoMemory>
-    ensures names { IfOk result (λ tx. names_of tx.contents.live ≡ the_names) }
-    ensures tables { IfOk result (λ tx. tx.contents.tables ≡ the_tables) }
+/// Adds the tables.
+fn add_tables(alloc: Global, tx: &mut Transactions) -> Result<(), NoMemory>
+    requires { tx.old.contents.tables ≡ [] }
+    ensures stacks { names_of tx.new.contents.live ≡ names_of tx.old.contents.live }
+    ensures tables { OnOk result (tx.new.contents.tables ≡ the_tables) }
 {
-    let mut tx = Transactions::new(alloc, 3)?;
     tx.add_table(TableId(1), List::new(alloc))?;
     tx.add_table(TableId(2), List::new(alloc))?;
     tx.add_table(TableId(3), List::new(alloc))?;
@@ -268,7 +268,7 @@ fn three_sessions(alloc: Global) -> Result<Transactions, NoMemory>
     tx.add_table(TableId(6), List::new(alloc))?;
     tx.add_table(TableId(7), List::new(alloc))?;
     tx.add_table(TableId(8), List::new(alloc))?;
-    Ok(tx)
+    Ok(())
 }
 
 /// The first fault of a script over the data.
@@ -279,8 +279,9 @@ fn fault_over(
     script: &str,
 ) -> Result<Option<String>, NoMemory>
     requires names { names_of tx.old.contents.live ≡ the_names }
-    requires tables { tx.old.contents.tables ≡ the_tables }
+    requires tables { tx.old.contents.tables ≡ [] }
 {
+    add_tables(alloc, tx)?;
     let found = fault_of(alloc, tx, seen, DATA)?;
     if found.is_some() {
         return Ok(found);
@@ -291,7 +292,7 @@ fn fault_over(
 /// What the first line of a script answers that answers something else than it says.
 pub fn first_fault(alloc: Global, script: &str) -> Result<Option<String>, NoMemory> {
     let seen = two_editions(alloc)?;
-    let mut tx = three_sessions(alloc)?;
+    let mut tx = Transactions::new(alloc, 3)?;
     let found = fault_over(alloc, &mut tx, &seen, script);
     release(tx);
     release(seen);
