@@ -3,6 +3,8 @@
 
 mod definition;
 mod kinds;
+mod notes;
+mod package;
 mod query;
 mod sql;
 mod statement;
@@ -12,6 +14,7 @@ mod view;
 pub use definition::{ColumnConstraint, ColumnTree, Definition, ObjectKind, Statement};
 pub use ebr_exprtree::{Addend, AdditiveOperator, Attribute, Comparison, Expr, Op, Path, RowImage};
 pub use kinds::{Origin, Timing};
+pub use package::{PackageItems, Subprograms};
 pub use query::{Aggregate, Item, ItemKind, Query, SelectList, SortKey, Source};
 pub use sql::{Assignment, Delete, Insert, SqlTree, Transaction, Update};
 pub use statement::{

@@ -1,6 +1,7 @@
 //! Stored units: procedures, functions, packages, triggers and editioning views.
 
 use crate::kinds::Timing;
+use crate::package::{PackageItems, Subprograms};
 use crate::statement::{Block, Decl, Handler, Stmt};
 use ebr_base::{CloneIn, List, Name, NoMemory, Shared, both};
 use ebr_exprtree::Op;
@@ -12,7 +13,7 @@ pub enum UnitTree {
     /// A procedure or a function.
     Subprogram(Shared<Subprogram>),
     /// A package's specification: its name and its items.
-    Package(Name, Shared<List<PackageItem>>),
+    Package(Name, Shared<PackageItems>),
     PackageBody(Shared<PackageBody>),
     Trigger(Shared<Trigger>),
     View(Shared<EditioningView>),
@@ -74,7 +75,7 @@ pub enum PackageItem {
 pub struct PackageBody {
     pub name: Name,
     pub declarations: List<Decl>,
-    pub subprograms: List<Subprogram>,
+    pub subprograms: Subprograms,
     pub statements: List<Shared<Stmt>>,
     pub handlers: List<Handler>,
 }

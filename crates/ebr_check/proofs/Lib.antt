@@ -3,3 +3,6 @@ pub mod Within
 pub mod Blocks
 pub mod Parts
 mod Validity
+mod Defined
+mod Distinct
+mod Exceptions

@@ -10,7 +10,8 @@ ghost use Rattle.ebr_check.specs.Units as units;
 ghost use Rattle.ebr_rules.specs.Noted.{noted};
 
 use ebr_ast::{
-    Decl, Head, Mode, PackageBody, PackageItem, Parameter, ParameterType, Subprogram, UnitTree,
+    Decl, Head, Mode, PackageBody, PackageItem, Parameter, ParameterType, Subprogram, Subprograms,
+    UnitTree,
 };
 use ebr_base::Class;
 use ebr_names::object;
@@ -119,7 +120,7 @@ fn same_head(a: &Head, b: &Head) -> bool
         && same_result(&a.result, &b.result)
 }
 
-fn is_defined(subprograms: &[Subprogram], head: &Head) -> bool
+fn has_head(subprograms: &[Subprogram], head: &Head) -> bool
     ensures { result ≡ rules.is_defined (map units.head_of_subprogram subprograms.now) head.now }
 {
     for subprogram in subprograms {
@@ -130,7 +131,23 @@ fn is_defined(subprograms: &[Subprogram], head: &Head) -> bool
     false
 }
 
-fn are_defined(subprograms: &[Subprogram], items: &[PackageItem]) -> bool
+/// Whether a head is that of a subprogram. The first subprogram of its name is looked at first: where it has another head, the
+/// body isn't right, or it has this name twice, which is a fault too.
+fn is_defined(subprograms: &Subprograms, head: &Head) -> bool
+    ensures { result ≡ rules.is_defined (map units.head_of_subprogram subprograms.now) head.now }
+{
+    match subprograms.named(&head.name) {
+        Some(first) => {
+            if same_head(head, &first.head) {
+                return true;
+            }
+            has_head(subprograms.as_slice(), head)
+        }
+        None => false,
+    }
+}
+
+fn are_defined(subprograms: &Subprograms, items: &[PackageItem]) -> bool
     ensures { result ≡ list_all (rules.is_defined (map units.head_of_subprogram subprograms.now)) (filter_map head_in items.now) }
 {
     for item in items {
@@ -143,7 +160,7 @@ fn are_defined(subprograms: &[Subprogram], items: &[PackageItem]) -> bool
     true
 }
 
-fn defines(subprograms: &[Subprogram], tree: &UnitTree) -> bool
+fn defines(subprograms: &Subprograms, tree: &UnitTree) -> bool
     ensures { result ≡ rules.implements (Some tree.now) (map units.head_of_subprogram subprograms.now) }
 {
     match tree {
@@ -157,11 +174,7 @@ pub fn implements(body: &PackageBody, seen: &Seen<'_>, least: &mut Option<u8>)
     ensures { least.new ≡ noted (site.Implements (units.tree_of (unit_named body.now.name seen.now.view.objects)) (map units.head_of_subprogram body.now.subprograms) ∷ []) least.old }
 {
     match object(seen.get(), Class::Unit, &body.name) {
-        Some(object) => must(
-            least,
-            11,
-            defines(body.subprograms.as_slice(), &object.tree),
-        ),
+        Some(object) => must(least, 11, defines(&body.subprograms, &object.tree)),
         None => must(least, 11, false),
     }
 }

@@ -1,6 +1,6 @@
 //! The names and the pragmas of one scope.
 
-ghost use Rattle.std.specs.Prelude.{◌≡◌, ◌∷◌, ◌++◌, [], false, Some, map, filter_map, IfOk, OnOk};
+ghost use Rattle.std.specs.Prelude.{◌≡◌, ◌∷◌, ◌++◌, ◌||◌, [], ℕ, List as Sequence, false, Some, map, filter_map, IfOk, OnOk};
 ghost use Rattle.std.specs.Option.{option_copied};
 ghost use Rattle.std.specs.List.{list_all, list_any};
 ghost use Rattle.std.specs.Str.{bytes_eq};
@@ -10,34 +10,33 @@ ghost use Rattle.ebr_rules.specs.Rules as rules;
 ghost use Rattle.ebr_scope.specs.Declarations as declarations;
 ghost use Rattle.ebr_check.specs.Units as units;
 ghost use Rattle.ebr_rules.specs.Noted.{noted};
+ghost use Rattle.ebr_check.specs.inside.Names as inside;
 
 use ebr_ast::{Decl, PackageItem, Parameter, Subprogram};
-use ebr_base::{List, Name, NoMemory, Shared, rest_from};
+use ebr_base::{CloneIn, List, Name, NoMemory, Shared, rest_from};
 use ebr_rules::must;
 use ebr_scope::{Field, decl_name, item_name};
+use indexmap::IndexSet;
 use std::alloc::Global;
 
 /// Whether all names are different.
-fn are_distinct(names: &[&Name]) -> bool
-    ensures { result ≡ rules.are_distinct (map (λ n. n.now) names.now) }
+#[tactic(auto, using(crate::proofs::Distinct::all_fresh))]
+fn are_distinct(alloc: Global, names: &[&Name]) -> Result<bool, NoMemory>
+    ensures { IfOk result (λ distinct. distinct ≡ rules.are_distinct (map (λ n. n.now) names.now)) }
 {
-    for (at, name) in names.iter().enumerate() {
-        if is_among(name, rest_from(names, at + 1)) {
-            return false;
-        }
-    }
-    true
+    are_fresh(alloc, names)
 }
 
-fn is_among(name: &Name, names: &[&Name]) -> bool
-    ensures { result ≡ list_any (bytes_eq name.now) (map (λ n. n.now) names.now) }
+fn are_fresh(alloc: Global, names: &[&Name]) -> Result<bool, NoMemory>
+    ensures { IfOk result (λ fresh. fresh ≡ inside.are_fresh [] (map (λ n. n.now) names.now)) }
 {
-    for other in names {
-        if *name == **other {
-            return true;
+    let mut before = IndexSet::new(alloc);
+    for name in names {
+        if !before.insert((**name).clone_in(alloc)?)? {
+            return Ok(false);
         }
     }
-    false
+    Ok(true)
 }
 
 /// The names that declarations declare.
@@ -58,7 +57,8 @@ pub fn declares(alloc: Global, list: &[Decl], least: &mut Option<u8>) -> Result<
     ensures { OnOk result (least.new ≡ noted (site.Declares (filter_map declarations.decl_name list.now) ∷ []) least.old) }
 {
     let names = declared(alloc, list)?;
-    must(least, 5, are_distinct(names.as_slice()));
+    let distinct = are_distinct(alloc, names.as_slice())?;
+    must(least, 5, distinct);
     Ok(())
 }
 
@@ -74,7 +74,8 @@ pub fn declares_parameters(
     for parameter in list {
         names.push(&parameter.name)?;
     }
-    must(least, 5, are_distinct(names.as_slice()));
+    let distinct = are_distinct(alloc, names.as_slice())?;
+    must(least, 5, distinct);
     Ok(())
 }
 
@@ -92,7 +93,8 @@ pub fn declares_items(
             names.push(name)?;
         }
     }
-    must(least, 5, are_distinct(names.as_slice()));
+    let distinct = are_distinct(alloc, names.as_slice())?;
+    must(least, 5, distinct);
     Ok(())
 }
 
@@ -109,7 +111,8 @@ pub fn declares_body(
     for subprogram in subprograms {
         names.push(&subprogram.head.name)?;
     }
-    must(least, 5, are_distinct(names.as_slice()));
+    let distinct = are_distinct(alloc, names.as_slice())?;
+    must(least, 5, distinct);
     Ok(())
 }
 
@@ -136,7 +139,8 @@ fn differ(alloc: Global, fields: &[Field], least: &mut Option<u8>) -> Result<(),
             names.push(name)?;
         }
     }
-    must(least, 9, are_distinct(names.as_slice()));
+    let distinct = are_distinct(alloc, names.as_slice())?;
+    must(least, 9, distinct);
     Ok(())
 }
 
@@ -201,25 +205,41 @@ fn autonomous_stands(outermost: bool, list: &[&Decl]) -> bool
     true
 }
 
-fn is_exception_named(name: &Name, declaration: &Decl) -> bool
-    ensures { result ≡ rules.is_exception_named name.now declaration.now }
+/// The names of the exceptions among declarations.
+fn exceptions(alloc: Global, list: &[&Decl]) -> Result<IndexSet<Name>, NoMemory>
+    ensures { IfOk result (λ names. inside.HasExceptions (map (λ d. d.now) list.now) names.keys) }
+{
+    let mut names = IndexSet::new(alloc);
+    for declaration in list {
+        note(&mut names, declaration)?;
+    }
+    Ok(names)
+}
+
+/// Notes the name of an exception.
+fn note(names: &mut IndexSet<Name>, declaration: &Decl) -> Result<(), NoMemory>
+    ensures { OnOk result (inside.NotesException declaration.now names.old.keys names.new.keys) }
 {
     match declaration {
-        Decl::Exception(declared) => *name == *declared,
+        Decl::Exception(name) => put(names, name),
         Decl::Variable { .. } | Decl::ExceptionInit(_, _) | Decl::Autonomous | Decl::Cursor(_, _) =>
-            false,
+            { Ok(()) }
     }
 }
 
-fn has_exception(list: &[&Decl], name: &Name) -> bool
-    ensures { result ≡ list_any (rules.is_exception_named name.now) (map (λ d. d.now) list.now) }
+fn put(names: &mut IndexSet<Name>, name: &Name) -> Result<(), NoMemory>
+    ensures { OnOk result ((n : Sequence ℕ) → list_any (bytes_eq n) names.new.keys ≡ (bytes_eq n name.now || list_any (bytes_eq n) names.old.keys)) }
 {
-    for declaration in list {
-        if is_exception_named(name, declaration) {
-            return true;
-        }
-    }
-    false
+    let alloc = *names.allocator();
+    let key = name.clone_in(alloc)?;
+    names.insert(key)?;
+    Ok(())
+}
+
+fn has_name(names: &IndexSet<Name>, name: &Name) -> bool
+    ensures { result ≡ list_any (bytes_eq name.now) names.now.keys }
+{
+    names.contains(name)
 }
 
 /// Whether an exception may have a number.
@@ -229,36 +249,48 @@ fn is_exception_number(number: u64) -> bool
     1 <= number && number <= 20999 && number != 1403
 }
 
-fn init_stands(list: &[&Decl], declaration: &Decl) -> bool
-    ensures { result ≡ rules.init_stands (map (λ d. d.now) list.now) declaration.now }
+fn init_stands(exceptions: &IndexSet<Name>, declaration: &Decl) -> bool
+    ensures { result ≡ inside.init_stands exceptions.now.keys declaration.now }
 {
     match declaration {
         Decl::ExceptionInit(name, number) => {
-            is_exception_number(*number) && has_exception(list, name)
+            is_exception_number(*number) && has_name(exceptions, name)
         }
         Decl::Variable { .. } | Decl::Exception(_) | Decl::Autonomous | Decl::Cursor(_, _) => true,
     }
 }
 
-fn inits_stand(list: &[&Decl]) -> bool
-    ensures { result ≡ list_all (rules.init_stands (map (λ d. d.now) list.now)) (map (λ d. d.now) list.now) }
+fn inits_stand(exceptions: &IndexSet<Name>, list: &[&Decl]) -> bool
+    ensures { result ≡ list_all (inside.init_stands exceptions.now.keys) (map (λ d. d.now) list.now) }
 {
     for declaration in list {
-        if !init_stands(list, declaration) {
+        if !init_stands(exceptions, declaration) {
             return false;
         }
     }
     true
 }
 
-fn lent_pragmas(outermost: bool, list: &[&Decl], least: &mut Option<u8>)
-    ensures { least.new ≡ noted (site.Pragmas outermost (map (λ d. d.now) list.now) ∷ []) least.old }
+/// Whether the pragmas among declarations stand where they may.
+#[tactic(auto, using(crate::proofs::Exceptions::all_stand))]
+fn all_stand(alloc: Global, outermost: bool, list: &[&Decl]) -> Result<bool, NoMemory>
+    ensures { IfOk result (λ stand. stand ≡ rules.pragmas_stand (site.Pragmas outermost (map (λ d. d.now) list.now))) }
 {
-    must(
-        least,
-        10,
-        autonomous_stands(outermost, list) && inits_stand(list),
-    );
+    let names = exceptions(alloc, list)?;
+    Ok(autonomous_stands(outermost, list) && inits_stand(&names, list))
+}
+
+fn lent_pragmas(
+    alloc: Global,
+    outermost: bool,
+    list: &[&Decl],
+    least: &mut Option<u8>,
+) -> Result<(), NoMemory>
+    ensures { OnOk result (least.new ≡ noted (site.Pragmas outermost (map (λ d. d.now) list.now) ∷ []) least.old) }
+{
+    let stand = all_stand(alloc, outermost, list)?;
+    must(least, 10, stand);
+    Ok(())
 }
 
 /// The pragmas among declarations.
@@ -271,8 +303,7 @@ pub fn pragmas(
     ensures { OnOk result (least.new ≡ noted (site.Pragmas outermost list.now ∷ []) least.old) }
 {
     let lent = lent(alloc, list)?;
-    lent_pragmas(outermost, lent.as_slice(), least);
-    Ok(())
+    lent_pragmas(alloc, outermost, lent.as_slice(), least)
 }
 
 /// The pragmas of a specification.
@@ -284,6 +315,5 @@ pub fn item_pragmas(
     ensures { OnOk result (least.new ≡ noted (site.Pragmas false (filter_map declaration_in list.now) ∷ []) least.old) }
 {
     let lent = declarations_in(alloc, list)?;
-    lent_pragmas(false, lent.as_slice(), least);
-    Ok(())
+    lent_pragmas(alloc, false, lent.as_slice(), least)
 }

@@ -279,25 +279,46 @@ fn trigger(
 
 // ---- units
 
-/// Judges a unit.
-pub fn unit(
+/// What was found, when the names that it was found with are no longer wanted. It is generic, so that these are dropped by
+/// one call.
+fn without<T: Drop, R>(_held: T, found: R) -> R
+    ensures { result ≡ found }
+{
+    found
+}
+
+/// Judges a unit, around which no names are known.
+fn unit_within<'a>(
     alloc: Global,
-    it: &UnitTree,
-    seen: &Seen<'_>,
+    it: &'a UnitTree,
+    seen: &'a Seen<'a>,
+    known: &mut Scopes<'a>,
+    least: &mut Option<u8>,
+) -> Result<(), NoMemory>
+    requires { known.old ≡ [] }
+    ensures { OnOk result (least.new ≡ noted (spec.sites_in seen.now.view it.now) least.old) }
+{
+    let place = Place::outside(seen);
+    match it {
+        UnitTree::Subprogram(it) => subprogram(alloc, it.get(), &place, known, least),
+        UnitTree::Package(_, list) => package(alloc, list.get().as_slice(), &place, known, least),
+        UnitTree::PackageBody(it) => package_body(alloc, it.get(), &place, known, least),
+        UnitTree::Trigger(it) => trigger(alloc, it.get(), seen, least),
+        UnitTree::View(_) => Ok(()),
+        UnitTree::Block(it) => block(alloc, it.get(), &place, known, least),
+    }
+}
+
+/// Judges a unit.
+pub fn unit<'a>(
+    alloc: Global,
+    it: &'a UnitTree,
+    seen: &'a Seen<'a>,
     least: &mut Option<u8>,
 ) -> Result<(), NoMemory>
     ensures { OnOk result (least.new ≡ noted (spec.sites_in seen.now.view it.now) least.old) }
 {
-    let place = Place::outside(seen);
     let mut known = Scopes::new(alloc);
-    match it {
-        UnitTree::Subprogram(it) => subprogram(alloc, it.get(), &place, &mut known, least),
-        UnitTree::Package(_, list) => {
-            package(alloc, list.get().as_slice(), &place, &mut known, least)
-        }
-        UnitTree::PackageBody(it) => package_body(alloc, it.get(), &place, &mut known, least),
-        UnitTree::Trigger(it) => trigger(alloc, it.get(), seen, least),
-        UnitTree::View(_) => Ok(()),
-        UnitTree::Block(it) => block(alloc, it.get(), &place, &mut known, least),
-    }
+    let done = unit_within(alloc, it, seen, &mut known, least);
+    without(known, done)
 }

@@ -4,7 +4,7 @@ ghost use Rattle.std.specs.Prelude.{◌≡◌, ◌||◌, ◌++◌, [], suc, map,
 ghost use Rattle.std.specs.List.{list_any};
 ghost use Rattle.ebr_scope.specs.Names.{visible_items};
 ghost use Rattle.ebr_run.specs.Scope.{body_key, declaration_in, part, with_subprograms};
-ghost use Rattle.ebr_run.specs.Statements.{with_decl, with_decls};
+ghost use Rattle.ebr_run.specs.Statements.{with_decls, with_decls_among};
 ghost use Rattle.ebr_run.specs.Units as run;
 ghost use Rattle.ebr_code.specs.Codes as codes;
 ghost use Rattle.ebr_code.specs.Units as spec;
@@ -12,10 +12,10 @@ ghost use Rattle.ebr_compile.specs.inside.Items as inside;
 
 use crate::held::{kept, release, without};
 use crate::units::{key_of, subprogram};
-use ebr_ast::{Decl, PackageBody, PackageItem, Subprogram};
+use ebr_ast::{Decl, PackageBody, PackageItem, Subprogram, Subprograms};
 use ebr_base::{Class, CloneIn, List, Name, NoMemory, Shared};
 use ebr_code::{Initial, Instruction, Unit};
-use ebr_places::Around;
+use ebr_places::{Around, Codes};
 use ebr_scope::{Seen, visible_items};
 use ebr_stmtcode::{declaration, declarations, guarded, next};
 use std::alloc::Global;
@@ -59,24 +59,6 @@ fn items_have_state(items: &[PackageItem]) -> bool
     any_state(items)
 }
 
-/// A declaration of a specification.
-fn item_declaration<'a>(
-    alloc: Global,
-    it: &'a Decl,
-    items: &'a [PackageItem],
-    around: &mut Around<'a>,
-    out: &mut List<Instruction>,
-) -> Result<(), NoMemory>
-    ensures code { OnOk result (out.new ≡ out.old ++ codes.decl_code it.now around.old) }
-    ensures around { OnOk result (around.new ≡ with_decl (filter_map declaration_in items.now) it.now around.old) }
-{
-    match it {
-        Decl::Exception(name) => around.add_item_exception(alloc, name, items),
-        Decl::Variable { .. } | Decl::Cursor(_, _) | Decl::ExceptionInit(_, _) | Decl::Autonomous =>
-            declaration(alloc, it, &[], around, out),
-    }
-}
-
 /// Adds the code of a specification's declarations, and makes their names known.
 fn item_declarations<'a>(
     alloc: Global,
@@ -87,9 +69,25 @@ fn item_declarations<'a>(
     ensures code { OnOk result (out.new ≡ out.old ++ codes.decls_code (filter_map declaration_in items.now) around.old) }
     ensures around { OnOk result (around.new ≡ with_decls (filter_map declaration_in items.now) around.old) }
 {
+    let among = Codes::of_items(alloc, items)?;
+    let done = items_declared(alloc, items, &among, around, out);
+    without(among, done)
+}
+
+/// Adds the code of a specification's declarations, which stand among others, and makes their names known.
+fn items_declared<'a>(
+    alloc: Global,
+    items: &'a [PackageItem],
+    among: &Codes<'_>,
+    around: &mut Around<'a>,
+    out: &mut List<Instruction>,
+) -> Result<(), NoMemory>
+    ensures code { OnOk result (out.new ≡ out.old ++ codes.decls_code_among among.now (filter_map declaration_in items.now) around.old) }
+    ensures around { OnOk result (around.new ≡ with_decls_among among.now (filter_map declaration_in items.now) around.old) }
+{
     for item in items {
         if let PackageItem::Decl(it) = item {
-            item_declaration(alloc, it, items, around, out)?;
+            declaration(alloc, it, among, around, out)?;
         }
     }
     Ok(())
@@ -165,7 +163,7 @@ fn packaged<'a>(
 /// The subprograms of a body.
 fn subprograms<'a>(
     alloc: Global,
-    list: &'a List<Subprogram>,
+    list: &'a Subprograms,
     around: &mut Around<'a>,
 ) -> Result<List<ebr_code::Subprogram>, NoMemory>
     ensures subprograms { IfOk result (λ found. found ≡ spec.subprograms_code 0 list.now around.old) }

@@ -1,8 +1,8 @@
 //! Names in what an edition sees: what each means, the columns behind it, and what units declare.
 
 use ebr_ast::{
-    Block, Decl, EditionView, EditioningView, Head, Object, PackageBody, PackageItem, Subprogram,
-    UnitTree, ViewItem,
+    Block, Decl, EditionView, EditioningView, Head, Object, PackageBody, PackageItem, PackageItems,
+    Subprogram, Subprograms, UnitTree, ViewItem,
 };
 use ebr_base::{
     Bytes, Class, ColType, Column, EditionNo, List, Name, NoMemory, ObjectKey, Shared, Stamp,
@@ -243,17 +243,26 @@ fn exception_item(alloc: Global, text: &str) -> Result<PackageItem, NoMemory> {
     Ok(PackageItem::Decl(Decl::Exception(name(alloc, text)?)))
 }
 
+fn package_items(alloc: Global) -> Result<Shared<PackageItems>, NoMemory> {
+    let items = two(alloc, head_item(alloc, "BUMP"), exception_item(alloc, "E"))?;
+    PackageItems::shared(alloc, items)
+}
+
 fn package(alloc: Global, text: &str) -> Result<UnitTree, NoMemory> {
-    let items = two(alloc, head_item(alloc, "BUMP"), exception_item(alloc, "E"));
-    let (name, items) = pair(name(alloc, text), shared(alloc, items))?;
+    let (name, items) = pair(name(alloc, text), package_items(alloc))?;
     Ok(UnitTree::Package(name, items))
 }
 
+fn no_subprograms(alloc: Global) -> Result<Subprograms, NoMemory> {
+    Subprograms::of(alloc, List::new(alloc))
+}
+
 fn body(alloc: Global, text: &str) -> Result<PackageBody, NoMemory> {
+    let (name, subprograms) = pair(name(alloc, text), no_subprograms(alloc))?;
     Ok(PackageBody {
-        name: name(alloc, text)?,
+        name,
         declarations: List::new(alloc),
-        subprograms: List::new(alloc),
+        subprograms,
         statements: List::new(alloc),
         handlers: List::new(alloc),
     })

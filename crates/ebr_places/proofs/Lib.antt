@@ -1,3 +1,3 @@
-mod Found
 mod Shown
-mod Innermost
+mod Items
+mod GivenCodes

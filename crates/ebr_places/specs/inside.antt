@@ -1,3 +1,3 @@
 pub mod Codes
-pub mod Nests
 pub mod Kept
+pub mod Members

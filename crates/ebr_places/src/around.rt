@@ -17,12 +17,13 @@ ghost use Rattle.ebr_run.specs.Statements.{with_decl};
 ghost use Rattle.ebr_run.specs.Units.{outside};
 ghost use Rattle.ebr_places.specs.Lent.{lent, bound, part};
 
+use crate::codes::Codes;
 use crate::denoted::{Bound, Denoted, Part};
-use crate::exceptions::{code_given, code_given_in, declared_exception};
+use crate::exceptions::declared_exception;
 use crate::kinds::{column_among, declared_type, parameter_type};
 use crate::members::{packaged, subprogram_of};
 use crate::names::Names;
-use ebr_ast::{Decl, DeclaredType, Head, PackageItem, Parameter, Query, Subprogram};
+use ebr_ast::{DeclaredType, Head, PackageItem, Parameter, Query, Subprogram};
 use ebr_base::{Class, CloneIn, ColType, List, Name, NoMemory, ObjectKey, Shared, both};
 use ebr_names::ViewColumn;
 use ebr_rules::query;
@@ -378,32 +379,11 @@ impl<'a> Around<'a> {
         &mut self,
         alloc: Global,
         name: &'a Name,
-        among: &[Decl],
+        among: &Codes<'_>,
     ) -> Result<(), NoMemory>
         ensures { OnOk result (self.new ≡ with_decl among.now (decl.Exception name.now) self.old) }
     {
-        let code = code_given(among, name);
-        let owner = self.owner.clone_in(alloc)?;
-        let fault = declared_exception(alloc, &self.unit, self.path.as_slice(), name, code)?;
-        self.names.add(
-            name,
-            Meaning::Exception,
-            None,
-            None,
-            Denoted::Exception(owner, fault),
-        )
-    }
-
-    /// An exception of a package's specification, among its items.
-    pub fn add_item_exception(
-        &mut self,
-        alloc: Global,
-        name: &'a Name,
-        items: &[PackageItem],
-    ) -> Result<(), NoMemory>
-        ensures { OnOk result (self.new ≡ with_decl (filter_map spec.declaration_in items.now) (decl.Exception name.now) self.old) }
-    {
-        let code = code_given_in(items, name);
+        let code = among.given(name);
         let owner = self.owner.clone_in(alloc)?;
         let fault = declared_exception(alloc, &self.unit, self.path.as_slice(), name, code)?;
         self.names.add(

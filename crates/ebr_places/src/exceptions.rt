@@ -1,52 +1,14 @@
 //! Exceptions, and the codes that they have.
 
 ghost use Rattle.std.specs.Prelude.{◌≡◌, Some, None, IfOk, option_map};
-ghost use Rattle.std.specs.List.{filter_map};
 ghost use Rattle.ebr_run.specs.Scope as spec;
 ghost use Rattle.ebr_run.specs.declared.fault.Fault.TheVariants as fault;
-ghost use Rattle.ebr_places.specs.inside.Codes as inside;
 ghost use Rattle.ebr_places.specs.Lent.{lent};
 
 use crate::denoted::Denoted;
-use crate::members::declaration_in;
-use ebr_ast::{Decl, PackageItem};
 use ebr_base::{Code, List, Name, NoMemory, ObjectKey, Shared, both};
 use ebr_run::{Exception, Fault};
 use std::alloc::Global;
-
-/// The code that a declaration gives an exception.
-fn given(declaration: &Decl, name: &Name) -> Option<u64>
-    ensures { result ≡ inside.given name.now declaration.now }
-{
-    match declaration {
-        Decl::ExceptionInit(of, code) => { if *name == *of { Some(*code) } else { None } }
-        Decl::Variable { .. } | Decl::Exception(_) | Decl::Autonomous | Decl::Cursor(_, _) => None,
-    }
-}
-
-/// The code that EXCEPTION_INIT gives an exception among its declarations; of two the last counts.
-pub fn code_given(declarations: &[Decl], name: &Name) -> Option<u64>
-    ensures { result ≡ spec.code_given name.now declarations.now }
-{
-    let mut found = None;
-    for declaration in declarations {
-        found = given(declaration, name).or(found);
-    }
-    found
-}
-
-/// The same among a package's items.
-pub fn code_given_in(items: &[PackageItem], name: &Name) -> Option<u64>
-    ensures { result ≡ spec.code_given name.now (filter_map spec.declaration_in items.now) }
-{
-    let mut found = None;
-    for item in items {
-        if let Some(declaration) = declaration_in(item) {
-            found = given(declaration, name).or(found);
-        }
-    }
-    found
-}
 
 /// The same places in a list of their own.
 fn copied(alloc: Global, path: &[usize]) -> Result<List<usize>, NoMemory>

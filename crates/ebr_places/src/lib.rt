@@ -5,15 +5,16 @@
 #![tactic(auto)]
 
 mod around;
+mod codes;
 mod denoted;
 mod exceptions;
 mod kinds;
 mod lookup;
 mod members;
 mod names;
-mod nest;
 
 pub use around::{Around, Frame, Mark};
+pub use codes::Codes;
 pub use denoted::{Bound, Denoted, Part};
 pub use kinds::{declared_type, parameter_type};
 pub use lookup::{applied, called, meant, plain, raised};

@@ -8,9 +8,8 @@ ghost use Rattle.ebr_run.specs.Scope as spec;
 ghost use Rattle.ebr_places.specs.Lent.{lent};
 
 use crate::denoted::Denoted;
-use crate::nest::{Nest, is_pushed};
 use ebr_base::{List, Name, NoMemory, Shared};
-use ebr_scope::{Field, Meaning, Scopes};
+use ebr_scope::{Field, Meaning, Nest, Scopes, is_pushed};
 use std::alloc::Global;
 use std::marker::Model;
 

@@ -1,6 +1,7 @@
 //! Subprograms and packages.
 
-ghost use Rattle.std.specs.Prelude.{◌≡◌};
+ghost use Rattle.std.specs.Prelude.{◌≡◌, Some, List as Sequence};
+ghost use Rattle.ebr_lexer.specs.declared.token.Token.{Token};
 ghost use Rattle.ebr_grammar.specs.Forms.{sees};
 ghost use Rattle.ebr_grammar.specs.Outcome.{Reads};
 ghost use Rattle.ebr_grammar.specs.Reading.{with_first};
@@ -9,7 +10,9 @@ ghost use Rattle.ebr_plparse.specs.Productions.{reads_by};
 ghost use Rattle.ebr_plparse.specs.Packages as grammar;
 
 use crate::heads::head;
-use ebr_ast::{Block, Decl, PackageBody, PackageItem, Subprogram, UnitTree};
+use ebr_ast::{
+    Block, Decl, PackageBody, PackageItem, PackageItems, Subprogram, Subprograms, UnitTree,
+};
 use ebr_base::{List, Name, Shared};
 use ebr_grammar::{Kind, ReadStop, Tokens, shared};
 use ebr_stmtparse::{Initial, read_body, read_declaration, read_initial};
@@ -19,7 +22,7 @@ use std::alloc::Global;
 #[derive(Drop)]
 pub struct BodyMembers {
     pub declarations: List<Decl>,
-    pub subprograms: List<Subprogram>,
+    pub subprograms: Subprograms,
     pub initial: Initial,
 }
 
@@ -122,7 +125,7 @@ fn specification_rest(
 {
     let items = package_items(alloc, tokens)?;
     unit_end(alloc, tokens)?;
-    Ok(UnitTree::Package(name, Shared::new(alloc, items)?))
+    Ok(UnitTree::Package(name, PackageItems::shared(alloc, items)?))
 }
 
 /// What stands behind a package's name.
@@ -161,6 +164,21 @@ fn subprograms(alloc: Global, tokens: &mut Tokens<'_>) -> Result<List<Subprogram
     Ok(found)
 }
 
+/// Subprograms with what is noted of their names: what was read, before any tokens.
+fn noted(alloc: Global, list: List<Subprogram>) -> Result<Subprograms, ReadStop>
+    ensures { (ts : Sequence Token) → Reads (Some (list, ts)) result ts }
+{
+    Ok(Subprograms::of(alloc, list)?)
+}
+
+/// The subprograms of a package's body.
+fn noted_subprograms(alloc: Global, tokens: &mut Tokens<'_>) -> Result<Subprograms, ReadStop>
+    ensures { Reads (reads_by grammar.subprograms tokens.old) result tokens.new }
+{
+    let found = subprograms(alloc, tokens)?;
+    noted(alloc, found)
+}
+
 /// The initial part of a package's body, which is empty where none stands there.
 fn maybe_initial(alloc: Global, tokens: &mut Tokens<'_>) -> Result<Initial, ReadStop>
     ensures { Reads (reads_by grammar.maybe_initial tokens.old) result tokens.new }
@@ -180,7 +198,7 @@ fn body_members(alloc: Global, tokens: &mut Tokens<'_>) -> Result<BodyMembers, R
     ensures { Reads (reads_by grammar.body_members tokens.old) result tokens.new }
 {
     let declarations = declarations(alloc, tokens)?;
-    let subprograms = subprograms(alloc, tokens)?;
+    let subprograms = noted_subprograms(alloc, tokens)?;
     let initial = maybe_initial(alloc, tokens)?;
     Ok(BodyMembers {
         declarations,

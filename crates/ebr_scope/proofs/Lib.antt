@@ -1,4 +1,6 @@
-mod Entries
+pub mod Entries
+pub mod Innermost
 mod Before
 mod Shown
 mod Examples
+mod Items

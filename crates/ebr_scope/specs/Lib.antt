@@ -4,3 +4,4 @@ pub mod Declarations
 pub mod Names
 pub mod Around
 pub mod Lent
+pub mod inside

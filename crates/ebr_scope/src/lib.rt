@@ -8,6 +8,7 @@ mod column;
 mod field;
 mod lookup;
 mod meaning;
+mod nest;
 mod place;
 mod scopes;
 
@@ -15,8 +16,9 @@ pub use column::{column_type_of, declared_type, parameter_type, result_type};
 pub use field::Field;
 pub use lookup::{
     applied, called, decl_name, item_name, item_named, meant, plain, raised, variable,
-    visible_head, visible_items,
+    visible_head, visible_items, visible_package,
 };
 pub use meaning::{Meaning, is_out, is_target, variable_type};
+pub use nest::{Nest, is_pushed};
 pub use place::{Place, Seen};
 pub use scopes::Scopes;

@@ -1,7 +1,7 @@
 //! What names in code stand for.
 
-ghost use Rattle.std.specs.Prelude.{◌≡◌, ◌||◌, option_map, option_and_then, find};
-ghost use Rattle.std.specs.Option.{option_copied};
+ghost use Rattle.std.specs.Prelude.{◌≡◌, ◌||◌, [], option_map, option_and_then, find};
+ghost use Rattle.std.specs.Option.{option_copied, unwrap_or};
 ghost use Rattle.std.specs.Str.{bytes_eq};
 ghost use Rattle.ebr_scope.specs.Names as spec;
 ghost use Rattle.ebr_scope.specs.Declarations as declared;
@@ -13,7 +13,7 @@ use crate::field::Field;
 use crate::meaning::Meaning;
 use crate::place::Seen;
 use crate::scopes::{Scopes, head_in};
-use ebr_ast::{Decl, Head, Object, PackageItem, Path, UnitTree};
+use ebr_ast::{Decl, Head, Object, PackageItem, PackageItems, Path, UnitTree};
 use ebr_base::{Class, List, Name, Shared};
 use ebr_names::object;
 use ebr_sqlcheck::ValueType;
@@ -37,22 +37,32 @@ fn head_of(tree: &UnitTree) -> Option<&Head>
     }
 }
 
+/// The specification of the visible package of a name; none where there is no such package.
+pub fn visible_package<'a>(seen: &Seen<'a>, name: &Name) -> Option<&'a PackageItems>
+    ensures { unwrap_or (option_copied result) [] ≡ spec.visible_items seen.now.view name.now }
+{
+    match object(seen.get(), Class::Unit, name) {
+        Some(object) => package_of(&object.tree),
+        None => None,
+    }
+}
+
+fn package_of(tree: &UnitTree) -> Option<&PackageItems>
+    ensures { unwrap_or (option_copied result) [] ≡ spec.items_of tree.now }
+{
+    match tree {
+        UnitTree::Package(_, items) => Some(items.get()),
+        _ => None,
+    }
+}
+
 /// What the specification of the visible package of a name has.
 pub fn visible_items<'a>(seen: &Seen<'a>, name: &Name) -> &'a [PackageItem]
     ensures { result.now ≡ spec.visible_items seen.now.view name.now }
 {
-    match object(seen.get(), Class::Unit, name) {
-        Some(object) => items_of(&object.tree),
+    match visible_package(seen, name) {
+        Some(items) => items.as_slice(),
         None => &[],
-    }
-}
-
-fn items_of(tree: &UnitTree) -> &[PackageItem]
-    ensures { result.now ≡ spec.items_of tree.now }
-{
-    match tree {
-        UnitTree::Package(_, items) => items.get().as_slice(),
-        _ => &[],
     }
 }
 
@@ -78,20 +88,12 @@ pub fn item_name(item: &PackageItem) -> Option<&Name>
     }
 }
 
-fn declares(item: &PackageItem, name: &Name) -> bool
-    ensures { result ≡ declared.is_name name.now (declared.item_name item.now) }
-{
-    match item_name(item) {
-        Some(declared) => *name == *declared,
-        None => false,
-    }
-}
-
 /// What a specification has under a name.
-pub fn item_named<'a>(items: &'a [PackageItem], name: &Name) -> Option<&'a PackageItem>
+#[tactic(auto, using(crate::proofs::Items::same_item))]
+pub fn item_named<'a>(items: &'a PackageItems, name: &Name) -> Option<&'a PackageItem>
     ensures { option_copied result ≡ declared.item_named name.now items.now }
 {
-    items.iter().find(|item| declares(item, name))
+    items.named(name)
 }
 
 /// A variable, or a constant.
@@ -125,12 +127,22 @@ fn item_meaning<'a>(seen: &Seen<'a>, item: &'a PackageItem) -> Option<Meaning<'a
     }
 }
 
+/// What the visible package of a name has under another one.
+fn visible_item<'a>(seen: &Seen<'a>, n: &Name, m: &Name) -> Option<&'a PackageItem>
+    ensures { option_copied result ≡ declared.item_named m.now (spec.visible_items seen.now.view n.now) }
+{
+    match visible_package(seen, n) {
+        Some(items) => item_named(items, m),
+        None => None,
+    }
+}
+
 /// `n.m` as a member of the visible package n.
 #[tactic(auto, unfolding(crate::specs::Names::member))]
 fn member<'a>(seen: &Seen<'a>, n: &Name, m: &Name) -> Option<Meaning<'a>>
     ensures { option_map lent result ≡ spec.member seen.now.view n.now m.now }
 {
-    match item_named(visible_items(seen, n), m) {
+    match visible_item(seen, n, m) {
         Some(item) => item_meaning(seen, item),
         None => None,
     }

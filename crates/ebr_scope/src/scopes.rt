@@ -1,14 +1,14 @@
 //! The names that are declared around a piece of code.
 
-ghost use Rattle.std.specs.Prelude.{◌≡◌, ◌∷◌, ◌-◌, ◌&&◌, [], OnOk, find, reverse, drop, length, option_map};
+ghost use Rattle.std.specs.Prelude.{◌≡◌, ◌∷◌, ◌-◌, [], OnOk, slice_get, drop, length, option_map, option_and_then};
 ghost use Rattle.std.specs.Option.{option_copied, is_some};
-ghost use Rattle.std.specs.Str.{bytes_eq};
 ghost use Rattle.ebr_scope.specs.Meanings as spec;
 ghost use Rattle.ebr_scope.specs.Names.{entry_fields};
 ghost use Rattle.ebr_scope.specs.Lent.{lent};
 
 use crate::field::Field;
 use crate::meaning::Meaning;
+use crate::nest::{Nest, is_pushed};
 use ebr_ast::Head;
 use ebr_base::{List, Name, NoMemory, Shared};
 use std::alloc::Global;
@@ -26,16 +26,23 @@ struct Entry<'a> {
 #[derive(Drop)]
 pub struct Scopes<'a> {
     entries: Vec<Entry<'a>>,
+    /// Where the innermost one of each name stands.
+    places: Nest<'a>,
+    /// Where the innermost subprogram of each name stands.
+    subprograms: Nest<'a>,
 }
 
 impl<'a> Model for Scopes<'a> {
     ghost use Rattle.std.specs.Prelude.{List, map, reverse};
     ghost use Rattle.ebr_scope.specs.Meanings as spec;
     ghost use Rattle.ebr_scope.specs.Lent.{lent};
+    ghost use Rattle.ebr_scope.specs.inside.Kept.{IsKept};
 
     ghost Value = { spec.Scope };
 
     ghost view = { λ s. map (λ e. record { name = e.name.now; meaning = lent e.meaning; fields = e.fields }) (reverse s.entries.items) };
+
+    ghost invariant = { λ s. IsKept s.places s.subprograms (reverse s.entries.items) };
 }
 
 impl<'a> Scopes<'a> {
@@ -45,6 +52,8 @@ impl<'a> Scopes<'a> {
     {
         Scopes {
             entries: Vec::new(alloc),
+            places: Nest::new(alloc),
+            subprograms: Nest::new(alloc),
         }
     }
 
@@ -55,14 +64,14 @@ impl<'a> Scopes<'a> {
         self.entries.len()
     }
 
-    /// Adds a name inside all others.
+    /// Adds a name inside all others. Where there is no memory, no name is left.
     pub fn add(&mut self, name: &'a Name, meaning: Meaning<'a>) -> Result<(), NoMemory>
         ensures { OnOk result (self.new ≡ spec.entry name.now (lent meaning.entry) ∷ self.old) }
     {
         self.add_with(name, meaning, None)
     }
 
-    /// Adds a name with the columns of a cursor or a record.
+    /// Adds a name with the columns of a cursor or a record. Where there is no memory, no name is left.
     pub fn add_with(
         &mut self,
         name: &'a Name,
@@ -71,12 +80,20 @@ impl<'a> Scopes<'a> {
     ) -> Result<(), NoMemory>
         ensures { OnOk result (self.new ≡ spec.with_fields name.now (lent meaning.entry) fields ∷ self.old) }
     {
-        self.entries.push(Entry {
+        let place = self.places.add(name, true);
+        let subprogram = self.subprograms.add(name, is_subprogram(meaning));
+        let entry = Entry {
             name,
             meaning,
             fields,
-        })?;
-        Ok(())
+        };
+        if is_pushed(&mut self.entries, entry) && place.is_ok() && subprogram.is_ok() {
+            return Ok(());
+        }
+        self.entries.clear();
+        self.places.cut(0);
+        self.subprograms.cut(0);
+        Err(NoMemory)
     }
 
     /// Takes away all names but the outermost ones.
@@ -84,13 +101,15 @@ impl<'a> Scopes<'a> {
         ensures { self.new ≡ drop (length self.old - depth) self.old }
     {
         self.entries.truncate(depth);
+        self.places.cut(depth);
+        self.subprograms.cut(depth);
     }
 
     /// What a name stands for, the innermost one.
     pub fn find(&self, name: &Name) -> Option<Meaning<'a>>
         ensures { option_map lent result ≡ option_map (λ e. e.meaning) (spec.innermost name.now self.now) }
     {
-        match innermost(self.entries.as_slice(), name) {
+        match entry_at(self.entries.as_slice(), self.places.find(name)) {
             Some(entry) => Some(entry.meaning),
             None => None,
         }
@@ -100,7 +119,7 @@ impl<'a> Scopes<'a> {
     pub fn fields(&self, name: &Name) -> Option<&Shared<List<Field>>>
         ensures { option_copied result ≡ entry_fields (spec.innermost name.now self.now) }
     {
-        match innermost(self.entries.as_slice(), name) {
+        match entry_at(self.entries.as_slice(), self.places.find(name)) {
             Some(entry) => entry.fields.as_ref(),
             None => None,
         }
@@ -110,23 +129,21 @@ impl<'a> Scopes<'a> {
     pub fn subprogram(&self, name: &Name) -> Option<&'a Head>
         ensures { option_copied result ≡ spec.subprogram name.now self.now }
     {
-        match innermost_subprogram(self.entries.as_slice(), name) {
+        match entry_at(self.entries.as_slice(), self.subprograms.find(name)) {
             Some(entry) => head_in(entry.meaning),
             None => None,
         }
     }
 }
 
-fn innermost<'b, 'a>(entries: &'b [Entry<'a>], name: &Name) -> Option<&'b Entry<'a>>
-    ensures { option_copied result ≡ find (λ e. bytes_eq name.now e.name.now) (reverse entries.now) }
+/// The name at a place, counted from the outermost.
+fn entry_at<'b, 'a>(entries: &'b [Entry<'a>], at: Option<usize>) -> Option<&'b Entry<'a>>
+    ensures { option_copied result ≡ option_and_then (slice_get entries.now) at }
 {
-    entries.iter().rev().find(|entry| *name == *entry.name)
-}
-
-fn innermost_subprogram<'b, 'a>(entries: &'b [Entry<'a>], name: &Name) -> Option<&'b Entry<'a>>
-    ensures { option_copied result ≡ find (λ e. bytes_eq name.now e.name.now && is_some (spec.head_in (lent e.meaning))) (reverse entries.now) }
-{
-    entries.iter().rev().find(|entry| *name == *entry.name && is_subprogram(entry.meaning))
+    match at {
+        Some(at) => entries.get(at),
+        None => None,
+    }
 }
 
 fn is_subprogram(meaning: Meaning<'_>) -> bool

@@ -5,15 +5,16 @@ ghost use Rattle.ebr_ast.specs.declared.statement.Decl.TheVariants as decl;
 ghost use Rattle.ebr_code.specs.declared.instruction.Instruction.{Do};
 ghost use Rattle.ebr_code.specs.declared.instruction.Operation.TheVariants as does;
 ghost use Rattle.ebr_run.specs.Scope as scope;
-ghost use Rattle.ebr_run.specs.Statements.{with_decl, with_decls};
+ghost use Rattle.ebr_run.specs.Statements.{with_decl, with_decls, with_decls_among};
 ghost use Rattle.ebr_code.specs.Codes as spec;
 
+use crate::held::without;
 use ebr_ast::{Decl, DeclaredType, Expr, Query};
 use ebr_base::{List, Name, NoMemory, Shared, Value};
 use ebr_binds::query;
 use ebr_code::{Instruction, Operation};
 use ebr_exprcode::{act, expression};
-use ebr_places::{Around, declared_type};
+use ebr_places::{Around, Codes, declared_type};
 use std::alloc::Global;
 
 fn initial(
@@ -68,7 +69,7 @@ fn cursor<'a>(
 pub fn declaration<'a>(
     alloc: Global,
     it: &'a Decl,
-    among: &[Decl],
+    among: &Codes<'_>,
     around: &mut Around<'a>,
     out: &mut List<Instruction>,
 ) -> Result<(), NoMemory>
@@ -102,8 +103,24 @@ pub fn declarations<'a>(
     ensures code { OnOk result (out.new ≡ out.old ++ spec.decls_code list.now around.old) }
     ensures around { OnOk result (around.new ≡ with_decls list.now around.old) }
 {
+    let among = Codes::of(alloc, list)?;
+    let done = declared(alloc, list, &among, around, out);
+    without(among, done)
+}
+
+/// Adds the code of declarations that stand among others, and makes their names known.
+fn declared<'a>(
+    alloc: Global,
+    list: &'a [Decl],
+    among: &Codes<'_>,
+    around: &mut Around<'a>,
+    out: &mut List<Instruction>,
+) -> Result<(), NoMemory>
+    ensures code { OnOk result (out.new ≡ out.old ++ spec.decls_code_among among.now list.now around.old) }
+    ensures around { OnOk result (around.new ≡ with_decls_among among.now list.now around.old) }
+{
     for it in list {
-        declaration(alloc, it, list, around, out)?;
+        declaration(alloc, it, among, around, out)?;
     }
     Ok(())
 }

@@ -1,7 +1,7 @@
 use Rattle.std.proofs.Common.{◌≡◌, Some, None, find, option_map, ap, sym, ◌∙◌, rules}
 use Rattle.ebr_run.specs.Scope as spec
 use Rattle.ebr_places.specs.Lent.{part}
-use Rattle.ebr_places.proofs.Found.{found}
+use Rattle.ebr_scope.proofs.Entries.{found}
 use Rattle.ebr_places.proofs.lookup.part_meant.Goals as goal
 
 pub returns-in-Some : goal.returns-in-Some

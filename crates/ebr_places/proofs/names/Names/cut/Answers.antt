@@ -1,6 +1,6 @@
 use Rattle.std.proofs.Common.{◌≡◌, ◌-◌, map, reverse, drop, take, length, ap, sym, ◌∙◌, rules}
 use Rattle.ebr_places.specs.inside.Kept.{told, named, subprogram}
-use Rattle.ebr_places.proofs.Found.{kept, still}
+use Rattle.ebr_scope.proofs.Entries.{kept, still}
 use Rattle.ebr_places.proofs.Shown.{shown}
 use Rattle.ebr_places.proofs.names.Names.cut.Goals as goal
 

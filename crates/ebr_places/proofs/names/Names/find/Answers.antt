@@ -3,8 +3,8 @@ use Rattle.std.specs.Prelude.{find, option_map}
 use Rattle.std.specs.Str.{bytes_eq}
 use Rattle.ebr_run.specs.Scope.{Named, denoted_of}
 use Rattle.ebr_places.specs.inside.Kept.{named}
-use Rattle.ebr_places.proofs.Found.{found}
-use Rattle.ebr_places.proofs.Innermost.{at_entry}
+use Rattle.ebr_scope.proofs.Entries.{found}
+use Rattle.ebr_scope.proofs.Innermost.{at_entry}
 use Rattle.ebr_places.proofs.Shown.{shown}
 use Rattle.ebr_places.proofs.names.Names.find.Goals as goal
 

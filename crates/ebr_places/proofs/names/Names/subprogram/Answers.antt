@@ -4,8 +4,8 @@ use Rattle.std.specs.Str.{bytes_eq}
 use Rattle.ebr_run.specs.Scope.{denoted_of, is_subprogram, is_subprogram_of}
 use Rattle.ebr_places.specs.Lent.{lent}
 use Rattle.ebr_places.specs.inside.Kept.{subprogram}
-use Rattle.ebr_places.proofs.Found.{found, by_same, other_order}
-use Rattle.ebr_places.proofs.Innermost.{at_entry}
+use Rattle.ebr_scope.proofs.Entries.{found, by_same, other_order}
+use Rattle.ebr_scope.proofs.Innermost.{at_entry}
 use Rattle.ebr_places.proofs.Shown.{shown}
 use Rattle.ebr_places.proofs.names.Names.subprogram.Goals as goal
 

@@ -1,17 +1,24 @@
-use Rattle.std.proofs.Common.{◌≡◌, ◌&&◌, Some, None, reverse, ap, sym, ◌∙◌, rules}
+use Rattle.std.proofs.Common.{◌≡◌, ◌&&◌, Some, None, reverse, slice_get, ap, sym, ◌∙◌, rules}
 use Rattle.std.specs.Prelude.{find, option_map, option_and_then}
 use Rattle.std.specs.Option.{is_some, option_copied}
 use Rattle.std.specs.Str.{bytes_eq}
 use Rattle.ebr_scope.specs.Meanings.{Entry, head_in, is_subprogram}
 use Rattle.ebr_scope.specs.Names.{entry_fields}
 use Rattle.ebr_scope.specs.Lent.{lent}
+use Rattle.ebr_scope.specs.inside.Kept.{named}
 use Rattle.ebr_scope.proofs.Entries.{found}
+use Rattle.ebr_scope.proofs.Innermost.{at_entry}
 use Rattle.ebr_scope.proofs.Shown.{shown}
 use Rattle.ebr_scope.proofs.scopes.Scopes.fields.Goals as goal
 
 pub returns-in-Some : goal.returns-in-Some
 returns-in-Some c =
-    let f : Some c.in-Some.entry.now ≡ find (λ e. bytes_eq c.args.name.now e.name.now) (reverse c.self.inside.entries.items) = search rules in
+    let l : c.as_slice.result.now ≡ c.self.inside.entries.items = search rules in
+    let f : Some c.in-Some.entry.now ≡ find (λ e. bytes_eq c.args.name.now e.name.now) (reverse c.self.inside.entries.items) =
+    c.in-Some.ensures
+    ∙ ap (λ es. option_and_then (slice_get es) c.find.result) l
+    ∙ at_entry named c.args.name.now c.self.inside.entries.items c.find.result c.self.inside.places c.find.ensures c.self.invariant.every
+    in
     let p : option_copied c.as_ref.result ≡ c.in-Some.entry.now.fields = search rules in
     p ∙ (ap (λ o. entry_fields (option_map shown o)) f
     ∙ (ap (entry_fields) (sym (found shown (λ (e : Entry). bytes_eq c.args.name.now e.name) (reverse c.self.inside.entries.items)))
@@ -19,7 +26,12 @@ returns-in-Some c =
 
 pub returns-in-None : goal.returns-in-None
 returns-in-None c =
-    let f : None ≡ find (λ e. bytes_eq c.args.name.now e.name.now) (reverse c.self.inside.entries.items) = search rules in
+    let l : c.as_slice.result.now ≡ c.self.inside.entries.items = search rules in
+    let f : None ≡ find (λ e. bytes_eq c.args.name.now e.name.now) (reverse c.self.inside.entries.items) =
+    c.in-None.ensures
+    ∙ ap (λ es. option_and_then (slice_get es) c.find.result) l
+    ∙ at_entry named c.args.name.now c.self.inside.entries.items c.find.result c.self.inside.places c.find.ensures c.self.invariant.every
+    in
     ap (λ o. entry_fields (option_map shown o)) f
     ∙ (ap (entry_fields) (sym (found shown (λ (e : Entry). bytes_eq c.args.name.now e.name) (reverse c.self.inside.entries.items)))
     ∙ search rules)

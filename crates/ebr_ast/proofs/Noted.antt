@@ -1,0 +1,35 @@
+-- What is noted of names on the way through a list, and what it finds.
+use Rattle.std.proofs.Common.{◌≡◌, ℕ, ◌+◌, Bool, true, false, cond, List, length, Option, Some, None, refl, sym, ap, ◌∙◌}
+use Rattle.std.specs.Prelude.{find, slice_get, option_and_then, nat_lt}
+use Rattle.std.specs.List.{position, position_from, position_or_len}
+use Rattle.std.specs.Option.{option_or, unwrap_or}
+use Rattle.std.proofs.lemmas.Bool.{ltb-false}
+use Rattle.std.proofs.lemmas.Iterator.Adapters.{position_from-zero}
+use Rattle.std.proofs.lemmas.List.Folds.{find_at}
+use Rattle.std.proofs.lemmas.Option.{slice_get_past}
+use Rattle.ebr_ast.specs.declared.unit.PackageItem.{PackageItem}
+use Rattle.ebr_ast.specs.Members.{variables_before, code_given}
+use Rattle.ebr_ast.specs.inside.Notes.{Notes, note}
+
+-- the places noted so far, and those in the rest
+abbrev pub Places : {X : Type 0} → (List ℕ → X → Bool) → Notes → ℕ → List X → List X → Type 0
+Places p notes at rest all = (n : List ℕ) → option_or (note n notes) (position_from (p n) at rest) ≡ position_from (p n) 0 all
+
+-- the variables counted so far, and those in the rest
+abbrev pub Counts : Notes → ℕ → List PackageItem → List PackageItem → Type 0
+Counts notes all rest items = (n : List ℕ) → unwrap_or (note n notes) (all + variables_before n rest) ≡ variables_before n items
+
+-- the codes noted so far, and those in the rest
+abbrev pub Codes : Notes → List PackageItem → List PackageItem → Type 0
+Codes notes rest items = (n : List ℕ) → option_or (code_given n rest) (note n notes) ≡ code_given n items
+
+-- what stands at the first place is what is found
+pub at_place : {X : Type 0} (p : X → Bool) (xs : List X) → option_and_then (slice_get xs) (position_from p 0 xs) ≡ find p xs
+at_place p xs = ap (option_and_then (slice_get xs)) (sym (position_from-zero p xs)) ∙ by (nat_lt (position_or_len p xs) (length xs)) refl
+  where
+    by : (b : Bool) → nat_lt (position_or_len p xs) (length xs) ≡ b → option_and_then (slice_get xs) (cond b (Some (position_or_len p xs)) None) ≡ find p xs
+    by true e = sym (find_at p xs)
+    by false e = sym (find_at p xs ∙ slice_get_past xs (position_or_len p xs) (ltb-false _ _ e))
+
+pub same_place : {X : Type 0} (p : X → Bool) (xs : List X) → position_from p 0 xs ≡ position p xs
+same_place p xs = sym (position_from-zero p xs)

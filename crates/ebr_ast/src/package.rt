@@ -1,0 +1,308 @@
+//! The lists of packages, with what look-ups by a name want of them.
+
+ghost use Rattle.std.specs.Prelude.{◌≡◌, IfOk, OnOk, find};
+ghost use Rattle.std.specs.List.{position};
+ghost use Rattle.std.specs.Option.{option_copied};
+ghost use Rattle.ebr_ast.specs.Members as spec;
+ghost use Rattle.ebr_ast.specs.inside.Notes as inside;
+
+use crate::notes::{coded, note_code, note_first, noted};
+use crate::statement::Decl;
+use crate::unit::{PackageItem, Subprogram};
+use ebr_base::{List, Name, NoMemory, Shared};
+use indexmap::IndexMap;
+use std::alloc::Global;
+use std::fmt;
+use std::fmt::{Debug, Formatter, Write};
+use std::marker::Model;
+
+/// The items of a package's specification, which contracts see as their list. No look-up by a name goes through the list.
+#[derive(Drop)]
+pub struct PackageItems {
+    list: List<PackageItem>,
+    notes: ItemNotes,
+}
+
+/// What is noted of the names of items.
+#[derive(Drop)]
+struct ItemNotes {
+    /// The place of the first item of each name.
+    places: IndexMap<Name, usize>,
+    counts: Counts,
+    /// The code that each exception is given last.
+    codes: IndexMap<Name, u64>,
+}
+
+/// How many variables and constants there are.
+#[derive(Drop)]
+struct Counts {
+    /// Those before the first declaration of each name.
+    before: IndexMap<Name, usize>,
+    all: usize,
+}
+
+impl Model for PackageItems {
+    ghost use Rattle.std.specs.Prelude.{List as Sequence};
+    ghost use Rattle.std.specs.Coded.{coded_list};
+    ghost use Rattle.ebr_ast.specs.declared.unit.PackageItem.{PackageItem as Item};
+    ghost use Rattle.ebr_ast.specs.contracts.unit.PackageItem as i;
+    ghost use Rattle.ebr_ast.specs.inside.Notes.{AreNoted};
+
+    ghost Value = { Sequence Item };
+
+    ghost coded = { coded_list i.the_row.coded };
+
+    ghost view = { λ s. s.list };
+
+    ghost invariant = { λ s. AreNoted s.list s.notes.places.entries s.notes.counts.before.entries s.notes.counts.all s.notes.codes.entries };
+}
+
+impl PackageItems {
+    /// A list, made shareable, with what is noted of its names.
+    pub fn shared(alloc: Global, list: List<PackageItem>) -> Result<Shared<PackageItems>, NoMemory>
+        ensures { IfOk result (λ items. items ≡ list) }
+    {
+        let notes = notes_of(alloc, list.as_slice())?;
+        Ok(Shared::new(alloc, PackageItems { list, notes })?)
+    }
+
+    /// The items.
+    pub fn as_slice(&self) -> &[PackageItem]
+        ensures { result.now ≡ self.now }
+    {
+        self.list.as_slice()
+    }
+
+    /// The item that a name means.
+    pub fn named(&self, name: &Name) -> Option<&PackageItem>
+        ensures { option_copied result ≡ spec.item_named name.now self.now }
+    {
+        match noted(&self.notes.places, name) {
+            Some(at) => self.list.get(at),
+            None => None,
+        }
+    }
+
+    /// How many variables and constants stand before the declaration of a name.
+    pub fn variables_before(&self, name: &Name) -> usize
+        ensures { result ≡ spec.variables_before name.now self.now }
+    {
+        noted(&self.notes.counts.before, name).unwrap_or(self.notes.counts.all)
+    }
+
+    /// The code that EXCEPTION_INIT gives an exception; of two the last counts.
+    pub fn code_given(&self, name: &Name) -> Option<u64>
+        ensures { result ≡ spec.code_given name.now self.now }
+    {
+        coded(&self.notes.codes, name)
+    }
+}
+
+impl Debug for PackageItems {
+    /// The items, as a list prints them.
+    fn fmt<W: Write>(&self, f: &mut Formatter<W>) -> fmt::Result {
+        self.list.fmt(f)
+    }
+}
+
+fn notes_of(alloc: Global, items: &[PackageItem]) -> Result<ItemNotes, NoMemory>
+    ensures { IfOk result (λ notes. inside.AreNoted items.now notes.places.entries notes.counts.before.entries notes.counts.all notes.codes.entries) }
+{
+    let places = places_of(alloc, items)?;
+    let counts = counts_of(alloc, items)?;
+    let codes = codes_of(alloc, items)?;
+    Ok(ItemNotes {
+        places,
+        counts,
+        codes,
+    })
+}
+
+// ---- places
+
+fn places_of(alloc: Global, items: &[PackageItem]) -> Result<IndexMap<Name, usize>, NoMemory>
+    ensures { IfOk result (λ places. inside.HasPlaces items.now places.entries) }
+{
+    let mut places = IndexMap::new(alloc);
+    for (at, item) in items.iter().enumerate() {
+        note_item(&mut places, item, at)?;
+    }
+    Ok(places)
+}
+
+fn note_item(
+    places: &mut IndexMap<Name, usize>,
+    item: &PackageItem,
+    at: usize,
+) -> Result<(), NoMemory>
+    ensures { OnOk result (inside.NotesFirst (λ n. inside.where_so (spec.has_name n item.now) at) places.old.entries places.new.entries) }
+{
+    match item {
+        PackageItem::Decl(declaration) => note_declaration(places, declaration, at),
+        PackageItem::Head(head) => note_first(places, &head.name, at),
+    }
+}
+
+fn note_declaration(
+    notes: &mut IndexMap<Name, usize>,
+    declaration: &Decl,
+    number: usize,
+) -> Result<(), NoMemory>
+    ensures { OnOk result (inside.NotesFirst (λ n. inside.where_so (spec.declares n declaration.now) number) notes.old.entries notes.new.entries) }
+{
+    match declaration {
+        Decl::Variable { name, .. } => note_first(notes, name, number),
+        Decl::Exception(name) => note_first(notes, name, number),
+        Decl::Cursor(name, _) => note_first(notes, name, number),
+        Decl::ExceptionInit(_, _) | Decl::Autonomous => Ok(()),
+    }
+}
+
+// ---- counts
+
+fn counts_of(alloc: Global, items: &[PackageItem]) -> Result<Counts, NoMemory>
+    ensures { IfOk result (λ counts. inside.HasCounts items.now counts.before.entries counts.all) }
+{
+    let mut before = IndexMap::new(alloc);
+    let mut all = 0;
+    for item in items {
+        note_count(&mut before, item, all)?;
+        all += weight(item);
+    }
+    Ok(Counts { before, all })
+}
+
+fn note_count(
+    before: &mut IndexMap<Name, usize>,
+    item: &PackageItem,
+    count: usize,
+) -> Result<(), NoMemory>
+    ensures { OnOk result (inside.NotesFirst (λ n. inside.where_so (spec.is_declared n item.now) count) before.old.entries before.new.entries) }
+{
+    match item {
+        PackageItem::Decl(declaration) => note_declaration(before, declaration, count),
+        PackageItem::Head(_) => Ok(()),
+    }
+}
+
+/// 1 for a variable or a constant, and else 0.
+fn weight(item: &PackageItem) -> usize
+    ensures { result ≡ inside.weight (spec.is_variable item.now) }
+{
+    match item {
+        PackageItem::Decl(Decl::Variable { .. }) => 1,
+        _ => 0,
+    }
+}
+
+// ---- codes
+
+fn codes_of(alloc: Global, items: &[PackageItem]) -> Result<IndexMap<Name, u64>, NoMemory>
+    ensures { IfOk result (λ codes. inside.HasCodes items.now codes.entries) }
+{
+    let mut codes = IndexMap::new(alloc);
+    for item in items {
+        note_given(&mut codes, item)?;
+    }
+    Ok(codes)
+}
+
+fn note_given(codes: &mut IndexMap<Name, u64>, item: &PackageItem) -> Result<(), NoMemory>
+    ensures { OnOk result (inside.NotesLast (λ n. spec.given n item.now) codes.old.entries codes.new.entries) }
+{
+    match item {
+        PackageItem::Decl(declaration) => note_pragma(codes, declaration),
+        PackageItem::Head(_) => Ok(()),
+    }
+}
+
+fn note_pragma(codes: &mut IndexMap<Name, u64>, declaration: &Decl) -> Result<(), NoMemory>
+    ensures { OnOk result (inside.NotesLast (λ n. spec.given n (PackageItem.Decl declaration.now)) codes.old.entries codes.new.entries) }
+{
+    match declaration {
+        Decl::ExceptionInit(name, code) => note_code(codes, name, *code),
+        Decl::Variable { .. } | Decl::Exception(_) | Decl::Cursor(_, _) | Decl::Autonomous => Ok(
+            (),
+        ),
+    }
+}
+
+// ---- subprograms
+
+/// The subprograms of a package's body, which contracts see as their list. No look-up by a name goes through the list.
+#[derive(Drop)]
+pub struct Subprograms {
+    list: List<Subprogram>,
+    /// The place of the first one of each name.
+    places: IndexMap<Name, usize>,
+}
+
+impl Model for Subprograms {
+    ghost use Rattle.std.specs.Prelude.{List as Sequence};
+    ghost use Rattle.std.specs.Coded.{coded_list};
+    ghost use Rattle.ebr_ast.specs.declared.unit.Subprogram.{Subprogram as Written};
+    ghost use Rattle.ebr_ast.specs.contracts.unit.Subprogram as s;
+    ghost use Rattle.ebr_ast.specs.inside.Notes.{HasSubprograms};
+
+    ghost Value = { Sequence Written };
+
+    ghost coded = { coded_list s.the_row.coded };
+
+    ghost view = { λ s. s.list };
+
+    ghost invariant = { λ s. HasSubprograms s.list s.places.entries };
+}
+
+impl Subprograms {
+    /// A list, with what is noted of its names.
+    pub fn of(alloc: Global, list: List<Subprogram>) -> Result<Subprograms, NoMemory>
+        ensures { IfOk result (λ subprograms. subprograms ≡ list) }
+    {
+        let places = subprogram_places(alloc, list.as_slice())?;
+        Ok(Subprograms { list, places })
+    }
+
+    /// The subprograms.
+    pub fn as_slice(&self) -> &[Subprogram]
+        ensures { result.now ≡ self.now }
+    {
+        self.list.as_slice()
+    }
+
+    /// The first one of a name.
+    pub fn named(&self, name: &Name) -> Option<&Subprogram>
+        ensures { option_copied result ≡ find (spec.is_named name.now) self.now }
+    {
+        match noted(&self.places, name) {
+            Some(at) => self.list.get(at),
+            None => None,
+        }
+    }
+
+    /// The place of the first one of a name, counted from 0.
+    pub fn place(&self, name: &Name) -> Option<usize>
+        ensures { result ≡ position (spec.is_named name.now) self.now }
+    {
+        noted(&self.places, name)
+    }
+}
+
+impl Debug for Subprograms {
+    /// The subprograms, as a list prints them.
+    fn fmt<W: Write>(&self, f: &mut Formatter<W>) -> fmt::Result {
+        self.list.fmt(f)
+    }
+}
+
+fn subprogram_places(
+    alloc: Global,
+    subprograms: &[Subprogram],
+) -> Result<IndexMap<Name, usize>, NoMemory>
+    ensures { IfOk result (λ places. inside.HasSubprograms subprograms.now places.entries) }
+{
+    let mut places = IndexMap::new(alloc);
+    for (at, it) in subprograms.iter().enumerate() {
+        note_first(&mut places, &it.head.name, at)?;
+    }
+    Ok(places)
+}

@@ -1,5 +1,0 @@
-use Rattle.std.proofs.Common.{◌≡◌, ◌-◌, drop, length}
-use Rattle.ebr_places.proofs.nest.Nest.cut.Given as goal
-
-abbrev pub invariant-loop-turn : goal.invariant-loop-turn
-invariant-loop-turn l = drop (l._turn-end - l._turn) l.self ≡ drop (length l.initial.self - l.fn.depth) l.initial.self
