@@ -1,3 +1,2 @@
 pub mod Changes
-pub mod Forms
 pub mod Origins

@@ -6,7 +6,6 @@
 
 mod copy;
 mod expressions;
-mod form;
 mod origin;
 mod parts;
 mod statements;

@@ -1,2 +1,4 @@
 pub mod Operators
 pub mod Evaluation
+pub mod Forms
+pub mod inside

@@ -8,7 +8,10 @@ ghost use Rattle.ebr_expr.specs.Evaluation.{Eval, term_of, on, of_one, of_two, a
 
 use crate::operand::Operand;
 use crate::operator::{added_by, builtin, compared_by, decided};
-use crate::value::{UNKNOWN, copied, known, not_if, number, text, unsigned};
+use crate::row::Row;
+use crate::value::{
+    UNKNOWN, bind_value, in_binds, in_row, not_if, number, row_value, text, unsigned,
+};
 use ebr_base::{List, Shared, Stop, Value};
 use ebr_exprtree::{Addend, Expr, Path};
 use ebr_value::{BinOp, Builtin, Place, binary, function};
@@ -25,7 +28,7 @@ use std::slice;
 ///
 /// Oracle Database SQL Language Reference 19c, Expressions and Conditions.
 #[cycle(expression)]
-pub fn eval(alloc: Global, e: &Expr, row: &[Value], binds: &[Value]) -> Result<Value, Stop>
+pub fn eval(alloc: Global, e: &Expr, row: &Row<'_, '_>, binds: &[Value]) -> Result<Value, Stop>
     // The answer is the value, or the code that is raised, unless memory runs out.
     ensures { Answers result (Eval e.now row.now binds.now) }
 {
@@ -34,24 +37,24 @@ pub fn eval(alloc: Global, e: &Expr, row: &[Value], binds: &[Value]) -> Result<V
         Expr::Text(content) => text(alloc, content),
         Expr::Null => Ok(Value::Null),
         Expr::Boolean(b) => Ok(Value::Bool(*b)),
-        Expr::Place(at) => copied(alloc, row, *at),
-        Expr::Bind(at) => copied(alloc, binds, *at),
+        Expr::Place(at) => row_value(alloc, row, *at),
+        Expr::Bind(at) => bind_value(alloc, binds, *at),
         Expr::Plus(a) => plus(alloc, a.get(), row, binds),
         Expr::Minus(a) => of_one(alloc, Builtin::Negate, a.get(), row, binds),
         Expr::Product(a, more) => {
-            let a = operand(alloc, a.get(), row, binds)?;
+            let a = operand(alloc, a.get(), &*row, binds)?;
             chain(alloc, BinOp::Multiply, a.get(), more, row, binds)
         }
         Expr::Quotient(a, b) => {
-            let a = operand(alloc, a.get(), row, binds)?;
+            let a = operand(alloc, a.get(), &*row, binds)?;
             with_left(alloc, BinOp::Quotient, a.get(), b.get(), row, binds)
         }
         Expr::Sum(a, more) => {
-            let a = operand(alloc, a.get(), row, binds)?;
+            let a = operand(alloc, a.get(), &*row, binds)?;
             sum(alloc, a.get(), more, row, binds)
         }
         Expr::Compare(comparison, a, b) => {
-            let a = operand(alloc, a.get(), row, binds)?;
+            let a = operand(alloc, a.get(), &*row, binds)?;
             with_left(
                 alloc,
                 compared_by(*comparison),
@@ -63,25 +66,25 @@ pub fn eval(alloc: Global, e: &Expr, row: &[Value], binds: &[Value]) -> Result<V
         }
         Expr::IsNull(a, negated) => is_null(alloc, *negated, a.get(), row, binds),
         Expr::Between(x, a, b, negated) => {
-            let x = operand(alloc, x.get(), row, binds)?;
+            let x = operand(alloc, x.get(), &*row, binds)?;
             let is_above = with_left(alloc, BinOp::GreaterOrEqual, x.get(), a.get(), row, binds)?;
             between(alloc, *negated, &is_above, x.get(), b.get(), row, binds)
         }
         Expr::In(x, list, negated) => {
-            let x = operand(alloc, x.get(), row, binds)?;
+            let x = operand(alloc, x.get(), &*row, binds)?;
             is_among(alloc, *negated, x.get(), list, row, binds)
         }
         Expr::Like(a, b, negated) => {
-            let a = operand(alloc, a.get(), row, binds)?;
+            let a = operand(alloc, a.get(), &*row, binds)?;
             like(alloc, *negated, a.get(), b.get(), row, binds)
         }
         Expr::Not(a) => of_one(alloc, Builtin::Not, a.get(), row, binds),
         Expr::And(a, more) => {
-            let a = operand(alloc, a.get(), row, binds)?;
+            let a = operand(alloc, a.get(), &*row, binds)?;
             chain(alloc, BinOp::And, a.get(), more, row, binds)
         }
         Expr::Or(a, more) => {
-            let a = operand(alloc, a.get(), row, binds)?;
+            let a = operand(alloc, a.get(), &*row, binds)?;
             chain(alloc, BinOp::Or, a.get(), more, row, binds)
         }
         Expr::Call(path, operands) => call(alloc, path, operands, row, binds),
@@ -95,14 +98,14 @@ pub fn eval(alloc: Global, e: &Expr, row: &[Value], binds: &[Value]) -> Result<V
 fn operand<'a>(
     alloc: Global,
     e: &Expr,
-    row: &'a [Value],
+    row: &'a Row<'_, '_>,
     binds: &'a [Value],
 ) -> Result<Operand<'a>, Stop>
     ensures { Answers result (Eval e.now row.now binds.now) }
 {
     match e {
-        Expr::Place(at) => known(row, *at),
-        Expr::Bind(at) => known(binds, *at),
+        Expr::Place(at) => in_row(row, *at),
+        Expr::Bind(at) => in_binds(binds, *at),
         _ => {
             let value = eval(alloc, e, row, binds)?;
             Ok(Operand::made(value))
@@ -117,18 +120,18 @@ fn of_one(
     alloc: Global,
     f: Builtin,
     a: &Expr,
-    row: &[Value],
+    row: &Row<'_, '_>,
     binds: &[Value],
 ) -> Result<Value, Stop>
     ensures { Answers result (of_one f (Eval a.now row.now binds.now)) }
 {
-    let a = operand(alloc, a, row, binds)?;
+    let a = operand(alloc, a, &*row, binds)?;
     function(alloc, f, slice::from_ref(a.get()), Place::Sql)
 }
 
 /// `+a`
 #[cycle(expression)]
-fn plus(alloc: Global, a: &Expr, row: &[Value], binds: &[Value]) -> Result<Value, Stop>
+fn plus(alloc: Global, a: &Expr, row: &Row<'_, '_>, binds: &[Value]) -> Result<Value, Stop>
     ensures { Answers result (on unsigned (Eval a.now row.now binds.now)) }
 {
     let a = eval(alloc, a, row, binds)?;
@@ -142,7 +145,7 @@ fn is_null(
     alloc: Global,
     negated: bool,
     a: &Expr,
-    row: &[Value],
+    row: &Row<'_, '_>,
     binds: &[Value],
 ) -> Result<Value, Stop>
     ensures { Answers result (not_if negated (of_one Builtin.IsNull (Eval a.now row.now binds.now))) }
@@ -159,7 +162,7 @@ fn with_left(
     op: BinOp,
     a: &Value,
     b: &Expr,
-    row: &[Value],
+    row: &Row<'_, '_>,
     binds: &[Value],
 ) -> Result<Value, Stop>
     ensures { Answers result (of_two op (Ok a.now) (Eval b.now row.now binds.now)) }
@@ -167,7 +170,7 @@ fn with_left(
     if let Some(value) = decided(op, a) {
         return Ok(value);
     }
-    let b = operand(alloc, b, row, binds)?;
+    let b = operand(alloc, b, &*row, binds)?;
     binary(alloc, op, a, b.get(), Place::Sql)
 }
 
@@ -181,7 +184,7 @@ fn with_comparison(
     comparison: BinOp,
     x: &Value,
     y: &Expr,
-    row: &[Value],
+    row: &Row<'_, '_>,
     binds: &[Value],
 ) -> Result<Value, Stop>
     ensures { Answers result (of_two op (Ok left.now) (of_two comparison (Ok x.now) (Eval y.now row.now binds.now))) }
@@ -200,7 +203,7 @@ fn chain(
     op: BinOp,
     first: &Value,
     more: &List<Shared<Expr>>,
-    row: &[Value],
+    row: &Row<'_, '_>,
     binds: &[Value],
 ) -> Result<Value, Stop>
     ensures { Answers result (fold (of_two op) (Ok first.now) (map (λ e. Eval e row.now binds.now) more.now)) }
@@ -219,7 +222,7 @@ fn sum(
     alloc: Global,
     first: &Value,
     more: &List<Addend>,
-    row: &[Value],
+    row: &Row<'_, '_>,
     binds: &[Value],
 ) -> Result<Value, Stop>
     ensures { Answers result (fold added (Ok first.now) (map (λ t. term_of t row.now binds.now) more.now)) }
@@ -242,7 +245,7 @@ fn between(
     is_above: &Value,
     x: &Value,
     b: &Expr,
-    row: &[Value],
+    row: &Row<'_, '_>,
     binds: &[Value],
 ) -> Result<Value, Stop>
     ensures { Answers result (not_if negated (of_two BinOp.And (Ok is_above.now) (of_two BinOp.LessOrEqual (Ok x.now) (Eval b.now row.now binds.now)))) }
@@ -268,7 +271,7 @@ fn is_among(
     negated: bool,
     x: &Value,
     list: &List<Shared<Expr>>,
-    row: &[Value],
+    row: &Row<'_, '_>,
     binds: &[Value],
 ) -> Result<Value, Stop>
     ensures { Answers result (not_if negated (among (map (λ e. Eval e row.now binds.now) list.now) x.now)) }
@@ -284,7 +287,7 @@ fn among(
     alloc: Global,
     x: &Value,
     list: &List<Shared<Expr>>,
-    row: &[Value],
+    row: &Row<'_, '_>,
     binds: &[Value],
 ) -> Result<Value, Stop>
     ensures { Answers result (among (map (λ e. Eval e row.now binds.now) list.now) x.now) }
@@ -313,7 +316,7 @@ fn like(
     negated: bool,
     a: &Value,
     b: &Expr,
-    row: &[Value],
+    row: &Row<'_, '_>,
     binds: &[Value],
 ) -> Result<Value, Stop>
     ensures { Answers result (not_if negated (of_two BinOp.Like (Ok a.now) (Eval b.now row.now binds.now))) }
@@ -329,7 +332,7 @@ fn call(
     alloc: Global,
     path: &Path,
     operands: &List<Shared<Expr>>,
-    row: &[Value],
+    row: &Row<'_, '_>,
     binds: &[Value],
 ) -> Result<Value, Stop>
     ensures { Answers result (called (builtin_at path.now.name path.now.member) (map (λ e. Eval e row.now binds.now) operands.now)) }
@@ -347,7 +350,7 @@ fn call(
 fn values(
     alloc: Global,
     operands: &List<Shared<Expr>>,
-    row: &[Value],
+    row: &Row<'_, '_>,
     binds: &[Value],
 ) -> Result<List<Value>, Stop>
     ensures { Answers result (values [] (map (λ e. Eval e row.now binds.now) operands.now)) }

@@ -7,10 +7,15 @@
 #![tactic(auto)]
 
 mod evaluate;
+mod form;
 mod operand;
 mod operator;
+mod row;
 mod value;
 
 pub use evaluate::eval;
+pub use form::{call_with, with_list, with_operand, with_operands};
+pub use operand::Operand;
 pub use operator::{added_by, builtin, compared_by, decided};
+pub use row::Row;
 pub use value::unsigned;

@@ -8,6 +8,7 @@ ghost use Rattle.ebr_expr.specs.Operators as operators;
 ghost use Rattle.ebr_expr.specs.Evaluation as spec;
 
 use crate::operand::Operand;
+use crate::row::Row;
 use ebr_base::{Bytes, CloneIn, Code, Stop, Value};
 use ebr_value::{Builtin, Place, function};
 use std::alloc::Global;
@@ -42,21 +43,39 @@ pub fn text(alloc: Global, content: &Bytes) -> Result<Value, Stop>
     Ok(Value::text(copy))
 }
 
-/// The value at a place of a row or of binds, counted from 0.
-pub fn known(values: &[Value], at: u32) -> Result<Operand<'_>, Stop>
-    ensures { Answers result (spec.known (slice_get values.now at)) }
+/// The value at a place of a row, counted from 0.
+pub fn in_row<'a>(row: &'a Row<'_, '_>, at: u32) -> Result<Operand<'a>, Stop>
+    ensures { Answers result (spec.known (slice_get row.now at)) }
 {
-    match values.get(at as usize) {
+    match row.value(at as usize) {
         Some(value) => Ok(Operand::lent(value)),
         None => Err(Stop::Raised(UNKNOWN)),
     }
 }
 
-/// A copy of the value at a place of a row or of binds.
-pub fn copied(alloc: Global, values: &[Value], at: u32) -> Result<Value, Stop>
-    ensures { Answers result (spec.known (slice_get values.now at)) }
+/// The value at a place of binds, counted from 0.
+pub fn in_binds(binds: &[Value], at: u32) -> Result<Operand<'_>, Stop>
+    ensures { Answers result (spec.known (slice_get binds.now at)) }
 {
-    let value = known(values, at)?;
+    match binds.get(at as usize) {
+        Some(value) => Ok(Operand::lent(value)),
+        None => Err(Stop::Raised(UNKNOWN)),
+    }
+}
+
+/// A copy of the value at a place of a row.
+pub fn row_value(alloc: Global, row: &Row<'_, '_>, at: u32) -> Result<Value, Stop>
+    ensures { Answers result (spec.known (slice_get row.now at)) }
+{
+    let value = in_row(row, at)?;
+    value.own(alloc)
+}
+
+/// A copy of the value at a place of binds.
+pub fn bind_value(alloc: Global, binds: &[Value], at: u32) -> Result<Value, Stop>
+    ensures { Answers result (spec.known (slice_get binds.now at)) }
+{
+    let value = in_binds(binds, at)?;
     value.own(alloc)
 }
 

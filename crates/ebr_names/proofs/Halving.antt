@@ -1,4 +1,4 @@
--- A search by halving in objects that stand in the order of their keys finds the place of a key.
+-- A search by halving in what stands in the order of its keys finds the place of a key.
 use Rattle.std.proofs.Common.{◌≡◌, ℕ, ◌+◌, ◌<◌, ◌≤◌, Bool, true, false, cond, ◌&&◌, nat_lt, ◌⊎◌, inl, inr, List, length, map, get_or, find, slice_get, [], ◌∷◌, Some, None, Result, Ok, Err, refl, sym, ap, subst, ◌∙◌, arith}
 use Rattle.std.specs.List.{position, position_or_len}
 use Rattle.std.specs.List.Sorted.{IsStrictlySortedBy, IsNonDecreasingBy, IsBinarySearchResult, IsSearchInRange}

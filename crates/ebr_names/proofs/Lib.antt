@@ -1,2 +1,2 @@
-mod Halving
+pub mod Halving
 mod Rising

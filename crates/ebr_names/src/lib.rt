@@ -2,7 +2,7 @@
 //! what a unit declares to others.
 //!
 //! What is used above: `resolve` is `resolved`, `columns` is `columns_named`, and `header` is `header_of` of the visible
-//! object, of `specs/`; `object` and `table` are `object_of` and `table_named`.
+//! object, of `specs/`; `object` and `table` are `object_of` and `table_named`, and `order_of` is the order of objects.
 //!
 //! That calls succeed with ample memory is tested alone.
 #![tactic(auto)]
@@ -16,7 +16,7 @@ mod visible;
 
 pub use column::{ViewColumn, columns};
 pub use heads::Header;
-pub use lookup::{object, table};
+pub use lookup::{object, order_of, table};
 pub use ordered::is_in_order;
 pub use target::{Target, resolve};
 pub use visible::header;

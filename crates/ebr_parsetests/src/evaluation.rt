@@ -5,7 +5,7 @@
 
 use crate::reading::first_row;
 use ebr_base::{Bytes, Code, List, MAX_COUNT, NoMemory, Shared, Stop, Value};
-use ebr_expr::eval;
+use ebr_expr::{Operand, Row, eval};
 use ebr_exprparse::expr;
 use ebr_exprtree::{Addend, AdditiveOperator, Expr};
 use ebr_lexer::{LexStop, Token, lex};
@@ -42,7 +42,7 @@ fn of_tokens(alloc: Global, tokens: &[Token]) -> Result<Bytes, NoMemory> {
         return Err(NoMemory);
     }
     match expr(alloc, tokens, 0)? {
-        Some((tree, _)) => printed(alloc, eval(alloc, tree.get(), &[], &[])),
+        Some((tree, _)) => printed(alloc, eval(alloc, tree.get(), &Row::new(alloc), &[])),
         None => Ok(Bytes::new(alloc)),
     }
 }
@@ -293,6 +293,27 @@ fn row(alloc: Global) -> Result<List<Value>, NoMemory> {
     Ok(row)
 }
 
+/// The number 2 and the text `b`.
+fn part<'a>(alloc: Global) -> Result<List<Operand<'a>>, NoMemory> {
+    let mut part = List::new(alloc);
+    part.push(Operand::made(Value::Num(2)))?;
+    part.push(Operand::made(text(alloc, b"b")?))?;
+    Ok(part)
+}
+
+/// What an expression gives for the row of these values and of the part behind them.
+fn of_row<'a>(
+    alloc: Global,
+    e: &Expr,
+    values: &'a [Value],
+    part: &'a [Operand<'_>],
+    binds: &[Value],
+) -> Result<Value, Stop> {
+    let mut row = Row::of(alloc, values);
+    row.add(part)?;
+    eval(alloc, e, &row, binds)
+}
+
 /// A text of so many bytes as the only bind.
 fn binds(alloc: Global, length: usize) -> Result<List<Value>, NoMemory> {
     let mut content = Bytes::new(alloc);
@@ -318,23 +339,30 @@ fn tree_of(alloc: Global, leaf: Leaf) -> Result<Shared<Expr>, NoMemory> {
     }
 }
 
-/// What a leaf gives for the row and a bind of two bytes.
+/// What a leaf gives for the row with the part behind it, and a bind of two bytes.
 fn of_leaf(alloc: Global, a: Leaf) -> Result<Bytes, NoMemory> {
-    let row = row(alloc)?;
+    let values = row(alloc)?;
+    let part = part(alloc)?;
     let binds = binds(alloc, 2)?;
     let tree = tree_of(alloc, a)?;
-    printed(
+    let given = of_row(
         alloc,
-        eval(alloc, tree.get(), row.as_slice(), binds.as_slice()),
-    )
+        tree.get(),
+        values.as_slice(),
+        part.as_slice(),
+        binds.as_slice(),
+    );
+    printed(alloc, given)
 }
 
 /// Places of the row and of the binds, counted from 0.
-static LEAVES: [(Leaf, &str); 6] = [
+static LEAVES: [(Leaf, &str); 8] = [
     (Leaf::Place(0), "1"),
     (Leaf::Place(1), "NULL"),
     (Leaf::Place(2), "a"),
-    (Leaf::Place(3), "ORA-00904"),
+    (Leaf::Place(3), "2"),
+    (Leaf::Place(4), "b"),
+    (Leaf::Place(5), "ORA-00904"),
     (Leaf::Bind(0), "xx"),
     (Leaf::Bind(1), "ORA-00904"),
 ];
@@ -364,10 +392,8 @@ fn joined(alloc: Global, length: usize) -> Result<Bytes, NoMemory> {
     })?;
     let first = tree_of(alloc, Leaf::Bind(0))?;
     let tree = Shared::new(alloc, Expr::Sum(first, more))?;
-    printed(
-        alloc,
-        eval(alloc, tree.get(), row.as_slice(), binds.as_slice()),
-    )
+    let row = Row::of(alloc, row.as_slice());
+    printed(alloc, eval(alloc, tree.get(), &row, binds.as_slice()))
 }
 
 #[test]

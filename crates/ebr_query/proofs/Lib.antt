@@ -3,7 +3,6 @@ pub mod ByNumber
 pub mod Examples
 pub mod Founds
 pub mod Layers
-pub mod Meant
 pub mod Plainly
 pub mod Products
 pub mod Ranks

@@ -1,4 +1,3 @@
-pub mod Forms
 pub mod Founds
 pub mod Joined
 pub mod Locking

@@ -1,12 +1,12 @@
 //! The order of rows by their keys.
 
-ghost use Rattle.std.specs.Prelude.{◌≡◌, drop, unwrap_or, IfOk};
+ghost use Rattle.std.specs.Prelude.{◌≡◌, drop, IfOk};
 ghost use Rattle.std.specs.Ordering.{is_lt};
-ghost use Rattle.ebr_value.specs.Comparisons.{order};
 ghost use Rattle.ebr_query.specs.Order as spec;
 
-use crate::cell::Cell;
 use ebr_base::{List, NoMemory, Value};
+use ebr_expr::Operand;
+use ebr_value::order;
 use std::cmp::Ordering;
 
 /// A row with its keys: its number in the product.
@@ -27,23 +27,12 @@ fn type_place(v: &Value) -> u8
     }
 }
 
-/// How two values of one type stand to each other.
-fn order_in_type(a: &Value, b: &Value) -> Ordering
-    ensures { result ≡ unwrap_or (order a.now b.now) Ordering.Equal }
-{
-    match (a, b) {
-        (Value::Num(a), Value::Num(b)) => a.cmp(b),
-        (Value::Text(a), Value::Text(b)) => a.as_slice().cmp(b.as_slice()),
-        (Value::Bool(a), Value::Bool(b)) => a.cmp(b),
-        _ => Ordering::Equal,
-    }
-}
-
 /// How one value stands to another: numbers by value, texts by bytes, NULL behind all others.
 pub fn value_order(a: &Value, b: &Value) -> Ordering
     ensures { result ≡ spec.value_order a.now b.now }
 {
-    type_place(a).cmp(&type_place(b)).then(order_in_type(a, b))
+    let in_type = order(a, b).unwrap_or(Ordering::Equal);
+    type_place(a).cmp(&type_place(b)).then(in_type)
 }
 
 /// How one key stands to another; DESC turns the order round.
@@ -58,12 +47,12 @@ fn key_order(descending: bool, a: &Value, b: &Value) -> Ordering
 }
 
 /// The key at a place; one that isn't there is NULL.
-fn key_at(keys: &[Value], at: usize) -> Cell<'_>
+fn key_at(keys: &[Value], at: usize) -> Operand<'_>
     ensures { result ≡ spec.first_key (drop at keys.now) }
 {
     match keys.get(at) {
-        Some(key) => Cell::lent(key),
-        None => Cell::made(Value::Null),
+        Some(key) => Operand::lent(key),
+        None => Operand::made(Value::Null),
     }
 }
 

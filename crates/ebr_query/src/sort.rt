@@ -7,18 +7,18 @@ ghost use Rattle.ebr_query.specs.Results as spec;
 ghost use Rattle.ebr_query.specs.inside.Numbers.{StandsFor, row_numbered, rows_numbered, keyed_row};
 
 use crate::order::{KeyedRow, in_order};
-use crate::product::values_at;
+use crate::product::row_numbered;
 use crate::row::SeenRow;
 use ebr_ast::SortKey;
 use ebr_base::{List, NoMemory, Stop, Value};
-use ebr_expr::eval;
+use ebr_expr::{Row, eval};
 use std::alloc::Global;
 
 /// The keys of a row.
 fn keys_of(
     alloc: Global,
     keys: &[SortKey],
-    row: &[Value],
+    row: &Row<'_, '_>,
     binds: &[Value],
 ) -> Result<List<Value>, Stop>
     ensures { Answers result (spec.keys_of keys.now binds.now row.now) }
@@ -44,8 +44,8 @@ fn keyed(
 {
     let mut found = List::new(alloc);
     for n in numbers {
-        let row = values_at(alloc, sources, size, *n)?;
-        let values = keys_of(alloc, keys, row.as_slice(), binds)?;
+        let row = row_numbered(alloc, sources, size, *n)?;
+        let values = keys_of(alloc, keys, &row, binds)?;
         found.push(KeyedRow {
             keys: values,
             at: *n,

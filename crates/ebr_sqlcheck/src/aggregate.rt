@@ -17,7 +17,8 @@ fn is_aggregate(item: &Item) -> bool
     }
 }
 
-fn has_aggregate(list: &SelectList) -> bool
+/// Whether an aggregate stands in a list.
+pub fn has_aggregate(list: &SelectList) -> bool
     ensures { result ≡ spec.has_aggregate list.now }
 {
     match list {

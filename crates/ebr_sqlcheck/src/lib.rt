@@ -3,7 +3,7 @@
 //! What is used above: `check_sql` finds what `checked_with` of `specs/Statements.antt` says, for a statement of a session.
 //! For a statement inside a unit, `Variables` tells what a name is that is no column, and `check_query`, `check_insert`,
 //! `check_update` and `check_delete` are `query_check` and so on; `relations` and `column_meant` tell the sources of a query
-//! and which column a name is, and `typed` the type of an expression.
+//! and which column a name is, `has_aggregate` whether a list has an aggregate, and `typed` the type of an expression.
 //!
 //! That calls succeed with ample memory is tested alone (`ebr_parsetests`).
 #![tactic(auto)]
@@ -21,6 +21,7 @@ mod value_type;
 mod variables;
 mod verdict;
 
+pub use aggregate::has_aggregate;
 pub use change::{check_delete, check_insert, check_update};
 pub use check::{check_sql, check_tree};
 pub use function::{given, taken, takes_any_type, takes_count};

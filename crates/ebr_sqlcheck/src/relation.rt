@@ -64,7 +64,8 @@ pub fn name_or_alias<'a>(name: &'a Name, alias: &'a Option<Name>) -> &'a [u8]
 }
 
 impl<'a> Relation<'a> {
-    fn is_called(&self, alias: &[u8]) -> bool
+    /// Whether it is called so: by its alias, or by its name where it has none.
+    pub fn is_called(&self, alias: &[u8]) -> bool
         ensures { result ≡ sources.is_called alias.now self.now }
     {
         alias == self.alias

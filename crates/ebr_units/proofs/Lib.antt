@@ -1,5 +1,4 @@
 mod Entries
-mod Halving
 mod Kept
 mod Made
 mod Unchanged

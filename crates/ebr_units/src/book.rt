@@ -11,10 +11,11 @@ ghost use Rattle.ebr_units.specs.Served.{served, unit_in, valid_among, valid_cou
 ghost use Rattle.ebr_units.specs.inside.Entries.{entry, key_in};
 
 use ebr_ast::{EditionView, Object};
-use ebr_base::{Class, CloneIn, EditionNo, List, Name, NoMemory, ObjectKey, Shared, Stamp};
+use ebr_base::{Class, CloneIn, EditionNo, List, Name, NoMemory, Shared, Stamp};
 use ebr_check::check;
 use ebr_code::{CodeBook, Unit};
 use ebr_compile::{Steps, compile};
+use ebr_names::order_of;
 use std::alloc::Global;
 use std::cmp::Ordering;
 use std::marker::Model;
@@ -118,13 +119,6 @@ fn place(entries: &[Entry], class: Class, name: &Name) -> Option<usize>
             { order_of(&it.object.get().key, class, name) },
         )
         .ok()
-}
-
-/// How a key stands to that of a class and a name.
-fn order_of(key: &ObjectKey, class: Class, name: &Name) -> Ordering
-    ensures { result ≡ key_order key.now (record { class = class; name = name.now }) }
-{
-    key.class.cmp(&class).then(key.name.cmp(name))
 }
 
 fn entries_of<L: Ledger>(

@@ -43,7 +43,7 @@ fn tests_equality(comparison: Comparison) -> bool
 }
 
 /// The order of two values of one type; none where one is NULL.
-fn order(a: &Value, b: &Value) -> Option<Ordering>
+pub fn order(a: &Value, b: &Value) -> Option<Ordering>
     ensures { result ≡ spec.order a.now b.now }
 {
     match (a, b) {

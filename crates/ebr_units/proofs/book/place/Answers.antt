@@ -2,7 +2,7 @@ use Rattle.std.proofs.Common.{rules, sym, ◌∙◌}
 use Rattle.std.proofs.lemmas.Fn.{always_returns_same}
 use Rattle.ebr_base.specs.declared.object.ObjectKey.{ObjectKey}
 use Rattle.ebr_base.specs.Keys.{same_key, key_order}
-use Rattle.ebr_units.proofs.Halving.{same-equal, key_total, searched}
+use Rattle.ebr_names.proofs.Halving.{same-equal, key_total, searched}
 use Rattle.ebr_units.specs.declared.book.Entry.{Entry}
 use Rattle.ebr_units.specs.inside.Entries.{key_in}
 use Rattle.ebr_units.proofs.book.place.Goals as goal

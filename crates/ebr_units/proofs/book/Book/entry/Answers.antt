@@ -2,7 +2,7 @@ use Rattle.std.proofs.Common.{List, slice_get, find, sym, ap, subst, ◌∙◌}
 use Rattle.ebr_base.specs.declared.object.ObjectKey.{ObjectKey}
 use Rattle.ebr_base.specs.Keys.{same_key}
 use Rattle.ebr_ast.specs.declared.view.EditionView.{EditionView}
-use Rattle.ebr_units.proofs.Halving.{found-at, found-none}
+use Rattle.ebr_names.proofs.Halving.{found-at, found-none}
 use Rattle.ebr_units.specs.declared.book.Entry.{Entry}
 use Rattle.ebr_units.specs.inside.Entries.{key_in}
 use Rattle.ebr_units.proofs.Entries.{Holds, sorted-in, found-in}

@@ -3,14 +3,14 @@
 ghost use Rattle.std.specs.Prelude.{◌≡◌, IfOk};
 ghost use Rattle.ebr_exprtree.specs.declared.expression.Expr as made;
 ghost use Rattle.ebr_exprtree.specs.declared.expression.Expr.{out-Expr};
-ghost use Rattle.ebr_binds.specs.inside.Forms as forms;
+ghost use Rattle.ebr_expr.specs.Forms as forms;
 
-use ebr_ast::{Expr, Path};
 use ebr_base::{List, NoMemory, Shared, both};
+use ebr_exprtree::{Expr, Path};
 use std::alloc::Global;
 
 /// A name with its operands.
-pub fn call(
+pub fn call_with(
     alloc: Global,
     path: &Path,
     operands: List<Shared<Expr>>,
