@@ -67,16 +67,12 @@ Ran-same script script' mine mine' quit quit' p p' a b c d ran =
 went_on_so : (s : Progress) → Follows s → s.ended ≡ false → AllContinue (answers s.transcript)
 went_on_so s f runs = (subst (λ b. WentOn b s) runs f.went_on).0
 
--- what a session begins with
-first : (id : SessionId) (script : List ℕ) → Follows (begun id script)
-first id script = record { asked = tt; printed = (refl, record { rest = (run_of (begun id script)).state.printed; whole = refl }); went_on = (tt, tt) }
-
-pub begins : (id : SessionId) (script : List ℕ) (w : Work) (e : Engine) → w.session ≡ begun id script → w.written ≡ [] → entries e ≡ [] → IsOpen e → Works w e
-begins id script w e is none empty open_yet = record {
+pub begins : (id : SessionId) (script : List ℕ) (w : Work) (e : Engine) → w.session ≡ begun id script → Follows w.session → w.written ≡ [] → entries e ≡ [] → IsOpen e → Works w e
+begins id script w e is f none empty open_yet = record {
   goes_on = ap (λ (s : Progress). s.ended) is;
   no_quit = ap (λ (s : Progress). s.quit) is;
   no_ask = ap (λ (s : Progress). s.out) is;
-  follows = subst Follows (sym is) (first id script);
+  follows = f;
   mine = ap (λ (s : Progress). s.transcript) is ∙ ap (λ h. Mine h the_session) (sym empty);
   written = none ∙ ap (λ (s : Progress). s.printed) (sym is);
   is_open = open_yet;

@@ -14,7 +14,7 @@ use Rattle.ebr_calls.specs.Steps.{Out, Ended, Outcome, ended, leaving}
 use Rattle.ebr_calls.specs.Courses.{AllContinue, Asks, Continues, Course, GoesOn, Place, place, state_at, with_answer}
 use Rattle.ebr_session.specs.declared.session.Phase.{Phase}
 use Rattle.ebr_session.specs.declared.session.Phase.TheVariants as phase
-use Rattle.ebr_session.specs.Has.{Follows, HasAsked, HasPrinted, IsPrefix, Suits, answers, asks, ends, exchange, printed_before, stops}
+use Rattle.ebr_session.specs.Has.{Made, Follows, HasAsked, HasPrinted, IsPrefix, Suits, answers, asks, ends, exchange, printed_before, stops}
 use Rattle.ebr_session.specs.declared.work.Stage.TheVariants as stage
 use Rattle.ebr_session.specs.declared.work.Work.{Work}
 use Rattle.ebr_session.specs.Sessions.{Printed, SessionRun, most_room, run_pieces}
@@ -123,19 +123,24 @@ module _ {B : Type 0} (serves : B → EditionNo → Book) (s : Parts B) where
 
   -- ---- it goes on
 
-  follows_so : (p : Phase) → (w : WillAsk (course_behind script mine) (asks mine) s.printed) → s.printed ≡ before_last s → AllContinue (answers mine) → s.quit ≡ None
+  asked_next : (w : WillAsk (course_behind script mine) (asks mine) s.printed) → (q : Ask) × Made Out (asks mine ++ q ∷ []) (record { session = s.session; script = script; transcript = mine; printed = s.printed; quit = None; out = None; ended = false })
+  asked_next w =
+      let r = run_unquit script mine ∙ out_now (course_behind script mine) w.ask w.at w.will in
+      (w.ask, record { flow_is = ap (λ (o : Outcome). o.flow) r; asks_are = ap (λ (o : Outcome). o.state.asks) r ∙ ap (λ l. l ++ w.ask ∷ []) w.asks_are })
+
+  follows_so : (w : WillAsk (course_behind script mine) (asks mine) s.printed) → s.printed ≡ before_last s → AllContinue (answers mine) → s.quit ≡ None
       → Follows (record { session = s.session; script = script; transcript = mine; printed = s.printed; quit = s.quit; out = None; ended = false })
-  follows_so p w still went none = subst (λ k. Follows (record { session = s.session; script = script; transcript = mine; printed = s.printed; quit = k; out = None; ended = false })) (sym none) (record {
-    asked = tt;
+  follows_so w still went none = subst (λ k. Follows (record { session = s.session; script = script; transcript = mine; printed = s.printed; quit = k; out = None; ended = false })) (sym none) (record {
+    asked = asked_next w;
     printed = (still, printed_part w);
     went_on = (went, tt);
   })
 
   pub follows_answered : IsAnswered serves s → Follows (progress phase.Working None s)
-  follows_answered h = follows_so phase.Working h.next h.still h.went_on h.no_quit
+  follows_answered h = follows_so h.next h.still h.went_on h.no_quit
 
   pub follows_failed : (out : Option Ask) → HasFailed s → Follows (progress phase.Failed out s)
-  follows_failed out h = follows_so phase.Failed h.next h.still h.went_on h.no_quit
+  follows_failed out h = follows_so h.next h.still h.went_on h.no_quit
 
   -- ---- it has quit
 
@@ -153,7 +158,7 @@ module _ {B : Type 0} (serves : B → EditionNo → Book) (s : Parts B) where
     asks_left = ap (λ (o : Outcome). o.state.asks) left_run ∙ ap (λ l. l ++ ask.Leave ∷ []) h.next.asks_are
 
     asked_quit : (o : Option Ask) → IfSome o (λ q. q ≡ ask.Leave) → HasAsked false o (record (progress phase.Quitting o s) { quit = Some (length mine) })
-    asked_quit None l = tt
+    asked_quit None l = (ask.Leave, record { flow_is = ap (λ (o : Outcome). o.flow) left_run; asks_are = asks_left })
     asked_quit (Some q) l = record { flow_is = ap (λ (o : Outcome). o.flow) left_run; asks_are = asks_left ∙ ap (λ a. asks mine ++ a ∷ []) (sym l) }
 
     pub follows_quit : Follows (progress phase.Quitting out s)

@@ -122,11 +122,11 @@ pub record Made (flow : Flow) (made : List Ask) (s : Progress) : Type 0 where
   pub flow_is : (run_of s).flow ≡ flow
   pub asks_are : (run_of s).state.asks ≡ made
 
--- What it asked is what its run asks: where an ask is out it is the run's next one, and where it has ended the run has.
+-- What it asked is what its run asks. It has ended where its run has, and else the run asks once more: just what is out.
 abbrev pub HasAsked : Bool → Option Ask → Progress → Type 0
 HasAsked true out s = Made Ended (asks s.transcript) s
 HasAsked false (Some q) s = Made Out (asks s.transcript ++ q ∷ []) s
-HasAsked false None s = Unit {0}
+HasAsked false None s = (q : Ask) × Made Out (asks s.transcript ++ q ∷ []) s
 
 -- It printed what its run prints; between an answer and the next ask, what is printed for the answers before. One that quits
 -- for want of memory has printed a part of what is printed for the answers that it took before, and at least what is printed

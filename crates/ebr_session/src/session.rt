@@ -79,7 +79,8 @@ impl<B: CodeBook + Drop> Session<B> {
     /// A session that runs a script.
     pub fn new(alloc: Global, id: SessionId, script: &[u8]) -> Result<Session<B>, NoMemory>
         requires small { length script.now ≤ most_bytes }
-        ensures { IfOk result (λ s. s ≡ begun id script.now) }
+        ensures begins { IfOk result (λ s. s ≡ begun id script.now) }
+        ensures follows { IfOk result (λ s. Follows s) }
     {
         let transcript = Transcript::new(alloc)?;
         Ok(Session {
@@ -243,10 +244,10 @@ fn ask_next<B: CodeBook + Drop>(
         → Awaits B.answers work.new.stage pair.0 (with_answer e.answer f) (rest_of script.new) (here (made ++ e.ask ∷ []) bytes work.new))) }
 {
     transcript.reserve()?;
-    work.clear();
+    work.fresh.clear();
     let ask = work.next(alloc, transcript.as_slice(), book, script)?;
     let both = twice(alloc, ask)?;
-    kept(both, printed.extend(work.printed()))
+    kept(both, printed.extend(work.fresh.as_slice()))
 }
 
 /// Whether a session ends with this answer to its ask.

@@ -1,6 +1,6 @@
 //! What a session does with its answers, up to the next ask.
 
-ghost use Rattle.std.specs.Prelude.{◌≡◌, ℕ, [], ◌∷◌, ◌++◌, None, true, Ok, IfOk, IfSome};
+ghost use Rattle.std.specs.Prelude.{◌≡◌, ℕ, [], ◌∷◌, ◌++◌, None, true, Ok, IfOk, IfSome, IsOk, OnOk};
 ghost use Rattle.std.specs.Prelude.{List as Sequence};
 ghost use Rattle.ebr_asks.specs.declared.ask.Ask as asked;
 ghost use Rattle.ebr_ast.specs.declared.unit.UnitTree.TheVariants.{Block as block_tree};
@@ -8,17 +8,17 @@ ghost use Rattle.ebr_ast.specs.Views.{IsInOrder};
 ghost use Rattle.ebr_check.specs.Verdict.{is_valid};
 ghost use Rattle.ebr_laws.specs.Served.{HasCodeOf};
 ghost use Rattle.ebr_machine.specs.Has.{IsOut};
-ghost use Rattle.ebr_calls.specs.Steps.{Step, result_lines, run_seen, run_valid, then_run};
+ghost use Rattle.ebr_calls.specs.Steps.{Step, run_seen, run_valid, then_run};
 ghost use Rattle.ebr_calls.specs.Courses.{Continues, Course, GoesOn, IsIn, with_answer};
 ghost use Rattle.ebr_session.specs.Has.{Suits};
 ghost use Rattle.ebr_session.specs.inside.Kept.{last_of};
-ghost use Rattle.ebr_session.specs.inside.Requests.{behind, packages_behind, rest_of, text_said};
+ghost use Rattle.ebr_session.specs.inside.Requests.{behind, rest_of};
 ghost use Rattle.ebr_session.specs.inside.Stages.{Awaits, Goes, IsReady, here};
 
 use crate::after::{After, Request, Said, close, end, finish};
 use crate::checks::block_passes;
 use crate::held::put;
-use crate::printing::print_said;
+use crate::printing::{print_edition, print_said};
 use crate::script::{Script, Turn};
 use ebr_asks::{Answer, Ask, Exchange};
 use ebr_ast::{Block, EditionView};
@@ -44,13 +44,14 @@ pub enum Stage<B> {
     Leaving,
 }
 
-/// What a session keeps from one ask to the next, and what it printed since the last one.
+/// What a session keeps from one ask to the next.
 #[derive(Drop)]
 pub struct Work<B> {
     packages: Packages,
     /// The bytes of lines for which there is room.
     room: usize,
-    fresh: Bytes,
+    /// What it printed since the last ask.
+    pub fresh: Bytes,
     stage: Stage<B>,
 }
 
@@ -64,20 +65,6 @@ impl<B: CodeBook + Drop> Work<B> {
             fresh: Bytes::new(alloc),
             stage: Stage::Start,
         }
-    }
-
-    /// What it printed since the last ask.
-    pub fn printed(&self) -> &[u8]
-        ensures { result.now ≡ self.now.fresh }
-    {
-        self.fresh.as_slice()
-    }
-
-    /// Forgets what it printed.
-    pub fn clear(&mut self)
-        ensures { self.new ≡ record self.old { fresh = [] } }
-    {
-        self.fresh.clear();
     }
 
     /// Goes on with the last answer to the next ask.
@@ -159,35 +146,15 @@ impl<B: CodeBook + Drop> Work<B> {
             → Goes B.answers r self.new.stage f rest (here made printed self.new)) }
     {
         match after {
-            After::Print(said) => self.print(alloc, answer, said),
-            After::SetEdition => self.set_edition(alloc, answer),
+            After::Print(said) => no_ask(print_said(alloc, &mut self.fresh, answer, said)),
+            After::SetEdition => no_ask(print_edition(
+                alloc,
+                &mut self.packages,
+                &mut self.fresh,
+                answer,
+            )),
             After::Begin(block) => self.begin(alloc, block, answer, book),
             After::Close(levels, code) => Ok(Some(self.ask(close(levels, code)))),
-        }
-    }
-
-    /// Prints how a request ended.
-    fn print(&mut self, alloc: Global, answer: &Answer, said: Said) -> Result<Option<Ask>, NoMemory>
-        ensures { IfOk result (λ r. (r ≡ None) × (self.new ≡ record self.old { fresh = self.old.fresh ++ result_lines (text_said said) answer.now })) }
-    {
-        print_said(alloc, &mut self.fresh, answer, said)?;
-        Ok(None)
-    }
-
-    /// Prints how SET EDITION ended. Another edition has no states of packages yet.
-    fn set_edition(&mut self, alloc: Global, answer: &Answer) -> Result<Option<Ask>, NoMemory>
-        ensures { IfOk result (λ r. (r ≡ None) × (self.new ≡ record self.old { fresh = self.old.fresh ++ result_lines (text_said Said.Fine) answer.now; packages = packages_behind answer.now self.old.packages })) }
-    {
-        self.leave_packages(answer);
-        self.print(alloc, answer, Said::Fine)
-    }
-
-    fn leave_packages(&mut self, answer: &Answer)
-        ensures { self.new ≡ record self.old { packages = packages_behind answer.now self.old.packages } }
-    {
-        match answer {
-            Answer::Done => self.packages.clear(),
-            _ => {}
         }
     }
 
@@ -206,7 +173,7 @@ impl<B: CodeBook + Drop> Work<B> {
     {
         match answer {
             Answer::View(view) => self.begin_in(alloc, view.get(), block, book),
-            _ => self.print(alloc, answer, Said::Nothing),
+            _ => no_ask(print_said(alloc, &mut self.fresh, answer, Said::Nothing)),
         }
     }
 
@@ -320,4 +287,13 @@ impl<B: CodeBook + Drop> Work<B> {
             }
         }
     }
+}
+
+/// Nothing is asked, where something was printed.
+fn no_ask(printed: Result<(), NoMemory>) -> Result<Option<Ask>, NoMemory>
+    ensures none { IfOk result (λ ask. ask ≡ None) }
+    ensures done { OnOk result (IsOk printed) }
+{
+    printed?;
+    Ok(None)
 }

@@ -8,5 +8,5 @@ returns-clause-unprinted g c = failed_too c.kept.result c.extend.result _ c.kept
 
 pub returns-clause-goes : goal.returns-clause-goes
 returns-clause-goes g c =
-    both_go g.B.CodeBook.answers c.args.work.now c.clear.new.self c.next.new.self c.args.transcript.now.exchanges c.as_slice.result.now c.args.script.now c.next.new.script c.in_ok-ask.ask c.in_ok-both.both c.kept.result
-    (c.as_slice.ensures ∙ c.in_ok-reserve.ensures.same) c.clear.ensures c.in_ok-both.ensures c.kept.ensures.value c.in_ok-ask.ensures.goes
+    both_go g.B.CodeBook.answers c.args.work.now (record c.args.work.now { fresh = c.clear.new.self }) c.next.new.self c.args.transcript.now.exchanges c.as_slice.result.now c.args.script.now c.next.new.script c.in_ok-ask.ask c.in_ok-both.both c.kept.result
+    (c.as_slice.ensures ∙ c.in_ok-reserve.ensures.same) (λ i. record c.args.work.now { fresh = c.clear.ensures i }) c.in_ok-both.ensures c.kept.ensures.value c.in_ok-ask.ensures.goes
