@@ -1,0 +1,8 @@
+use Rattle.std.proofs.Common.{◌≡◌, take}
+use Rattle.std.specs.Prelude.{sum_by}
+use Rattle.ebr_tx.specs.Limits.{change_length}
+use Rattle.ebr_record.proofs.lengths.changes_length.Given as goal
+
+-- the bytes so far
+abbrev pub invariant-loop-c : goal.invariant-loop-c
+invariant-loop-c l = l.length ≡ sum_by change_length (take l.c-index l.changes)
