@@ -26,6 +26,8 @@ mod operators;
 #[cfg(test)]
 mod outside;
 #[cfg(test)]
+mod records;
+#[cfg(test)]
 mod tables;
 #[cfg(test)]
 mod transactions;

@@ -62,8 +62,14 @@ table_counted name columns key =
     let size : List ℕ = to_be_bytes w16 (length columns) in
     let spelled : List ℕ = flat_map column_bytes columns in
     let places : List ℕ = flat_map (to_be_bytes w16) key in
-    omega (arith, length-append ((7 ∷ name_bytes name ++ size) ++ spelled) (length key ∷ places), length-append (7 ∷ name_bytes name ++ size) spelled,
-        length-append (7 ∷ name_bytes name) size, length-flat_map column_bytes columns, short_twice key)
+    omega (
+      arith,
+      length-append ((7 ∷ name_bytes name ++ size) ++ spelled) (length key ∷ places),
+      length-append (7 ∷ name_bytes name ++ size) spelled,
+      length-append (7 ∷ name_bytes name) size,
+      length-flat_map column_bytes columns,
+      short_twice key,
+    )
 
 -- What the cases of `length` want: they know a record as it was matched, and its lists as they were lent.
 module _ (r : Record) (short : length (payload r) ≤ max_payload) where
@@ -81,7 +87,7 @@ module _ (r : Record) (short : length (payload r) ≤ max_payload) where
     pub table_whole : length (payload r) ≡ length (name_bytes name) + columns_counted lent + 2 * length key + 4
     table_whole =
         let whole : length (payload r) ≡ length (name_bytes name) + columns_counted columns + 2 * length key + 4 =
-              ap (λ x. length (payload x)) is ∙ table_counted name columns key in
+        ap (λ x. length (payload x)) is ∙ table_counted name columns key in
         let lent_whole : columns_counted lent ≡ columns_counted columns = ap columns_counted same in
         omega (arith, whole, lent_whole)
 

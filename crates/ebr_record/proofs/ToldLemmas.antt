@@ -1,6 +1,6 @@
 -- That what a keeper in memory answers and becomes is what a keeper promises.
-use Rattle.std.proofs.Common.{◌≡◌, ◌⊎◌, ⊎_elim, ◌↔◌, ◌∙◌, inl, inr, ℕ, suc, ◌+◌, ◌<◌, ◌≤◌, Bool, true, false, List, [], ◌∷◌, ◌++◌, length, take, drop, refl, sym, ap, subst, arith, length-append, Some, Result, Ok, Err}
-use Rattle.std.specs.Prelude.{sum_by, min, nat_lt, if◌then◌else◌, IsTrue}
+use Rattle.std.proofs.Common.{◌≡◌, ◌⊎◌, ⊎_elim, ◌↔◌, ◌∙◌, inl, inr, ℕ, ◌+◌, ◌<◌, ◌≤◌, Bool, true, false, List, [], ◌∷◌, ◌++◌, length, refl, sym, subst, arith, length-append, Some, Result, Ok, Err}
+use Rattle.std.specs.Prelude.{sum_by, min, nat_lt, if◌then◌else◌}
 use Rattle.std.proofs.lemmas.Bool.{ltb-false, ltb-true}
 use Rattle.std.proofs.lemmas.List.{take-append-le, take_all}
 use Rattle.std.proofs.lemmas.List.Sums.{sum_by_push}
@@ -8,7 +8,7 @@ use Rattle.ebr_outside.specs.Faults.{Rises, count_end, one_more}
 use Rattle.ebr_record.specs.declared.keep.JournalFault.{JournalFault}
 use Rattle.ebr_record.specs.declared.keep.JournalFault.TheVariants.{DiskFault, Stopped, Full, NoMemory}
 use Rattle.ebr_record.specs.declared.record.Record.{Record}
-use Rattle.ebr_record.specs.Keeper.{Answered, Becomes, Elapses, IsAtRest, Keeper, LeavesJust, Passes, Stands, WithOrWithout, max_journal, share, used_by}
+use Rattle.ebr_record.specs.Keeper.{Answered, Becomes, Elapses, IsAtRest, Passes, WithOrWithout, max_journal, share, used_by}
 use Rattle.ebr_record.specs.InMemory.{AnswersTo, LeftSince, ListState, after_call, answer_to, fails_next, told}
 
 -- what a choice between the answers says of its tests
@@ -86,13 +86,13 @@ module _ (s : ListState) (r : Record) where
 
   pub becomes : (answer : Result (Unit {0}) JournalFault) → Becomes (told s) (told (after_call s r answer)) r answer
   becomes (Ok x) = record {
-      kept = refl;
-      used = let more : sum_by share (s.kept ++ r ∷ []) ≡ sum_by share s.kept + share r = sum_by_push share s.kept r in omega (arith, more);
-      faults = omega arith;
-      stopped = refl;
-      moment = omega (arith, one_longer s.kept r);
-      tells = refl;
-    }
+    kept = refl;
+    used = let more : sum_by share (s.kept ++ r ∷ []) ≡ sum_by share s.kept + share r = sum_by_push share s.kept r in omega (arith, more);
+    faults = omega arith;
+    stopped = refl;
+    moment = omega (arith, one_longer s.kept r);
+    tells = refl;
+  }
   becomes (Err DiskFault) = record { kept = refl; used = refl; faults = no_less s.faults; stopped = refl; moment = omega arith; tells = refl }
   becomes (Err NoMemory) = record { kept = refl; used = refl; faults = omega arith; stopped = refl; moment = omega arith; tells = refl }
   becomes (Err Stopped) = record { kept = refl; used = refl; faults = omega arith; stopped = refl; moment = omega arith; tells = refl }
@@ -103,10 +103,10 @@ module _ (s : ListState) (r : Record) where
 
   pub elapses : (answer : Result (Unit {0}) JournalFault) → Elapses (told s) (told (after_call s r answer)) r answer
   elapses (Ok x) = record {
-      each = now_or_all s.kept r;
-      only = λ t l early left. ⊎_elim (λ (before : LeftSince s.kept t l). inl before) (λ (all : l ≡ s.kept ++ r ∷ []). inr (inr all)) (shorter_or_all s.kept r t l left);
-      keeps = λ t l early left. longer s.kept r t l left;
-    }
+    each = now_or_all s.kept r;
+    only = λ t l early left. ⊎_elim (λ (before : LeftSince s.kept t l). inl before) (λ (all : l ≡ s.kept ++ r ∷ []). inr (inr all)) (shorter_or_all s.kept r t l left);
+    keeps = λ t l early left. longer s.kept r t l left;
+  }
   elapses (Err DiskFault) = record { each = stays.each; only = stays.only; keeps = stays.keeps }
   elapses (Err NoMemory) = record { each = stays.each; only = stays.only; keeps = stays.keeps }
   elapses (Err Stopped) = record { moment = refl; same = λ t l. (λ left. left, λ left. left) }

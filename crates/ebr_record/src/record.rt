@@ -51,7 +51,7 @@ pub enum Record {
 }
 
 /// What a drop takes.
-#[derive(Clone, Copy, Debug, PartialEq, Eq)]
+#[derive(Clone, Copy)]
 pub enum DroppedClass {
     /// A procedure, a function or an editioning view.
     Unit,

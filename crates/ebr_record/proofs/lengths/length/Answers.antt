@@ -28,17 +28,17 @@ overflow_add-result-in-Table c =
 pub overflow_add-result-in-Table-2 : goal.overflow_add-result-in-Table-2
 overflow_add-result-in-Table-2 c =
     let whole : length (payload c.args.r.now) ≡ length (name_bytes c.in-Table.name) + columns_counted c.as_slice-in-Table.result.now + 2 * length c.in-Table.key + 4 =
-          table_whole _ c.requires.short _ _ _ _ c.in-Table.is c.as_slice-in-Table.ensures in
+    table_whole _ c.requires.short _ _ _ _ c.in-Table.is c.as_slice-in-Table.ensures in
     omega (arith, whole, c.requires.short, c.name_length-in-Table.ensures.whole, c.columns_length.ensures, c.len-in-Table.ensures)
 
 pub overflow_add-result-in-Table-3 : goal.overflow_add-result-in-Table-3
 overflow_add-result-in-Table-3 c =
     let whole : length (payload c.args.r.now) ≡ length (name_bytes c.in-Table.name) + columns_counted c.as_slice-in-Table.result.now + 2 * length c.in-Table.key + 4 =
-          table_whole _ c.requires.short _ _ _ _ c.in-Table.is c.as_slice-in-Table.ensures in
+    table_whole _ c.requires.short _ _ _ _ c.in-Table.is c.as_slice-in-Table.ensures in
     omega (arith, whole, c.requires.short, c.name_length-in-Table.ensures.whole, c.columns_length.ensures, c.len-in-Table.ensures)
 
 pub returns-in-Table : goal.returns-in-Table
 returns-in-Table c =
     let whole : length (payload c.args.r.now) ≡ length (name_bytes c.in-Table.name) + columns_counted c.as_slice-in-Table.result.now + 2 * length c.in-Table.key + 4 =
-          table_whole _ c.requires.short _ _ _ _ c.in-Table.is c.as_slice-in-Table.ensures in
+    table_whole _ c.requires.short _ _ _ _ c.in-Table.is c.as_slice-in-Table.ensures in
     omega (arith, whole, c.requires.short, c.name_length-in-Table.ensures.whole, c.columns_length.ensures, c.len-in-Table.ensures)
