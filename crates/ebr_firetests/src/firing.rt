@@ -1,0 +1,137 @@
+//! Which triggers fire, in which order, and in which edition their bodies run. Oracle Database Development Guide 19c,
+//! Crossedition Triggers; which crossedition triggers fire, and the order, are own.
+
+use crate::asked::first_fault;
+use std::rt::HostRuntime;
+use std::test::Fail;
+
+/// Ordinary triggers: their table or view, events, timing, and whether they are enabled; by edition and then by stamp.
+static ORDINARY: &str = "\
+@ 1 @ CREATE TABLE t (id NUMBER(9) PRIMARY KEY, n NUMBER(9))~\
+@ 1 @ CREATE TABLE u (id NUMBER(9) PRIMARY KEY, n NUMBER(9))~\
+@ 1 @ CREATE EDITIONING VIEW v AS SELECT id, n FROM t~\
+none@ 1 @ BEFORE INSERT PLAIN T~\
+@ 1 @ CREATE TRIGGER b BEFORE INSERT ON t FOR EACH ROW BEGIN NULL; END;~\
+B:1;@ 1 @ BEFORE INSERT PLAIN T~\
+none@ 1 @ BEFORE UPDATE PLAIN T~\
+none@ 1 @ AFTER INSERT PLAIN T~\
+none@ 1 @ BEFORE INSERT PLAIN U~\
+none@ 1 @ BEFORE INSERT FORWARD T~\
+none@ 1 @ BEFORE INSERT REVERSE T~\
+none@ 1 @ CROSSING BEFORE INSERT PLAIN T~\
+@ 1 @ CREATE TRIGGER a BEFORE DELETE OR INSERT ON t FOR EACH ROW BEGIN NULL; END;~\
+B:1;A:1;@ 1 @ BEFORE INSERT PLAIN T~\
+A:1;@ 1 @ BEFORE DELETE PLAIN T~\
+none@ 1 @ BEFORE UPDATE PLAIN T~\
+@ 1 @ CREATE TRIGGER w BEFORE INSERT ON v FOR EACH ROW BEGIN NULL; END;~\
+W:1;B:1;A:1;@ 1 @ BEFORE INSERT PLAIN V~\
+B:1;A:1;@ 1 @ BEFORE INSERT PLAIN T~\
+@ 1 @ ALTER TRIGGER b DISABLE~\
+W:1;A:1;@ 1 @ BEFORE INSERT PLAIN V~\
+@ 1 @ ALTER TRIGGER b ENABLE~\
+A:1;B:1;@ 1 @ BEFORE INSERT PLAIN T~\
+@ 1 @ CREATE EDITION v2~\
+W:2;A:2;B:2;@ 2 @ BEFORE INSERT PLAIN V~\
+@ 2 @ CREATE TRIGGER c BEFORE INSERT ON t FOR EACH ROW BEGIN NULL; END;~\
+A:2;B:2;C:2;@ 2 @ BEFORE INSERT PLAIN T~\
+A:1;B:1;@ 1 @ BEFORE INSERT PLAIN T~\
+@ 2 @ CREATE OR REPLACE TRIGGER a BEFORE INSERT ON t FOR EACH ROW BEGIN NULL; END;~\
+B:2;C:2;A:2;@ 2 @ BEFORE INSERT PLAIN T~\
+@ 1 @ CREATE TRIGGER d BEFORE INSERT ON t FOR EACH ROW BEGIN NULL; END;~\
+B:2;D:2;C:2;A:2;@ 2 @ BEFORE INSERT PLAIN T~\
+A:1;B:1;D:1;@ 1 @ BEFORE INSERT PLAIN T~\
+@ 2 @ DROP TRIGGER b~\
+D:2;C:2;A:2;@ 2 @ BEFORE INSERT PLAIN T~\
+A:1;B:1;D:1;@ 1 @ BEFORE INSERT PLAIN T~\
+@ 1 @ CREATE TRIGGER e AFTER UPDATE ON t FOR EACH ROW DISABLE BEGIN NULL; END;~\
+none@ 1 @ AFTER UPDATE PLAIN T~\
+@ 1 @ CREATE PROCEDURE p IS BEGIN NULL; END;~\
+none@ 1 @ BEFORE INSERT PLAIN P~\
+";
+
+/// Crossedition triggers of three editions, by direction and by where a change comes from.
+static CROSSING: &str = "\
+@ 1 @ CREATE TABLE t (id NUMBER(9) PRIMARY KEY, n NUMBER(9))~\
+@ 1 @ CREATE EDITIONING VIEW v AS SELECT id, n FROM t~\
+@ 1 @ CREATE EDITION v2~\
+@ 2 @ CREATE EDITION v3~\
+@ 1 @ CREATE TRIGGER o BEFORE INSERT ON t FOR EACH ROW BEGIN NULL; END;~\
+@ 3 @ CREATE TRIGGER f3 BEFORE INSERT ON t FOR EACH ROW FORWARD CROSSEDITION BEGIN NULL; END;~\
+@ 3 @ CREATE TRIGGER e3 BEFORE INSERT ON t FOR EACH ROW FORWARD CROSSEDITION BEGIN NULL; END;~\
+@ 2 @ CREATE TRIGGER g2 BEFORE INSERT OR UPDATE ON t FOR EACH ROW FORWARD CROSSEDITION BEGIN NULL; END;~\
+O:1;G2:2;F3:3;E3:3;@ 1 @ BEFORE INSERT PLAIN T~\
+G2:2;F3:3;E3:3;@ 1 @ BEFORE INSERT FORWARD T~\
+G2:2;@ 1 @ BEFORE UPDATE PLAIN T~\
+none@ 1 @ AFTER INSERT PLAIN T~\
+none@ 1 @ BEFORE INSERT REVERSE T~\
+O:2;F3:3;E3:3;@ 2 @ BEFORE INSERT PLAIN V~\
+F3:3;E3:3;@ 2 @ BEFORE INSERT FORWARD V~\
+none@ 2 @ BEFORE UPDATE PLAIN T~\
+O:3;@ 3 @ BEFORE INSERT PLAIN T~\
+none@ 3 @ BEFORE INSERT FORWARD T~\
+@ 2 @ CREATE TRIGGER r2 BEFORE INSERT ON t FOR EACH ROW REVERSE CROSSEDITION BEGIN NULL; END;~\
+O:1;G2:2;F3:3;E3:3;@ 1 @ BEFORE INSERT PLAIN T~\
+O:2;R2:2;F3:3;E3:3;@ 2 @ BEFORE INSERT PLAIN T~\
+O:3;R2:2;@ 3 @ BEFORE INSERT PLAIN T~\
+none@ 2 @ BEFORE INSERT REVERSE T~\
+R2:2;@ 3 @ BEFORE INSERT REVERSE T~\
+F3:3;E3:3;@ 2 @ BEFORE INSERT FORWARD T~\
+@ 1 @ CREATE TRIGGER s1 BEFORE INSERT ON t FOR EACH ROW REVERSE CROSSEDITION BEGIN NULL; END;~\
+O:3;S1:1;R2:2;@ 3 @ BEFORE INSERT PLAIN T~\
+S1:1;R2:2;@ 3 @ BEFORE INSERT REVERSE T~\
+S1:1;@ 2 @ BEFORE INSERT REVERSE T~\
+S1:1;R2:2;F3:3;E3:3;@ 2 @ CROSSING BEFORE INSERT PLAIN T~\
+F3:3;E3:3;@ 2 @ CROSSING BEFORE INSERT FORWARD T~\
+S1:1;@ 2 @ CROSSING BEFORE INSERT REVERSE T~\
+@ 3 @ DROP TRIGGER r2~\
+O:3;S1:1;@ 3 @ BEFORE INSERT PLAIN T~\
+S1:1;R2:2;@ 3 @ BEFORE INSERT REVERSE T~\
+@ 3 @ DROP TRIGGER g2~\
+O:1;S1:1;G2:2;F3:3;E3:3;@ 1 @ BEFORE INSERT PLAIN T~\
+@ 3 @ ALTER TRIGGER f3 DISABLE~\
+O:1;S1:1;G2:2;E3:3;@ 1 @ BEFORE INSERT PLAIN T~\
+@ 3 @ ALTER TRIGGER f3 ENABLE~\
+O:1;S1:1;G2:2;E3:3;F3:3;@ 1 @ BEFORE INSERT PLAIN T~\
+@ 3 @ DROP TRIGGER e3~\
+G2:2;F3:3;@ 1 @ BEFORE INSERT FORWARD T~\
+@ 1 @ DROP EDITION v3 CASCADE~\
+G2:2;@ 1 @ BEFORE INSERT FORWARD T~\
+";
+
+/// A name that stands for an editioning view in one edition and for a table in its child: an ordinary trigger on it is on what
+/// the edition sees, a crossedition trigger on the table.
+static NAMES: &str = "\
+@ 1 @ CREATE TABLE t (id NUMBER(9) PRIMARY KEY)~\
+@ 1 @ CREATE EDITIONING VIEW w AS SELECT id FROM t~\
+@ 1 @ CREATE TRIGGER k BEFORE INSERT ON w FOR EACH ROW BEGIN NULL; END;~\
+@ 1 @ CREATE EDITION v2~\
+@ 2 @ DROP VIEW w~\
+@ 2 @ CREATE TABLE w (id NUMBER(9) PRIMARY KEY)~\
+@ 1 @ CREATE EDITIONING VIEW x AS SELECT id FROM w~\
+@ 1 @ CREATE TRIGGER m BEFORE INSERT ON x FOR EACH ROW BEGIN NULL; END;~\
+K:1;@ 1 @ BEFORE INSERT PLAIN W~\
+M:1;@ 1 @ BEFORE INSERT PLAIN X~\
+K:2;@ 2 @ BEFORE INSERT PLAIN W~\
+M:2;K:2;@ 2 @ BEFORE INSERT PLAIN X~\
+@ 2 @ CREATE TRIGGER n BEFORE INSERT ON w FOR EACH ROW FORWARD CROSSEDITION BEGIN NULL; END;~\
+M:1;N:2;@ 1 @ BEFORE INSERT PLAIN X~\
+K:1;@ 1 @ BEFORE INSERT PLAIN W~\
+";
+
+#[test]
+fn ordinary_triggers_fire_by_edition_and_stamp(rt: HostRuntime) -> Result<(), Fail> {
+    assert_eq!(&rt; first_fault(rt.alloc(), ORDINARY)?, None);
+    Ok(())
+}
+
+#[test]
+fn crossedition_triggers_fire_by_direction(rt: HostRuntime) -> Result<(), Fail> {
+    assert_eq!(&rt; first_fault(rt.alloc(), CROSSING)?, None);
+    Ok(())
+}
+
+#[test]
+fn a_trigger_is_on_what_its_edition_sees(rt: HostRuntime) -> Result<(), Fail> {
+    assert_eq!(&rt; first_fault(rt.alloc(), NAMES)?, None);
+    Ok(())
+}
