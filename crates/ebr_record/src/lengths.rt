@@ -1,7 +1,7 @@
 //! How long a record is.
 
-ghost use Rattle.std.specs.Prelude.{◌≡◌, ◌+◌, ◌<◌, ◌≤◌, ◌^◌, length, sum_by};
-ghost use Rattle.ebr_tx.specs.Limits.{max_record, value_length, values_length, change_length, record_length};
+ghost use Rattle.std.specs.Prelude.{◌≡◌, ◌≤◌, length, sum_by};
+ghost use Rattle.ebr_tx.specs.Limits.{max_record, value_length, change_length};
 ghost use Rattle.ebr_record.specs.Payload.{HasPayload, column_bytes, name_bytes, payload, type_bytes};
 
 use crate::record::Record;
