@@ -1,4 +1,4 @@
--- Three sessions, and eight tables without keys.
+-- Three sessions, eight tables without keys for queries, and four tables with keys for changes.
 use Rattle.std.specs.Prelude.{ℕ, ◌≡◌, true, List, [], ◌∷◌}
 use Rattle.ebr_base.specs.declared.numbers.TableId.{TableId}
 use Rattle.ebr_base.specs.declared.row.TxId.{TxId}
@@ -29,3 +29,20 @@ pub record IsKeyless (t : TableId) (def : TableDef) : Type 0 where
   pub id : def.id ≡ t
   pub added : is_added the_tables def.id ≡ true
   pub key : key_places the_tables def.id ≡ def.key
+
+-- a table whose key is its first column
+abbrev pub keyed : ℕ → Table
+keyed n = record { id = record { 0 = n }; key = 0 ∷ [] }
+
+abbrev pub the_keyed : List Table
+the_keyed = keyed 1 ∷ keyed 2 ∷ keyed 3 ∷ keyed 4 ∷ []
+
+-- a number of one of them
+pub record IsKeyed (t : TableId) : Type 0 where
+  pub added : is_added the_keyed t ≡ true
+  pub key : key_places the_keyed t ≡ 0 ∷ []
+
+-- a definition of one of them
+pub record IsDefined (def : TableDef) : Type 0 where
+  pub added : is_added the_keyed def.id ≡ true
+  pub key : key_places the_keyed def.id ≡ def.key

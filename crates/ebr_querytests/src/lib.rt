@@ -1,10 +1,14 @@
-//! Tests of queries: their texts, and what they give over data that scripts set up.
+//! Tests of queries and of statements that change rows: their texts, and what they give over data that scripts set up.
 //!
-//! They stand above the readers, so that a query is its text.
+//! They stand above the readers, so that a statement is its text.
 #![tactic(auto)]
 
 #[cfg(test)]
 mod catalogue;
+#[cfg(test)]
+mod changes;
+#[cfg(test)]
+mod keyed;
 #[cfg(test)]
 mod printing;
 #[cfg(test)]
@@ -13,6 +17,8 @@ mod queries;
 mod reading;
 #[cfg(test)]
 mod script;
+#[cfg(test)]
+mod statements;
 #[cfg(test)]
 mod steps;
 #[cfg(test)]

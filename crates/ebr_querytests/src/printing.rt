@@ -13,7 +13,7 @@ fn value(alloc: Global, v: &Value, out: &mut Bytes) -> Result<(), NoMemory> {
 }
 
 /// Values in parentheses.
-fn row(alloc: Global, values: &[Value], out: &mut Bytes) -> Result<(), NoMemory> {
+pub fn row(alloc: Global, values: &[Value], out: &mut Bytes) -> Result<(), NoMemory> {
     for (at, v) in values.iter().enumerate() {
         out.extend(if at == 0 { b"(" } else { b", " })?;
         value(alloc, v, out)?;

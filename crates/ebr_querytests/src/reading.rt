@@ -1,11 +1,11 @@
 //! Texts as they are read.
 
-use ebr_ast::{EditioningView, Query};
+use ebr_ast::{EditioningView, Query, SqlTree};
 use ebr_base::{Bytes, List, MAX_COUNT, Name, NoMemory, Shared, Value};
 use ebr_ddlparse::read_editioning_view;
 use ebr_grammar::{ReadStop, Tokens};
 use ebr_lexer::{LexStop, Token, lex};
-use ebr_sqlparse::read_query;
+use ebr_sqlparse::{read_query, sql};
 use std::alloc::Global;
 
 /// The first line, and the rest, where a line is there.
@@ -51,6 +51,12 @@ pub fn query(alloc: Global, text: &str) -> Result<Shared<Query>, NoMemory> {
     let mut rest = Tokens::new(tokens.as_slice());
     let read = read_query(alloc, &mut rest);
     whole(read, rest.left())
+}
+
+/// The statement that a text spells which reads or changes rows.
+pub fn statement(alloc: Global, text: &str) -> Result<SqlTree, NoMemory> {
+    let tokens = tokens_of(alloc, text)?;
+    sql(alloc, tokens.as_slice())?.ok_or(NoMemory)
 }
 
 /// The editioning view that a text spells, from the word EDITIONING on.

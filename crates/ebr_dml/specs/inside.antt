@@ -1,0 +1,4 @@
+pub mod Writes
+pub mod Apart
+pub mod Takes
+pub mod Joined
