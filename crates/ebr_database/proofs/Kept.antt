@@ -1,0 +1,88 @@
+-- What a keeper answers is what is defined.
+use Rattle.std.proofs.Common.{◌≡◌, ℕ, ◌+◌, ◌≤◌, ◌<◌, ◌⊎◌, inl, inr, ⊎_elim, Bool, true, false, List, [], ◌∷◌, ◌++◌, Option, Some, None, Ok, Err, refl, sym, ap, subst, ◌∙◌, append-nil, arith}
+use Rattle.std.specs.Prelude.{◌≢◌, Result, IsTrue, nat_le, sum_by}
+use Rattle.std.proofs.lemmas.Bool.{le-leb, lt-leb}
+use Rattle.ebr_base.specs.declared.code.Code.TheVariants.{Ebr}
+use Rattle.ebr_base.specs.declared.row.Change.{Change}
+use Rattle.ebr_record.specs.declared.keep.JournalFault.{JournalFault}
+use Rattle.ebr_record.specs.declared.keep.JournalFault.TheVariants as fault
+use Rattle.ebr_record.specs.declared.record.Record.{Record}
+use Rattle.ebr_record.specs.declared.record.Record.TheVariants.{Commit}
+use Rattle.ebr_record.specs.Keeper.{Keeper, share, max_journal, with_record, Answered, Becomes, Elapses, Passes, Stands, WithOrWithout}
+use Rattle.ebr_database.specs.declared.failure.Failure.{Failure}
+use Rattle.ebr_database.specs.declared.failure.Halt.{Halt}
+use Rattle.ebr_database.specs.declared.failure.Halt.TheVariants as halt
+use Rattle.ebr_database.specs.Transact.{kept_if, keep_record, keep_changes}
+use Rattle.ebr_database.specs.Shows.{with_records, Between, Holds, Grew, Cause, GaveUp, Said, Shows}
+use Rattle.ebr_database.specs.inside.Failed.{failed}
+use Rattle.ebr_database.proofs.Keeping.{with_none}
+use Rattle.ebr_database.proofs.Goes.{says}
+
+module _ (old new : Keeper) (r : Record) where
+  with_one : (k : Option (List Record)) → with_record k r ≡ with_records k (r ∷ [])
+  with_one None = refl
+  with_one (Some l) = refl
+
+  between : (k : Option (List Record)) (l : List Record) → WithOrWithout k r l → Between k (r ∷ []) l
+  between None l h = tt
+  between (Some kept) l h = ⊎_elim (λ e. ([], r ∷ [], e ∙ sym (append-nil kept), refl)) (λ e. (r ∷ [], [], e, refl)) h
+
+  passes : (made : List Record) → made ≡ r ∷ [] → Passes old new (WithOrWithout old.kept r) → Holds old new made
+  passes made e p t l before x = subst (λ m. old.may_leave t l ⊎ Between old.kept m l) (sym e) (⊎_elim (λ y. inl y) (λ y. inr (between old.kept l y)) (p.only t l before x))
+
+  stands : (made : List Record) → Stands old new → Holds old new made
+  stands made s t l before x = inl ((s.same t l).0 x)
+
+  fits : old.used + share r ≤ max_journal → nat_le (old.used + share r) max_journal ≡ true
+  fits h = le-leb (old.used + share r) max_journal h
+
+  over : (len : ℕ) → len ≡ old.used + share r → max_journal < len → nat_le (old.used + share r) max_journal ≡ false
+  over len e h = lt-leb (old.used + share r) max_journal (subst (λ n. max_journal < n) e h)
+
+  made_if : nat_le (old.used + share r) max_journal ≡ true → (keep_record r old.used).made ≡ r ∷ []
+  made_if e = ap (λ b. (kept_if b r old.used).made) e
+
+  gave_up : (a : Result (Unit {0}) JournalFault) (why : Halt) → Becomes old new r a → (IsTrue old.tells → Holds old new (keep_record r old.used).made) → Cause why old new → GaveUp old new (keep_record r old.used).made why
+  gave_up a why b h cause = record { faults = b.faults; moment = b.moment; holds = h; cause = cause }
+
+  pub kept : (a : Result (Unit {0}) JournalFault) → Answered old new r a → Becomes old new r a → (IsTrue old.tells → Elapses old new r a) → Shows (keep_record r old.used) new.used old new (failed a)
+  kept (Ok u) cause b moments =
+      subst (λ c. Said (kept_if c r old.used) new.used old new (Ok tt)) (sym (fits cause.1)) (record {
+        state = sym b.used;
+        kept = record {
+          kept = b.kept ∙ with_one old.kept;
+          used = omega (arith, b.used);
+          faults = b.faults;
+          stopped = b.stopped;
+          moment = b.moment;
+          tells = b.tells;
+          holds = λ told. passes (r ∷ []) refl (moments told);
+        };
+        value = refl;
+      })
+  kept (Err (fault.Full len)) cause b moments =
+      subst (λ c. Said (kept_if c r old.used) new.used old new (Err (Ebr 42))) (sym (over len cause.1 cause.2)) (record {
+        state = sym b.used;
+        kept = record {
+          kept = b.kept ∙ sym (with_none old.kept);
+          used = omega (arith, b.used);
+          faults = b.faults;
+          stopped = b.stopped;
+          moment = b.moment;
+          tells = b.tells;
+          holds = λ told. stands [] (moments told);
+        };
+        value = refl;
+      })
+  kept (Err fault.DiskFault) cause b moments = gave_up (Err fault.DiskFault) halt.DiskFault b (λ told. passes (keep_record r old.used).made (made_if (fits cause.1)) (moments told)) cause.2
+  kept (Err fault.NoMemory) cause b moments = gave_up (Err fault.NoMemory) halt.NoMemory b (λ told. passes (keep_record r old.used).made (made_if (fits cause.1)) (moments told)) tt
+  kept (Err fault.Stopped) cause b moments = gave_up (Err fault.Stopped) halt.Stopped b (λ told. stands (keep_record r old.used).made (moments told)) cause
+
+-- ---- no changes, and some
+
+pub none_kept : (cs : List Change) (k : Keeper) → cs ≡ [] → Shows (keep_changes cs k.used) k.used k k (Ok tt)
+none_kept cs k e = subst (λ x. Said (keep_changes x k.used) k.used k k (Ok tt)) (sym e) (says k.used (Ok tt) k)
+
+pub some_kept : (cs : List Change) (old new : Keeper) (r : Result (Unit {0}) Failure) → cs ≢ [] → Shows (keep_record (Commit cs) old.used) new.used old new r → Shows (keep_changes cs old.used) new.used old new r
+some_kept [] old new r some h = absurd (some refl)
+some_kept (c ∷ cs) old new r some h = h

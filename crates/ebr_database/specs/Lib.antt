@@ -1,0 +1,9 @@
+pub mod Outcome
+pub mod Storable
+pub mod Base
+pub mod Carried
+pub mod Transact
+pub mod Shows
+pub mod Database
+pub mod ReadBack
+pub mod inside

@@ -1,0 +1,9 @@
+pub mod Undone
+mod Fits
+pub mod Rows
+mod BehindChecks
+mod Room
+mod Counts
+mod Ends
+mod Firings
+mod Examples

@@ -1,0 +1,4 @@
+pub mod Given
+pub mod Rest
+pub mod Over
+pub mod Changes
