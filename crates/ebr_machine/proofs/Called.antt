@@ -18,9 +18,9 @@ use Rattle.ebr_code.specs.Instructions.{above, last, beneath}
 use Rattle.ebr_code.specs.Runs.{part_of}
 use Rattle.ebr_memory.specs.Levels.{with_top}
 use Rattle.ebr_running.specs.declared.running.Running.{Running}
-use Rattle.ebr_running.specs.Rest.{DoesIn, Moves, calls_at, resume, rest_of, saved_of, state_of, entering}
+use Rattle.ebr_running.specs.Rest.{DoesIn, Moves, calls_at, resume, saved_of, state_of}
 use Rattle.ebr_running.proofs.Moving.{moves_does}
-use Rattle.ebr_machine.specs.inside.Callees.{call_of, called, unless, first_unfit}
+use Rattle.ebr_machine.specs.inside.Callees.{GoesAs, call_of, called, unless, first_unfit, with_arguments, with_subprogram}
 use Rattle.ebr_machine.proofs.Entering.{entered_at}
 
 -- the same by another meaning
@@ -63,17 +63,17 @@ call_unfit book old new p f c h e u m = moves_as book old new (raises (fault.Cod
     ∙ ap (λ x. when_fit x next (bare σ)) (sym u))) m
 
 -- what a call begins with
-abbrev pub without : ℕ → Running → Running
+abbrev without : ℕ → Running → Running
 without n m = record m { operands = with_top (drop n m.operands.top) m.operands }
 
 pub call_enters : (book : Book) (old new : Running) (u : compiled.Unit) (s : Subprogram) (f : Callee) → 0 < old.frames_left → agrees f (part_of s) ≡ true → None ≡ first_unfit (part_of s).formals (reverse (take f.arguments old.operands.top))
-    → Some s ≡ slice_get u.subprograms f.place → new ≡ entering u f.place f.results s (reverse (take f.arguments old.operands.top)) (without f.arguments old) → DoesIn book old new (called book old.makings_left old.frames_left (Some (part_of s)) f)
+    → Some s ≡ slice_get u.subprograms f.place → GoesAs book new (with_subprogram u f old.frames_left s (with_arguments f.arguments old)) → DoesIn book old new (called book old.makings_left old.frames_left (Some (part_of s)) f)
 call_enters book old new u s f h e n i w asks given =
     let σ = state_of old asks given in
     let p = part_of s in
     let vs = reverse (take f.arguments old.operands.top) in
     let next = entered p (calls_at book old.makings_left (old.frames_left - 1)) vs in
-    ap (λ m. rest_of book m asks given) w
+    w asks given
     ∙ entered_at book (without f.arguments old) u f.place f.results s vs asks given (ap (option_map part_of) (sym i))
     ∙ ap (λ o. resume book old.makings_left old.frames_left old.tasks (saved_of old) (given_back f.results o (above (beneath f.arguments σ)))) (sym
     (framed book old.makings_left old.frames_left p f vs (bare σ) h

@@ -2,7 +2,7 @@
 use Rattle.std.proofs.Common.{◌≡◌, ℕ, zero, suc, ◌+◌, List, [], ◌∷◌, drop, Some, None, refl, sym, ap, ◌∙◌, add-one}
 use Rattle.std.specs.Prelude.{slice_get}
 use Rattle.ebr_run.specs.Expressions.{Calls}
-use Rattle.ebr_run.specs.State.{State, Normal, ended, then_run}
+use Rattle.ebr_run.specs.State.{State, Outcome, End, Normal, Exit, Continue, Returned, Raised, Stopped, Waiting, ended, then_run}
 use Rattle.ebr_code.specs.declared.instruction.Instruction.{Instruction}
 use Rattle.ebr_code.specs.Instructions.{meaning_of, run}
 
@@ -24,3 +24,16 @@ run_at body i s calls σ e =
 
 pub run_past : (body : List Instruction) (i : ℕ) (calls : Calls) (σ : State) → None ≡ slice_get body i → run (drop i body) calls σ ≡ ended Normal σ
 run_past body i calls σ e = ap (λ l. run l calls σ) (drop_past body i e)
+
+-- nothing comes then
+pub then_nothing : (o : Outcome) → then_run o (ended Normal) ≡ o
+then_nothing o = by_end o.end o.state
+  where
+    by_end : (e : End) (σ : State) → then_run (ended e σ) (ended Normal) ≡ ended e σ
+    by_end Normal σ = refl
+    by_end Exit σ = refl
+    by_end Continue σ = refl
+    by_end Returned σ = refl
+    by_end (Raised f) σ = refl
+    by_end (Stopped c) σ = refl
+    by_end Waiting σ = refl

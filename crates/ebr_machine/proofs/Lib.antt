@@ -6,3 +6,5 @@ pub mod Called
 pub mod Ended
 pub mod Referred
 pub mod Row
+pub mod Arguments
+pub mod Over

@@ -1,19 +1,19 @@
 -- Rows of operations that ask no book.
-use Rattle.std.proofs.Common.{◌≡◌, ℕ, ◌+◌, List, ◌∷◌, true, drop, Some, refl, sym, ap, ◌∙◌}
+use Rattle.std.proofs.Common.{◌≡◌, ℕ, ◌+◌, List, ◌∷◌, true, drop, Some, None, refl, sym, ap, ◌∙◌}
 use Rattle.std.specs.Prelude.{slice_get}
 use Rattle.ebr_run.specs.Expressions.{Calls}
 use Rattle.ebr_run.specs.State.{State, Runs, Outcome, broken, then_run}
 use Rattle.ebr_code.specs.declared.instruction.Instruction.{Instruction}
 use Rattle.ebr_code.specs.Books.{Book}
-use Rattle.ebr_code.specs.Instructions.{meaning_of, run}
+use Rattle.ebr_code.specs.Instructions.{Meaning, meaning_of, run}
 use Rattle.ebr_running.specs.declared.running.Flow.{Flow}
 use Rattle.ebr_running.specs.declared.running.Flow.TheVariants as flow
 use Rattle.ebr_running.specs.declared.running.Running.{Running}
 use Rattle.ebr_running.specs.declared.running.Task.TheVariants as task
-use Rattle.ebr_running.specs.Rest.{Later, Computes, DoesIn, awake, calls, calls_at, later_of, resume, state_of, stands_at}
+use Rattle.ebr_running.specs.Rest.{Later, ActsIn, Computes, DoesIn, awake, calls, calls_at, later_of, resume, saved_of, state_of, stands_at}
 use Rattle.ebr_running.proofs.Moving.{same_later, stands_where}
-use Rattle.ebr_machine.specs.inside.Rows.{Ran, is_normal}
-use Rattle.ebr_machine.proofs.Laws.{run_at}
+use Rattle.ebr_machine.specs.inside.Rows.{LeavesRest, Ran, is_normal}
+use Rattle.ebr_machine.proofs.Laws.{run_at, run_past, then_nothing}
 
 -- where it stands normally, what comes next begins
 stands_normally : (m : Running) (σ : State) (k : Runs) → m.flow ≡ flow.Normal → then_run (stands_at m σ) k ≡ k σ
@@ -63,3 +63,19 @@ ran_up book old mid new place at body e r asks given =
     ap (λ (m : Running). resumed book (later_of m) (stands_at m (state_of m asks given))) e
     ∙ ap (λ (l : Later). resumed book l (then_run (stands_at mid σ) (run (drop at body) (calls_in book l)))) r.later
     ∙ ap (resumed book (later_of old)) (r.here (calls book old) asks given)
+
+-- ---- what is left for later
+
+pub leaves_nothing : (old : Running) (body : List Instruction) (at : ℕ) → None ≡ slice_get body at → LeavesRest old old body at
+leaves_nothing old body at e = record {
+  same = refl;
+  later = λ book m n s o.
+      ap (resume book m n old.tasks s) (sym (then_nothing o) ∙ ap (then_run o) (λ i σ. sym (run_past body at (calls_at book m n) σ e) i));
+}
+
+-- what begins before it
+pub before_rest : (book : Book) (old mid new : Running) (body : List Instruction) (at : ℕ) (m : Meaning) → LeavesRest old mid body at → ActsIn book mid new m → DoesIn book old new (λ σ. then_run (m (calls book old) σ) (run (drop at body) (calls book old)))
+before_rest book old mid new body at m l acts asks given =
+    acts asks given
+    ∙ ap (λ (x : Running). resume book x.makings_left x.frames_left mid.tasks (saved_of x) (m (calls book x) (state_of x asks given))) l.same
+    ∙ l.later book old.makings_left old.frames_left (saved_of old) (m (calls book old) (state_of old asks given))

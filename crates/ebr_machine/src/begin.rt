@@ -5,6 +5,7 @@ ghost use Rattle.std.specs.Option.{option_copied};
 ghost use Rattle.ebr_code.specs.Instructions as code;
 ghost use Rattle.ebr_code.specs.Instructions.{meaning_of, operate};
 ghost use Rattle.ebr_running.specs.Rest.{ActsIn, DoesIn, calls};
+ghost use Rattle.ebr_machine.specs.inside.Rows.{LeavesRest};
 
 use crate::calls::call;
 use crate::packages::refer;
@@ -96,9 +97,21 @@ fn begin_at<B: CodeBook>(
     match instruction_at(body, place) {
         None => Ok(()),
         Some(instruction) => {
-            run.tasks
-                .push(Task::Rest(body.clone_in(alloc)?, behind(place)?))?;
+            leave_rest(run, alloc, body, behind(place)?)?;
             begin(run, alloc, book, edition, instruction)?;
+            Ok(())
+        }
+    }
+}
+
+/// Leaves the instructions of a code from a place on for later, where there are any.
+fn leave_rest(run: &mut Running, alloc: Global, body: &Code, place: usize) -> Result<(), NoMemory>
+    ensures { OnOk result (LeavesRest run.old run.new body.now place) }
+{
+    match instruction_at(body, place) {
+        None => Ok(()),
+        Some(_) => {
+            run.tasks.push(Task::Rest(body.clone_in(alloc)?, place))?;
             Ok(())
         }
     }

@@ -1,6 +1,6 @@
 //! Calls.
 
-ghost use Rattle.std.specs.Prelude.{◌≡◌, map, nat_eq, Some, OnOk};
+ghost use Rattle.std.specs.Prelude.{◌≡◌, map, Some, OnOk};
 ghost use Rattle.std.specs.Prelude.{slice_get as get};
 ghost use Rattle.std.specs.Option.{option_copied};
 ghost use Rattle.ebr_run.specs.Calls as spec;
@@ -8,15 +8,16 @@ ghost use Rattle.ebr_code.specs.Books.{Book};
 ghost use Rattle.ebr_code.specs.Runs.{formal, part_of};
 ghost use Rattle.ebr_code.specs.Instructions.{operate};
 ghost use Rattle.ebr_code.specs.declared.instruction.Operation.TheVariants as does;
-ghost use Rattle.ebr_running.specs.Rest as rest;
 ghost use Rattle.ebr_running.specs.Rest.{ActsIn, DoesIn};
 ghost use Rattle.ebr_machine.specs.inside.Callees as callees;
 
-use ebr_asks::Ask;
-use ebr_base::{Class, CloneIn, Code, EditionNo, List, Name, NoMemory, Shared, Value};
+use crate::opening::enter;
+use crate::shapes::agrees;
+use crate::subprograms::run_called;
+use ebr_base::{Class, Code, EditionNo, Name, NoMemory, Shared, Value};
 use ebr_code::{Callee, CodeBook, Fault, Parameter, Subprogram, Unit};
-use ebr_memory::{Stack, unfit};
-use ebr_running::{Caller, Flow, Pending, Running, Task};
+use ebr_memory::unfit;
+use ebr_running::{Flow, Running};
 use std::alloc::Global;
 
 /// Calls a subprogram with the topmost operands.
@@ -71,16 +72,9 @@ fn call_found(
             Ok(())
         }
         None => {
-            let arguments = run.operands.take(callee.arguments)?;
-            enter(
-                run,
-                alloc,
-                unit,
-                callee.place,
-                callee.results,
-                found,
-                arguments,
-            )?;
+            let frames_left = run.frames_left;
+            enter(run, callee.arguments)?;
+            run_called(run, alloc, unit, found, callee, frames_left)?;
             Ok(())
         }
     }
@@ -115,42 +109,6 @@ pub fn body_unit<'a, B: CodeBook>(
     }
 }
 
-/// Whether a call has the shape that the subprogram has.
-fn agrees(callee: &Callee, found: &Subprogram) -> bool
-    ensures { result ≡ spec.agrees callee.now (part_of found.now) }
-{
-    callee.arguments == found.parameters.len() && gives_so_many(found, callee.results)
-}
-
-/// Whether a subprogram gives so many values back.
-fn gives_so_many(found: &Subprogram, results: usize) -> bool
-    ensures { result ≡ nat_eq results (spec.results (part_of found.now)) }
-{
-    if !found.function {
-        return hand_back(found.parameters.as_slice(), results);
-    }
-    match results.checked_sub(1) {
-        Some(others) => hand_back(found.parameters.as_slice(), others),
-        None => false,
-    }
-}
-
-/// Whether so many of the parameters hand a value back.
-fn hand_back(parameters: &[Parameter], count: usize) -> bool
-    ensures { result ≡ nat_eq count (spec.giving (map formal parameters.now)) }
-{
-    let mut left = count;
-    for parameter in parameters {
-        if parameter.gives {
-            match left.checked_sub(1) {
-                Some(others) => left = others,
-                None => return false,
-            }
-        }
-    }
-    left == 0
-}
-
 /// The code that passing a value to a parameter raises.
 fn unfit_for(parameter: &Parameter, value: &Value) -> Option<Code>
     ensures { result ≡ callees.unfit_for (formal parameter.now) value.now }
@@ -179,68 +137,4 @@ fn first_unfit(parameters: &[Parameter], values: &[Value]) -> Option<Code>
         }
     }
     None
-}
-
-/// Begins a subprogram of a unit with its arguments.
-fn enter(
-    run: &mut Running,
-    alloc: Global,
-    unit: &Shared<Unit>,
-    place: usize,
-    results: usize,
-    found: &Subprogram,
-    arguments: List<Value>,
-) -> Result<(), NoMemory>
-    ensures { OnOk result (run.new ≡ rest.entering unit.now place results found.now arguments run.old) }
-{
-    let caller = Caller {
-        unit: unit.clone_in(alloc)?,
-        place,
-        results,
-        frames_left: run.frames_left,
-    };
-    run.variables.open()?;
-    run.variables.push_all(arguments)?;
-    run.cursors.open()?;
-    run.faults.open()?;
-    run.operands.open()?;
-    run.tasks.push(Task::Call(caller))?;
-    push_first(alloc, &mut run.tasks, found)?;
-    run.frames_left = run.frames_left.saturating_sub(1);
-    run.flow = first_flow(found.autonomous);
-    run.ask = Ask::PushAuto;
-    run.pending = Pending::Done;
-    Ok(())
-}
-
-/// Whether a subprogram begins at once, or waits for its transaction.
-pub fn first_flow(autonomous: bool) -> Flow
-    ensures { result ≡ rest.first_flow autonomous }
-{
-    if autonomous {
-        Flow::Waiting
-    } else {
-        Flow::Normal
-    }
-}
-
-/// Puts what a subprogram has to do on top of the tasks.
-pub fn push_first(
-    alloc: Global,
-    tasks: &mut Stack<Task>,
-    found: &Subprogram,
-) -> Result<(), NoMemory>
-    ensures { OnOk result (tasks.new ≡ rest.first_tasks found.now.autonomous found.now.function found.now.code tasks.old) }
-{
-    if found.autonomous {
-        tasks.push(Task::Autonomous(found.function, found.code.clone_in(alloc)?))?;
-        return Ok(());
-    }
-    if found.function {
-        tasks.push(Task::Function)?;
-        tasks.push(Task::Rest(found.code.clone_in(alloc)?, 0))?;
-        return Ok(());
-    }
-    tasks.push(Task::Rest(found.code.clone_in(alloc)?, 0))?;
-    Ok(())
 }

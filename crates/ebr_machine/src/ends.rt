@@ -1,39 +1,91 @@
 //! The ends of subprograms and of packages' makings.
 
-ghost use Rattle.std.specs.Prelude.{◌≡◌, ◌∷◌, ◌++◌, map, OnOk, IfOk};
+ghost use Rattle.std.specs.Prelude.{◌≡◌, [], ◌∷◌, ◌++◌, length, map, take, reverse, IsTrue, OnOk, IfOk, MatchOption};
 ghost use Rattle.ebr_run.specs.Calls as spec;
 ghost use Rattle.ebr_code.specs.Runs.{formal};
 ghost use Rattle.ebr_running.specs.Rest as rest;
 ghost use Rattle.ebr_running.specs.Rest.{Follows, IsRunning};
 ghost use Rattle.ebr_running.specs.declared.running.Task.TheVariants as task;
 ghost use Rattle.ebr_machine.specs.inside.Callees as callees;
-ghost use Rattle.ebr_machine.specs.inside.Callees.{GoesBack};
+ghost use Rattle.ebr_machine.specs.inside.Callees.{Alone, GivesOperands, GoesBack};
 
+use crate::shapes::gives_so_many;
 use ebr_base::{List, Name, NoMemory, Value};
 use ebr_code::{Parameter, Unit};
 use ebr_memory::{Levels, Stacks, variable};
-use ebr_running::{Caller, Flow, Running};
+use ebr_running::{Flow, Running};
 use std::alloc::Global;
 
-/// The end of a subprogram.
-pub fn end_call(run: &mut Running, alloc: Global, caller: &Caller) -> Result<(), NoMemory>
+/// The end of the subprogram at a place of a unit, whose caller takes so many values back and has so many frames left.
+pub fn end_call(
+    run: &mut Running,
+    alloc: Global,
+    unit: &Unit,
+    place: usize,
+    results: usize,
+    frames_left: u32,
+) -> Result<(), NoMemory>
     requires { IsRunning run.old.flow }
-    ensures { OnOk result (Follows run.old run.new (task.Call caller.now ∷ run.old.tasks)) }
+    ensures { OnOk result (Follows run.old run.new (task.Call (callees.called_from unit.now place results frames_left) ∷ run.old.tasks)) }
 {
-    run.frames_left = caller.frames_left;
+    run.frames_left = frames_left;
     if !leaves(run.flow) {
         close_all(run);
         run.operands.clear();
         return Ok(());
     }
-    let given = given_back(
-        alloc,
-        caller.unit.get(),
-        caller.place,
-        &mut run.operands,
-        &run.variables,
-    )?;
-    go_back(run, given, caller.results)?;
+    match alone(unit, place, results, &mut run.operands) {
+        Some(value) => {
+            go_back_with(run, value)?;
+            Ok(())
+        }
+        None => {
+            let given = given_back(alloc, unit, place, &mut run.operands, &run.variables)?;
+            go_back(run, given, results)?;
+            Ok(())
+        }
+    }
+}
+
+/// Takes the operand of a subprogram that gives it alone to a caller that takes one value: it needs no list.
+fn alone(unit: &Unit, place: usize, results: usize, operands: &mut Stacks<Value>) -> Option<Value>
+    ensures { MatchOption result (operands.new ≡ operands.old) (λ v. Alone unit.now place results operands.old operands.new v) }
+{
+    if !gives_one(unit, place, results, operands) {
+        return None;
+    }
+    match operands.pop() {
+        Some(value) => Some(value),
+        None => None,
+    }
+}
+
+/// Whether a subprogram gives one operand and nothing else, and its caller takes one value.
+fn gives_one(unit: &Unit, place: usize, results: usize, operands: &Stacks<Value>) -> bool
+    ensures one { IsTrue result → results ≡ 1 }
+    ensures alone { IsTrue result → length (reverse (take 2 operands.now.top)) ≡ 1 }
+    ensures gives { IsTrue result → GivesOperands (rest.part_in unit.now place) }
+{
+    results == 1 && operands.last(2).len() == 1 && gives_operands(unit, place)
+}
+
+/// Whether a subprogram gives its operands and nothing else, where they are one value.
+fn gives_operands(unit: &Unit, place: usize) -> bool
+    ensures { IsTrue result → GivesOperands (rest.part_in unit.now place) }
+{
+    match unit.subprograms.get(place) {
+        Some(found) => found.function && gives_so_many(found, 1),
+        None => false,
+    }
+}
+
+/// Goes on in the caller, which takes one value back.
+fn go_back_with(run: &mut Running, value: Value) -> Result<(), NoMemory>
+    ensures { OnOk result (GoesBack run.old run.new (value ∷ []) 1) }
+{
+    close_all(run);
+    run.operands.push(value)?;
+    run.flow = Flow::Normal;
     Ok(())
 }
 

@@ -49,7 +49,14 @@ fn turn<B: CodeBook>(
         },
         Task::Close => run.close(),
         Task::Making(name, makings_left) => end_making(run, &name, makings_left),
-        Task::Call(caller) => end_call(run, alloc, &caller)?,
+        Task::Call(caller) => end_call(
+            run,
+            alloc,
+            caller.unit.get(),
+            caller.place,
+            caller.results,
+            caller.frames_left,
+        )?,
     }
     Ok(())
 }

@@ -12,8 +12,8 @@
 //! - `IsOut`: an ask is out. `advance` gives it where it says `Ask`, and `take` asks for it.
 //!
 //! All of it is proved, for each unit, book, list of arguments, number of steps and list of answers, answers of the wrong kind
-//! too. Only want of memory is free. Nothing is recursive in the run: a call takes a task, and a level of each of the four
-//! vectors that hold all variables, cursors, handled faults and operands. How long an instruction takes is measured alone.
+//! too. Only want of memory is free. Nothing is recursive in the run: a call takes a task, unless what it calls ends without
+//! asking a book, and a level of each of the four vectors that hold all variables, cursors, handled faults and operands. How long an instruction takes is measured alone.
 #![tactic(auto)]
 
 mod begin;
@@ -22,8 +22,11 @@ mod ends;
 mod go;
 mod machine;
 mod next;
+mod opening;
 mod packages;
 mod plain;
+mod shapes;
+mod subprograms;
 
 pub use ebr_memory::Packages;
 pub use ebr_running::BodyFrame;

@@ -12,9 +12,9 @@ ghost use Rattle.ebr_code.specs.Runs.{RunCode};
 ghost use Rattle.ebr_running.specs.Rest as rest;
 ghost use Rattle.ebr_machine.specs.Has.{Has, IsAsk, IsDone, IsOut, Prints, SaysAsk, Shows, asks_of, frame_of, new_row_of};
 
-use crate::calls::{first_flow, push_first};
 use crate::go::go;
 use crate::next::Next;
+use crate::opening::{first_flow, push_first};
 use ebr_asks::{Answer, Ask};
 use ebr_base::{Bytes, CloneIn, Code, EditionNo, List, NoMemory, Shared, Value};
 use ebr_code::{CodeBook, Fault, Lookup, Subprogram, Unit};

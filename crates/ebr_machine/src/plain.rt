@@ -1,13 +1,16 @@
 //! Operations that ask no book, and rows of them.
 
-ghost use Rattle.std.specs.Prelude.{◌≡◌, true, OnOk, IfOk};
-ghost use Rattle.ebr_code.specs.Instructions.{meaning_of, operate};
+ghost use Rattle.std.specs.Prelude.{◌≡◌, true, map, OnOk, IfOk};
+ghost use Rattle.ebr_code.specs.Instructions as code;
+ghost use Rattle.ebr_code.specs.Instructions.{act, meaning_of, operate};
+ghost use Rattle.ebr_code.specs.declared.instruction.Instruction.TheOpen as form;
 ghost use Rattle.ebr_running.specs.Rest.{Computes};
 ghost use Rattle.ebr_machine.specs.inside.Rows as rows;
 ghost use Rattle.ebr_machine.specs.inside.Rows.{IfDone, Ran};
 
 use ebr_base::{CloneIn, List, NoMemory};
-use ebr_code::{Instruction, Operation};
+use ebr_code::{Code, Instruction, Operation};
+use ebr_memory::is_true;
 use ebr_running::{Flow, Running};
 use std::alloc::Global;
 
@@ -95,7 +98,7 @@ pub fn plain(run: &mut Running, alloc: Global, operation: &Operation) -> Result<
 }
 
 /// Does an instruction that asks no book and holds no code, and answers whether it is one.
-fn done(run: &mut Running, alloc: Global, instruction: &Instruction) -> Result<bool, NoMemory>
+fn simple(run: &mut Running, alloc: Global, instruction: &Instruction) -> Result<bool, NoMemory>
     requires { run.old.flow ≡ Flow.Normal }
     ensures { IfOk result (λ done. IfDone done run.old run.new (meaning_of instruction.now)) }
 {
@@ -111,8 +114,52 @@ fn done(run: &mut Running, alloc: Global, instruction: &Instruction) -> Result<b
     }
 }
 
-/// Does the instructions from a place on up to the first that asks a book or holds code, while they end normally, and
-/// answers the place behind them.
+/// Does a code of one instruction at most, where that asks no book and holds no code, and answers whether it is one.
+fn brief(run: &mut Running, alloc: Global, body: &Code) -> Result<bool, NoMemory>
+    requires { run.old.flow ≡ Flow.Normal }
+    ensures { IfOk result (λ done. IfDone done run.old run.new (code.run body.now)) }
+{
+    match body.get().as_slice().split_first() {
+        None => Ok(true),
+        Some((only, rest)) => match rest.split_first() {
+            None => Ok(simple(run, alloc, only)?),
+            Some(_) => Ok(false),
+        },
+    }
+}
+
+/// IF, where the code that it runs is of one instruction at most; answers whether it is one. `EXIT WHEN` and the end of WHILE
+/// are such.
+fn chosen(run: &mut Running, alloc: Global, then: &Code, otherwise: &Code) -> Result<bool, NoMemory>
+    requires { run.old.flow ≡ Flow.Normal }
+    ensures { IfOk result (λ done. IfDone done run.old run.new (act (form.If (map meaning_of then.now) (map meaning_of otherwise.now)))) }
+{
+    let Some(value) = run.operands.pop() else {
+        run.end_broken();
+        return Ok(true);
+    };
+    let body = if is_true(&value) { then } else { otherwise };
+    if brief(run, alloc, body)? {
+        return Ok(true);
+    }
+    run.operands.push(value)?;
+    Ok(false)
+}
+
+/// Does an instruction that asks no book and holds no code, or an IF that runs at most one such instruction; answers whether it
+/// is one.
+fn done(run: &mut Running, alloc: Global, instruction: &Instruction) -> Result<bool, NoMemory>
+    requires { run.old.flow ≡ Flow.Normal }
+    ensures { IfOk result (λ done. IfDone done run.old run.new (meaning_of instruction.now)) }
+{
+    match instruction {
+        Instruction::If(then, otherwise) => chosen(run, alloc, then, otherwise),
+        _ => simple(run, alloc, instruction),
+    }
+}
+
+/// Does the instructions from a place on up to the first that `done` doesn't do, while they end normally, and answers the place
+/// behind them.
 pub fn row(
     run: &mut Running,
     alloc: Global,

@@ -1,5 +1,6 @@
 -- What calls find and give back, and how packages are found.
-use Rattle.std.specs.Prelude.{◌≡◌, ℕ, suc, zero, ◌-◌, Bool, true, false, if◌then◌else◌, List, [], ◌∷◌, ◌++◌, Option, Some, None}
+use Rattle.std.specs.Prelude.{◌≡◌, ℕ, suc, zero, ◌-◌, Bool, true, false, not, ◌&&◌, if◌then◌else◌, List, [], ◌∷◌, ◌++◌, take, drop, reverse, slice_get, Option, Some, None}
+use Rattle.std.specs.Option.{is_none}
 use Rattle.ebr_base.specs.declared.code.Code.{Code}
 use Rattle.ebr_base.specs.declared.numbers.Stamp.{Stamp}
 use Rattle.ebr_base.specs.declared.object.Class.TheVariants as class
@@ -7,6 +8,7 @@ use Rattle.ebr_base.specs.declared.value.Value.{Value}
 use Rattle.ebr_base.specs.declared.value.Value.TheVariants as value
 use Rattle.ebr_ast.specs.Views.{unit_key}
 use Rattle.ebr_asks.specs.declared.ask.Ask.{Ask}
+use Rattle.ebr_asks.specs.declared.ask.Ask.TheVariants as ask
 use Rattle.ebr_asks.specs.declared.answer.Answer.{Answer}
 use Rattle.ebr_run.specs.declared.callee.Callee.{Callee}
 use Rattle.ebr_run.specs.declared.callee.Reference.{Reference}
@@ -14,22 +16,26 @@ use Rattle.ebr_run.specs.declared.callee.Reference.TheVariants as reference
 use Rattle.ebr_run.specs.Faults.{ebr}
 use Rattle.ebr_run.specs.Scope.{body_key}
 use Rattle.ebr_run.specs.Packages.{state_of, at}
-use Rattle.ebr_run.specs.State.{Runs, Normal, ended, raises, bare, then_run}
+use Rattle.ebr_run.specs.State.{State, Memory, Outcome, Runs, Normal, ended, raises, bare, then_run}
 use Rattle.ebr_run.specs.Values.{unfit}
-use Rattle.ebr_run.specs.Expressions.{given_back}
-use Rattle.ebr_run.specs.Calls.{Formal, Part, enter, too_deep, given, back_in, make, refer_to}
+use Rattle.ebr_run.specs.Expressions.{Calls, given_back}
+use Rattle.ebr_run.specs.Calls.{Formal, Part, enter, too_deep, given, left, returned, back_in, make, refer_to}
 use Rattle.ebr_run.specs.Units.{with_specification}
 use Rattle.ebr_code.specs.declared.book.Unit as compiled
+use Rattle.ebr_code.specs.declared.book.Subprogram.{Subprogram}
 use Rattle.ebr_code.specs.declared.instruction.Instruction.{Instruction}
 use Rattle.ebr_code.specs.Books.{Book}
-use Rattle.ebr_code.specs.Instructions.{holding, above, last, beneath}
+use Rattle.ebr_code.specs.Instructions.{run, holding, above, last, beneath}
 use Rattle.ebr_code.specs.Runs.{parts_of}
-use Rattle.ebr_memory.specs.Levels.{closed, opened}
+use Rattle.ebr_memory.specs.Levels.{Levels, closed, opened, with_top}
+use Rattle.ebr_running.specs.declared.running.Caller.{Caller}
 use Rattle.ebr_running.specs.declared.running.Flow.{Flow}
 use Rattle.ebr_running.specs.declared.running.Flow.TheVariants as flow
+use Rattle.ebr_running.specs.declared.running.Pending.TheVariants as pending
 use Rattle.ebr_running.specs.declared.running.Running.{Running}
+use Rattle.ebr_running.specs.declared.running.Task.{Task}
 use Rattle.ebr_running.specs.declared.running.Task.TheVariants as task
-use Rattle.ebr_running.specs.Rest.{calls_at, rest_of, resume, saved_of, outer, memory_of, operands_of}
+use Rattle.ebr_running.specs.Rest.{calls_at, first_flow, first_tasks, rest_of, resume, saved_of, outer, memory_of, operands_of}
 use Rattle.ebr_running.specs.Rest as rest
 
 -- ---- beginning a call
@@ -65,6 +71,56 @@ call_of book m (suc n) p f vs σ = enter p f (calls_at book m n) vs σ
 abbrev pub called : Book → ℕ → ℕ → Option Part → Callee → Runs
 called book m n p f σ = given_back f.results (call_of book m n p f (last f.arguments σ) (bare σ)) (above (beneath f.arguments σ))
 
+-- a run whose memory is that of a subprogram with so many of the operands as arguments
+abbrev pub with_arguments : ℕ → Running → Running
+with_arguments n m = record m {
+  variables = with_top (reverse (take n m.operands.top)) (opened m.variables);
+  cursors = opened m.cursors;
+  faults = opened m.faults;
+  operands = opened (with_top (drop n m.operands.top) m.operands);
+  frames_left = m.frames_left - 1;
+}
+
+abbrev pub called_from : compiled.Unit → ℕ → ℕ → ℕ → Caller
+called_from u place results frames = record { unit = u; place = place; results = results; frames_left = frames }
+
+-- a run that begins the subprogram whose memory it has
+abbrev pub with_subprogram : compiled.Unit → Callee → ℕ → Subprogram → Running → Running
+with_subprogram u f frames s m = record m {
+  tasks = first_tasks s.autonomous s.function s.code (task.Call (called_from u f.place f.results frames) ∷ m.tasks);
+  flow = first_flow s.autonomous;
+  ask = ask.PushAuto;
+  pending = pending.Done;
+}
+
+-- two runs do the same
+abbrev pub GoesAs : Book → Running → Running → Type 0
+GoesAs book a b = (asks : List Ask) (given : List Answer) → rest_of book a asks given ≡ rest_of book b asks given
+
+-- what a subprogram has to do from a place on before these tasks
+abbrev pub rest_tasks : Bool → List Instruction → ℕ → List Task → List Task
+rest_tasks true code at ts = task.Rest code at ∷ task.Function ∷ ts
+rest_tasks false code at ts = task.Rest code at ∷ ts
+
+-- a function ends by RETURN
+abbrev pub ending : Bool → Outcome → Outcome
+ending true o = returned true o
+ending false o = o
+
+-- two codes do the same as all of a subprogram
+abbrev pub LeavesAlike : List Instruction → List Instruction → Type 0
+LeavesAlike a b = (p : Part) (m : Memory) (function : Bool) (calls : Calls) (σ : State) → left p m (ending function (run a calls σ)) ≡ left p m (ending function (run b calls σ))
+
+-- whether nothing of a code is left at a place
+abbrev pub ends_at : List Instruction → ℕ → Bool
+ends_at code at = is_none (slice_get code at)
+
+-- whether a subprogram is over: by RETURN, or at the end of its code, where a function raises
+abbrev pub is_over : Flow → Bool → Bool → Bool
+is_over flow.Returned function end = true
+is_over flow.Normal function end = not function && end
+is_over e function end = false
+
 -- ---- the end of a call
 
 -- whether a subprogram is left, and not by what was raised
@@ -83,6 +139,16 @@ handed k (f ∷ fs) vs = if f.gives then at value.Null k vs ∷ handed (suc k) f
 -- all that a subprogram gives back
 abbrev pub gives : Part → List Value → List Value → List Value
 gives p operands variables = given p.function operands ++ handed 0 p.formals variables
+
+-- a subprogram gives all its operands and nothing else
+abbrev pub GivesOperands : Part → Type 0
+GivesOperands p = (operands variables : List Value) → gives p operands variables ≡ operands
+
+-- The subprogram gives this value alone, the one operand, and its caller takes one value.
+pub record Alone (u : compiled.Unit) (place results : ℕ) (old new : Levels Value) (v : Value) : Type 0 where
+  pub one : results ≡ 1
+  pub beneath : new.beneath ≡ old.beneath
+  pub given : (variables : List Value) → gives (rest.part_in u place) old.top variables ≡ v ∷ []
 
 -- a run that goes on with the memory beneath
 abbrev pub closing : Running → Running

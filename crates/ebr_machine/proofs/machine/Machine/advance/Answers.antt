@@ -1,5 +1,5 @@
 use Rattle.std.proofs.Common.{rules}
-use Rattle.ebr_machine.proofs.Still.{shows, shows_over, prints, says_ask}
+use Rattle.ebr_machine.proofs.Still.{shows, shows_over, prints}
 use Rattle.ebr_machine.proofs.machine.Machine.advance.Goals as goal
 
 pub returns-clause-shows : goal.returns-clause-shows
