@@ -208,6 +208,22 @@ impl<O: Drop> Actuals<O> {
         Ok(self.hide_two(e, copies.0, copies.1)?)
     }
 
+    /// What `put` would answer: the stamp, or EBR-0034.
+    pub fn put_answer(
+        &self,
+        chain: &Chain,
+        e: EditionNo,
+        key: &ObjectKey,
+        o: &O,
+    ) -> Result<Stamp, Code>
+        ensures { ForEntries self.now (λ entries. result ≡ put_answer chain.now.made entries e key.now o.now) }
+    {
+        if self.is_full(chain, e, key) {
+            return Err(Code::Ebr(34));
+        }
+        Ok(self.stamp(e))
+    }
+
     /// Whether no other object than one under this key may become visible in an edition.
     fn is_full(&self, chain: &Chain, e: EditionNo, key: &ObjectKey) -> bool
         ensures { result ≡ nat_le 4096 (held_others chain.now.made self.now e key.now) }

@@ -157,8 +157,8 @@ impl Chain {
         }
     }
 
-    /// The edition below which a new one of this name goes, or the refusal.
-    fn place_for(&self, n: &Name, parent: Option<&Name>) -> Result<EditionNo, Code>
+    /// The edition below which `create` would make one of this name, or the code by which it would refuse.
+    pub fn place_for(&self, n: &Name, parent: Option<&Name>) -> Result<EditionNo, Code>
         ensures refused { IfErr result (λ code. create_answer self.now.made n.now (option_copied parent.entry) ≡ Err code) }
         ensures accepted { OnOk result (create_answer self.now.made n.now (option_copied parent.entry) ≡ Ok (next_edition self.now.made)) }
         ensures parent { IfOk result (λ p. named_parent self.now.made (option_copied parent.entry) ≡ Some p) }

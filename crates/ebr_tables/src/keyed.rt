@@ -4,7 +4,7 @@ ghost use Rattle.std.specs.Prelude.{◌≡◌, [], ◌∷◌, ◌++◌, None, So
 ghost use Rattle.std.specs.Str.{bytes_eq};
 ghost use Rattle.indexmap.specs.IndexMap.{get};
 ghost use Rattle.ebr_base.specs.Answers.{Answers};
-ghost use Rattle.ebr_tables.specs.Tables.{add_answer, widened};
+ghost use Rattle.ebr_tables.specs.Tables.{add_answer, add_refusal, widened};
 ghost use Rattle.ebr_tables.specs.inside.Keyed.{widened_in};
 
 use crate::definition::is_bad_column;
@@ -46,12 +46,22 @@ fn widen_one(def: &mut TableDef, column: Column) -> Result<(), Stop>
     ensures table { OnOk result (def.new ≡ widened column def.old) }
     ensures unchanged { OnErr result (def.new ≡ def.old) }
 {
-    if is_bad_column(def.columns.as_slice(), &column) {
-        return Err(Stop::Raised(Code::Ebr(29)));
-    }
-    if def.columns.len() >= MAX_COLUMNS {
-        return Err(Stop::Raised(Code::Ebr(36)));
+    if let Some(code) = wide_refusal(def, &column) {
+        return Err(Stop::Raised(code));
     }
     def.columns.push(column)?;
     Ok(())
+}
+
+/// The code by which a table refuses one more column.
+pub fn wide_refusal(def: &TableDef, column: &Column) -> Option<Code>
+    ensures { result ≡ add_refusal (Some def.now) column.now }
+{
+    if is_bad_column(def.columns.as_slice(), column) {
+        return Some(Code::Ebr(29));
+    }
+    if def.columns.len() >= MAX_COLUMNS {
+        return Some(Code::Ebr(36));
+    }
+    None
 }

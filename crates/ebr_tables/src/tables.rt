@@ -4,10 +4,10 @@ ghost use Rattle.std.specs.Prelude.{◌≡◌, IfOk, OnOk, OnErr, slice_get};
 ghost use Rattle.std.specs.Option.{option_copied};
 ghost use Rattle.ebr_base.specs.Answers.{Answers};
 ghost use Rattle.ebr_base.specs.Keys.{table_named};
-ghost use Rattle.ebr_tables.specs.Tables.{AreTables, no_tables, create_refusal, create_answer, with_table, add_answer, with_column, remove_answer, refusal_of, without_table};
+ghost use Rattle.ebr_tables.specs.Tables.{AreTables, no_tables, create_refusal, create_answer, with_table, add_refusal, add_answer, with_column, remove_answer, refusal_of, without_table};
 
 use crate::definition::{is_bad_table, with_key_not_null};
-use crate::keyed::{MAX_COLUMNS, put, widen};
+use crate::keyed::{MAX_COLUMNS, put, wide_refusal, widen};
 use ebr_base::{Code, Column, MAX_COUNT, Name, NoMemory, Stop, TableDef, TableId};
 use indexmap::IndexMap;
 use std::alloc::Global;
@@ -75,10 +75,20 @@ impl Tables {
     }
 
     /// The code by which `create` refuses a definition.
-    fn create_refusal(&self, def: &TableDef) -> Option<Code>
+    pub fn create_refusal(&self, def: &TableDef) -> Option<Code>
         ensures { result ≡ create_refusal self.now def.now }
     {
         refusal_of(self.living.contains_key(&def.name), def, self.living.len())
+    }
+
+    /// The code by which `add_column` would refuse a column.
+    pub fn add_refusal(&self, t: &Name, c: &Column) -> Option<Code>
+        ensures { result ≡ add_refusal (table_named t.now self.now.living) c.now }
+    {
+        match self.find(t) {
+            Some(def) => wide_refusal(def, c),
+            None => Some(Code::Ora(942)),
+        }
     }
 
     /// Adds a column, which goes last, to the table of a name.
