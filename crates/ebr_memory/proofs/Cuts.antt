@@ -1,10 +1,11 @@
 -- Lists on top of each other, cut out of one.
-use Rattle.std.proofs.Common.{◌≡◌, ℕ, ◌+◌, ◌-◌, ◌≤◌, Bool, true, false, List, ◌++◌, length, take, drop, reverse, set, refl, sym, ap, ◌∙◌, arith}
-use Rattle.std.specs.Prelude.{nat_lt}
+use Rattle.std.proofs.Common.{◌≡◌, ℕ, ◌+◌, ◌-◌, ◌≤◌, Bool, true, false, List, [], ◌∷◌, ◌++◌, length, take, drop, reverse, set, Option, Some, None, refl, sym, ap, subst, ◌∙◌, arith}
+use Rattle.std.specs.Prelude.{nat_lt, MatchOption}
+use Rattle.std.specs.Option.{option_to_list, unwrap_or}
 use Rattle.std.proofs.lemmas.Bool.{ltb-true, ltb-false}
-use Rattle.std.proofs.lemmas.List.{drop-set-add, take-set-le, drop-drop, length-drop, length-reverse, reverse-append, reverse-reverse, take-append-drop, take_all, drop_all, drop-take, take-take}
+use Rattle.std.proofs.lemmas.List.{drop-set-add, take-set-le, drop-drop, length-drop, length-reverse, reverse-append, reverse-reverse, take-append-drop, drop-append-le, append-nil, length-take-le, take_all, drop_all, drop-take, take-take}
 use Rattle.std.proofs.Math.Seq.{take-append_seam, drop-append_seam}
-use Rattle.ebr_memory.specs.Levels.{levels, lower, lower_stacks, stacks, with_top}
+use Rattle.ebr_memory.specs.Levels.{IsCut, joined, levels, lower, lower_stacks, stacks, with_top}
 
 module _ {T : Type 0} where
   pub levels-set : (base : ℕ) (bases : List ℕ) (items : List T) (at : ℕ) (x : T) → levels base bases (set items (base + at) x) ≡ with_top (set (levels base bases items).top at x) (levels base bases items)
@@ -62,3 +63,27 @@ module _ {T : Type 0} where
   stacks_taken base items n =
       let k = length (drop base items) - n in
       sym (drop-drop k base items) ∙ sym (reverse-reverse (drop k (drop base items))) ∙ ap reverse (sym (taken_top n (drop base items)))
+
+  -- the topmost stack left on the one beneath, which begins at a place
+  pub stacks_joined : (base b : ℕ) (bases : List ℕ) (items : List T) → b ≤ base → base ≤ length items → stacks b bases items ≡ joined (stacks base (b ∷ bases) items)
+  stacks_joined base b bases items h within =
+      let l = length-take-le base items within in
+      let below : b ≤ length (take base items) = omega (arith, h, l) in
+      λ i. record {
+        top = (ap (λ ys. reverse (drop b ys)) (sym (take-append-drop base items)) ∙ ap reverse (drop-append-le b (take base items) (drop base items) below) ∙ reverse-append (drop b (take base items)) (drop base items)) i;
+        beneath = lower_stacks bases (sym (take-take b base items h) i);
+      }
+
+  -- the same where there may be none beneath: one list of places is the other with the last one taken away
+  pub stacks_under : (base m n : ℕ) (bases left : List ℕ) (last : Option ℕ) (items : List T) → bases ≡ left ++ option_to_list last → MatchOption last ((m ≡ 0) × (n ≡ 0)) (λ b. n + 1 ≡ m) → length left ≡ n → IsCut base (reverse bases) items
+      → stacks (unwrap_or last 0) (reverse left) items ≡ joined (stacks base (reverse bases) items)
+  stacks_under base m n bases left (Some b) items e c l cut =
+      let e' : reverse bases ≡ b ∷ reverse left = ap reverse e ∙ reverse-append left (b ∷ []) in
+      let k = subst (λ bs. IsCut base bs items) e' cut in
+      stacks_joined base b (reverse left) items k.1.0 k.0 ∙ ap (λ bs. joined (stacks base bs items)) (sym e')
+  stacks_under base m n bases [] None items e c l cut =
+      let k = subst (λ bs. IsCut base (reverse bs) items) e cut in
+      (λ i. record { top = sym (append-nil (reverse items)) i; beneath = [] })
+      ∙ ap (λ b. joined (stacks b [] items)) (sym k.1)
+      ∙ ap (λ bs. joined (stacks base (reverse bs) items)) (sym e)
+  stacks_under base m n bases (b ∷ left) None items e c l cut = let none = c.1 in absurd (omega (arith, l, none))

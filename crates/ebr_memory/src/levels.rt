@@ -84,16 +84,6 @@ impl<T: Drop> Levels<T> {
         Ok(())
     }
 
-    /// Adds the elements of a list at the end of the topmost one.
-    pub fn push_all(&mut self, list: List<T>) -> Result<(), NoMemory>
-        ensures { OnOk result (self.new ≡ with_top (self.old.top ++ list) self.old) }
-    {
-        for item in list.into_vec() {
-            self.push(item)?;
-        }
-        Ok(())
-    }
-
     /// Puts an element in the place of another one of the topmost list.
     pub fn set(&mut self, at: usize, item: T)
         requires { at < length self.old.top }

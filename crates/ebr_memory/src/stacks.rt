@@ -1,7 +1,7 @@
 //! A stack for each running subprogram, all in one vector.
 
-ghost use Rattle.std.specs.Prelude.{◌≡◌, [], ◌∷◌, ◌++◌, take, drop, reverse, MatchOption, OnOk, IfOk};
-ghost use Rattle.ebr_memory.specs.Levels.{with_top, opened, closed};
+ghost use Rattle.std.specs.Prelude.{◌≡◌, [], ◌∷◌, ◌++◌, length, take, drop, reverse, MatchOption, OnOk, IfOk};
+ghost use Rattle.ebr_memory.specs.Levels.{with_top, opened, closed, joined};
 
 use ebr_base::{List, NoMemory, rest_from};
 use std::alloc::Global;
@@ -41,6 +41,13 @@ impl<T> Stacks<T> {
         }
     }
 
+    /// How many elements the topmost stack has.
+    pub fn len(&self) -> usize
+        ensures { result ≡ length self.now.top }
+    {
+        self.items.len() - self.base
+    }
+
     /// So many elements from the top of the topmost stack, the topmost last.
     pub fn last(&self, count: usize) -> &[T]
         ensures { result.now ≡ reverse (take count self.now.top) }
@@ -59,6 +66,14 @@ impl<T: Drop> Stacks<T> {
         ensures { OnOk result (self.new ≡ with_top (item ∷ self.old.top) self.old) }
     {
         self.items.push(item)?;
+        Ok(())
+    }
+
+    /// Puts an element beneath all others of the topmost stack.
+    pub fn push_lowest(&mut self, item: T) -> Result<(), NoMemory>
+        ensures { OnOk result (self.new ≡ with_top (self.old.top ++ item ∷ []) self.old) }
+    {
+        self.items.insert(self.base, item)?;
         Ok(())
     }
 
@@ -129,6 +144,13 @@ impl<T: Drop> Stacks<T> {
         ensures { self.new ≡ closed self.old }
     {
         self.items.truncate(self.base);
+        self.base = self.bases.pop().unwrap_or(0);
+    }
+
+    /// Leaves the elements of the topmost stack on top of the one beneath.
+    pub fn join(&mut self)
+        ensures { self.new ≡ joined self.old }
+    {
         self.base = self.bases.pop().unwrap_or(0);
     }
 }
