@@ -1,16 +1,16 @@
 //! The ends of subprograms and of packages' makings.
 
-ghost use Rattle.std.specs.Prelude.{◌≡◌, [], ◌∷◌, ◌++◌, length, map, take, reverse, IsTrue, OnOk, IfOk, MatchOption};
+ghost use Rattle.std.specs.Prelude.{◌≡◌, ◌∷◌, ◌++◌, map, OnOk};
 ghost use Rattle.ebr_run.specs.Calls as spec;
 ghost use Rattle.ebr_code.specs.Runs.{formal};
+ghost use Rattle.ebr_memory.specs.Levels.{with_top};
 ghost use Rattle.ebr_running.specs.Rest as rest;
 ghost use Rattle.ebr_running.specs.Rest.{Follows, IsRunning};
 ghost use Rattle.ebr_running.specs.declared.running.Task.TheVariants as task;
 ghost use Rattle.ebr_machine.specs.inside.Callees as callees;
-ghost use Rattle.ebr_machine.specs.inside.Callees.{Alone, GivesOperands, GoesBack};
+ghost use Rattle.ebr_machine.specs.inside.Callees.{GoesBack};
 
-use crate::shapes::gives_so_many;
-use ebr_base::{List, Name, NoMemory, Value};
+use ebr_base::{Name, NoMemory, Value};
 use ebr_code::{Parameter, Unit};
 use ebr_memory::{Levels, Stacks, variable};
 use ebr_running::{Flow, Running};
@@ -34,73 +34,23 @@ pub fn end_call(
         run.operands.clear();
         return Ok(());
     }
-    match alone(unit, place, results, &mut run.operands) {
-        Some(value) => {
-            go_back_with(run, value)?;
-            Ok(())
-        }
-        None => {
-            let given = given_back(alloc, unit, place, &mut run.operands, &run.variables)?;
-            go_back(run, given, results)?;
-            Ok(())
-        }
-    }
-}
-
-/// Takes the operand of a subprogram that gives it alone to a caller that takes one value: it needs no list.
-fn alone(unit: &Unit, place: usize, results: usize, operands: &mut Stacks<Value>) -> Option<Value>
-    ensures { MatchOption result (operands.new ≡ operands.old) (λ v. Alone unit.now place results operands.old operands.new v) }
-{
-    if !gives_one(unit, place, results, operands) {
-        return None;
-    }
-    match operands.pop() {
-        Some(value) => Some(value),
-        None => None,
-    }
-}
-
-/// Whether a subprogram gives one operand and nothing else, and its caller takes one value.
-fn gives_one(unit: &Unit, place: usize, results: usize, operands: &Stacks<Value>) -> bool
-    ensures one { IsTrue result → results ≡ 1 }
-    ensures alone { IsTrue result → length (reverse (take 2 operands.now.top)) ≡ 1 }
-    ensures gives { IsTrue result → GivesOperands (rest.part_in unit.now place) }
-{
-    results == 1 && operands.last(2).len() == 1 && gives_operands(unit, place)
-}
-
-/// Whether a subprogram gives its operands and nothing else, where they are one value.
-fn gives_operands(unit: &Unit, place: usize) -> bool
-    ensures { IsTrue result → GivesOperands (rest.part_in unit.now place) }
-{
-    match unit.subprograms.get(place) {
-        Some(found) => found.function && gives_so_many(found, 1),
-        None => false,
-    }
-}
-
-/// Goes on in the caller, which takes one value back.
-fn go_back_with(run: &mut Running, value: Value) -> Result<(), NoMemory>
-    ensures { OnOk result (GoesBack run.old run.new (value ∷ []) 1) }
-{
-    close_all(run);
-    run.operands.push(value)?;
-    run.flow = Flow::Normal;
+    keep_given(alloc, unit, place, &mut run.operands, &run.variables)?;
+    go_back(run, results);
     Ok(())
 }
 
-/// Goes on in the caller, which takes so many values back.
-fn go_back(run: &mut Running, given: List<Value>, results: usize) -> Result<(), NoMemory>
-    ensures { OnOk result (GoesBack run.old run.new given results) }
+/// Goes on in the caller, which takes so many values back: the operands that were kept.
+fn go_back(run: &mut Running, results: usize)
+    ensures { GoesBack run.old run.new run.old.operands.top results }
 {
-    close_all(run);
-    if given.len() != results {
+    let given = run.operands.len();
+    close_memory(run);
+    run.operands.join();
+    if given != results {
         run.end_broken();
-        return Ok(());
+        return;
     }
-    run.operands.push_all(given)?;
     run.flow = Flow::Normal;
-    Ok(())
 }
 
 /// The end of a package's making. Where it failed the state is forgotten.
@@ -132,74 +82,59 @@ fn leaves(flow: Flow) -> bool
 fn close_all(run: &mut Running)
     ensures { run.new ≡ callees.closing run.old }
 {
-    run.variables.close();
-    run.cursors.close();
-    run.faults.close();
+    close_memory(run);
     run.operands.close();
 }
 
-/// All that the subprogram at a place of a unit gives back, a function's value first. Its operands may be taken away.
-fn given_back(
+/// Goes on with the memory beneath, but for the operands.
+fn close_memory(run: &mut Running)
+    ensures { run.new ≡ callees.closing_memory run.old }
+{
+    run.variables.close();
+    run.cursors.close();
+    run.faults.close();
+}
+
+/// Keeps all that the subprogram at a place of a unit gives back as its operands, a function's value topmost.
+fn keep_given(
     alloc: Global,
     unit: &Unit,
     place: usize,
     operands: &mut Stacks<Value>,
     variables: &Levels<Value>,
-) -> Result<List<Value>, NoMemory>
-    ensures given { IfOk result (λ given. given ≡ callees.gives (rest.part_in unit.now place) operands.old.top variables.now.top) }
-    ensures beneath { OnOk result (operands.new.beneath ≡ operands.old.beneath) }
+) -> Result<(), NoMemory>
+    ensures { OnOk result (operands.new ≡ with_top (callees.gives (rest.part_in unit.now place) operands.old.top variables.now.top) operands.old) }
 {
     let Some(found) = unit.subprograms.get(place) else {
-        return Ok(List::new(alloc));
+        operands.clear();
+        return Ok(());
     };
-    let mut given = computed(alloc, found.function, operands)?;
-    hand_back(alloc, found.parameters.as_slice(), variables, &mut given)?;
-    Ok(given)
+    keep_computed(found.function, operands);
+    hand_back(alloc, found.parameters.as_slice(), variables, operands)?;
+    Ok(())
 }
 
-/// What a function gives.
-fn computed(
-    alloc: Global,
-    function: bool,
-    operands: &mut Stacks<Value>,
-) -> Result<List<Value>, NoMemory>
-    ensures given { IfOk result (λ given. given ≡ spec.given function operands.old.top) }
-    ensures beneath { OnOk result (operands.new.beneath ≡ operands.old.beneath) }
+/// Keeps what a function computed.
+fn keep_computed(function: bool, operands: &mut Stacks<Value>)
+    ensures { operands.new ≡ with_top (spec.given function operands.old.top) operands.old }
 {
-    if function {
-        all_of(alloc, operands)
-    } else {
-        Ok(List::new(alloc))
+    if !function {
+        operands.clear();
     }
 }
 
-/// Takes all operands away, the topmost first.
-fn all_of(alloc: Global, operands: &mut Stacks<Value>) -> Result<List<Value>, NoMemory>
-    ensures all { IfOk result (λ all. all ≡ operands.old.top) }
-    ensures beneath { OnOk result (operands.new.beneath ≡ operands.old.beneath) }
-{
-    let mut all = List::new(alloc);
-    'operands: for _turn in 0..u64::MAX {
-        match operands.pop() {
-            Some(value) => all.push(value)?,
-            None => return Ok(all),
-        }
-    }
-    Err(NoMemory)
-}
-
-/// Adds the values of the parameters that hand one back.
+/// Puts the values of the parameters that hand one back beneath all other operands, the last one lowest.
 fn hand_back(
     alloc: Global,
     parameters: &[Parameter],
     variables: &Levels<Value>,
-    to: &mut List<Value>,
+    to: &mut Stacks<Value>,
 ) -> Result<(), NoMemory>
-    ensures { OnOk result (to.new ≡ to.old ++ callees.handed 0 (map formal parameters.now) variables.now.top) }
+    ensures { OnOk result (to.new ≡ with_top (to.old.top ++ callees.handed 0 (map formal parameters.now) variables.now.top) to.old) }
 {
     for (place, parameter) in parameters.iter().enumerate() {
         if parameter.gives {
-            to.push(variable(alloc, variables, place)?)?;
+            to.push_lowest(variable(alloc, variables, place)?)?;
         }
     }
     Ok(())

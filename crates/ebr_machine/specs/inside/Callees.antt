@@ -140,15 +140,9 @@ handed k (f ∷ fs) vs = if f.gives then at value.Null k vs ∷ handed (suc k) f
 abbrev pub gives : Part → List Value → List Value → List Value
 gives p operands variables = given p.function operands ++ handed 0 p.formals variables
 
--- a subprogram gives all its operands and nothing else
-abbrev pub GivesOperands : Part → Type 0
-GivesOperands p = (operands variables : List Value) → gives p operands variables ≡ operands
-
--- The subprogram gives this value alone, the one operand, and its caller takes one value.
-pub record Alone (u : compiled.Unit) (place results : ℕ) (old new : Levels Value) (v : Value) : Type 0 where
-  pub one : results ≡ 1
-  pub beneath : new.beneath ≡ old.beneath
-  pub given : (variables : List Value) → gives (rest.part_in u place) old.top variables ≡ v ∷ []
+-- a run that goes on with the memory beneath, but for the operands
+abbrev pub closing_memory : Running → Running
+closing_memory m = record m { variables = closed m.variables; cursors = closed m.cursors; faults = closed m.faults }
 
 -- a run that goes on with the memory beneath
 abbrev pub closing : Running → Running
