@@ -8,3 +8,4 @@ pub mod Referred
 pub mod Row
 pub mod Arguments
 pub mod Over
+pub mod Turning

@@ -48,7 +48,7 @@ begins_so book l true function code ts f k σ h = cc
 begins_so book l false true code ts f k σ h = refl
 begins_so book l false false code ts f k σ h = refl
 
-none_at : (o : Option Instruction) → is_none o ≡ true → None ≡ o
+pub none_at : (o : Option Instruction) → is_none o ≡ true → None ≡ o
 none_at None h = refl
 none_at (Some i) h = cc
 

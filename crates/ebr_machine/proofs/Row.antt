@@ -16,7 +16,7 @@ use Rattle.ebr_machine.specs.inside.Rows.{LeavesRest, Ran, is_normal}
 use Rattle.ebr_machine.proofs.Laws.{run_at, run_past, then_nothing}
 
 -- where it stands normally, what comes next begins
-stands_normally : (m : Running) (σ : State) (k : Runs) → m.flow ≡ flow.Normal → then_run (stands_at m σ) k ≡ k σ
+pub stands_normally : (m : Running) (σ : State) (k : Runs) → m.flow ≡ flow.Normal → then_run (stands_at m σ) k ≡ k σ
 stands_normally m σ k e = ap (λ f. then_run (awake f m.fault m.ask m.pending m.lookup σ) k) e
 
 pub normal_at : (e : Flow) → is_normal e ≡ true → e ≡ flow.Normal
@@ -28,7 +28,7 @@ normal_at flow.Raised h = cc
 normal_at (flow.Stopped c) h = cc
 normal_at flow.Waiting h = cc
 
-no_calls : Calls
+pub no_calls : Calls
 no_calls = record { call = λ f vs. broken; refer = λ r p. broken }
 
 pub ran_more : (old mid new : Running) (place at : ℕ) (body : List Instruction) (i : Instruction) → Some i ≡ slice_get body at → mid.flow ≡ flow.Normal → Ran old mid place at body → Computes mid new (meaning_of i) → Ran old new place (at + 1) body
@@ -42,10 +42,10 @@ ran_more old mid new place at body i e n r c = record {
       ∙ r.here calls asks given;
 }
 
-abbrev resumed : Book → Later → Outcome → Outcome
+abbrev pub resumed : Book → Later → Outcome → Outcome
 resumed book l o = resume book l.makings_left l.frames_left l.tasks l.saved o
 
-abbrev calls_in : Book → Later → Calls
+abbrev pub calls_in : Book → Later → Calls
 calls_in book l = calls_at book l.makings_left l.frames_left
 
 -- what is behind the row begins

@@ -8,6 +8,7 @@ ghost use Rattle.ebr_running.specs.Rest.{ActsIn, DoesIn, calls};
 ghost use Rattle.ebr_machine.specs.inside.Rows.{LeavesRest};
 
 use crate::calls::call;
+use crate::loops::repeat;
 use crate::packages::refer;
 use crate::plain::{is_normal, plain, row};
 use ebr_base::{CloneIn, EditionNo, NoMemory};
@@ -49,11 +50,7 @@ fn begin<B: CodeBook>(
         Instruction::Do(operation) => operate(run, alloc, book, edition, operation)?,
         Instruction::Decide(op, rest) => run.decide(alloc, *op, rest)?,
         Instruction::If(then, otherwise) => run.choose(alloc, then, otherwise)?,
-        Instruction::Loop(head, body) => run.repeat(
-            alloc,
-            head.clone_in(alloc)?,
-            body.clone_in(alloc)?,
-        )?,
+        Instruction::Loop(head, body) => repeat(run, alloc, head, body)?,
         Instruction::Guard(body, place, handlers) => run.guard(alloc, body, *place, handlers)?,
         Instruction::Closing(cursor, body) => run.closing(alloc, cursor, body)?,
         Instruction::Numbers(place, reversed, body) => run.numbers(alloc, *place, *reversed, body)?,

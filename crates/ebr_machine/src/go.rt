@@ -12,6 +12,7 @@ ghost use Rattle.ebr_running.specs.Rest.{FollowsIn, IsRunning, IsStill, rest_of}
 
 use crate::begin::go_on;
 use crate::ends::{end_call, end_making};
+use crate::loops::end_turn;
 use crate::next::{End, Next};
 use ebr_asks::Answer;
 use ebr_base::{CloneIn, Code, EditionNo, NoMemory};
@@ -36,7 +37,7 @@ fn turn<B: CodeBook>(
             _ => {}
         },
         Task::Head(head, body) => run.end_head(alloc, head, body)?,
-        Task::Loop(head, body) => run.end_turn(alloc, head, body)?,
+        Task::Loop(head, body) => end_turn(run, alloc, head, body)?,
         Task::Numbers(place, reversed, low, high, body) => run.end_number(
             alloc, place, reversed, low, high, body,
         )?,

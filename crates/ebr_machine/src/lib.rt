@@ -20,6 +20,7 @@ mod begin;
 mod calls;
 mod ends;
 mod go;
+mod loops;
 mod machine;
 mod next;
 mod opening;

@@ -97,7 +97,7 @@ fn push_called(
 }
 
 /// Whether nothing of a code is left at a place.
-fn ends_at(code: &Code, place: usize) -> bool
+pub fn ends_at(code: &Code, place: usize) -> bool
     ensures { result ≡ callees.ends_at code.now place }
 {
     code.get().get(place).is_none()
