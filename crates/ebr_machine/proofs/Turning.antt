@@ -18,7 +18,7 @@ use Rattle.ebr_running.specs.declared.running.Flow.TheVariants as flow
 use Rattle.ebr_running.specs.declared.running.Pending.{Pending}
 use Rattle.ebr_running.specs.declared.running.Running.{Running}
 use Rattle.ebr_running.specs.declared.running.Task.TheVariants as task
-use Rattle.ebr_running.specs.Rest.{Later, Computes, awake, calls, calls_at, later_of, rest_of, rest_of_turn, resume, state_of, stands_at}
+use Rattle.ebr_running.specs.Rest.{Later, Computes, awake, calls, later_of, rest_of, rest_of_turn, state_of, stands_at}
 use Rattle.ebr_running.proofs.CallsRise.{loop_run}
 use Rattle.ebr_running.proofs.Moving.{same_later, stands_where}
 use Rattle.ebr_machine.specs.inside.Callees.{ends_at}

@@ -27,7 +27,7 @@ use Rattle.ebr_code.specs.declared.instruction.Instruction.{Instruction}
 use Rattle.ebr_code.specs.Books.{Book}
 use Rattle.ebr_code.specs.Instructions.{run, holding, above, last, beneath}
 use Rattle.ebr_code.specs.Runs.{parts_of}
-use Rattle.ebr_memory.specs.Levels.{Levels, closed, opened, with_top}
+use Rattle.ebr_memory.specs.Levels.{closed, opened, with_top}
 use Rattle.ebr_running.specs.declared.running.Caller.{Caller}
 use Rattle.ebr_running.specs.declared.running.Flow.{Flow}
 use Rattle.ebr_running.specs.declared.running.Flow.TheVariants as flow
