@@ -14,7 +14,7 @@ pub fn agrees(callee: &Callee, found: &Subprogram) -> bool
 }
 
 /// Whether a subprogram gives so many values back.
-pub fn gives_so_many(found: &Subprogram, results: usize) -> bool
+fn gives_so_many(found: &Subprogram, results: usize) -> bool
     ensures { result ≡ nat_eq results (spec.results (part_of found.now)) }
 {
     if !found.function {
