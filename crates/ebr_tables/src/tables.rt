@@ -1,10 +1,11 @@
 //! All tables: how many were made, and the living ones, found by name and in order of id.
 
-ghost use Rattle.std.specs.Prelude.{◌≡◌, IfOk, OnOk, OnErr, slice_get};
+ghost use Rattle.std.specs.Prelude.{◌≡◌, ◌<◌, IfOk, OnOk, OnErr, slice_get};
 ghost use Rattle.std.specs.Option.{option_copied};
 ghost use Rattle.ebr_base.specs.Answers.{Answers};
 ghost use Rattle.ebr_base.specs.Keys.{table_named};
-ghost use Rattle.ebr_tables.specs.Tables.{AreTables, no_tables, create_refusal, create_answer, with_table, add_refusal, add_answer, with_column, remove_answer, refusal_of, without_table};
+ghost use Rattle.ebr_base.specs.declared.numbers.TheConstants.{MAX_COUNT};
+ghost use Rattle.ebr_tables.specs.Tables.{AreTables, no_tables, create_refusal, next_id, create_answer, with_table, add_refusal, add_answer, with_column, remove_answer, refusal_of, without_table};
 
 use crate::definition::{is_bad_table, with_key_not_null};
 use crate::keyed::{MAX_COLUMNS, put, wide_refusal, widen};
@@ -63,10 +64,7 @@ impl Tables {
         if let Some(code) = self.create_refusal(&def) {
             return Err(Stop::Raised(code));
         }
-        if self.made as usize >= MAX_COUNT {
-            return Err(Stop::NoMemory);
-        }
-        let id = TableId(self.made + 1);
+        let id = self.next_id()?;
         let alloc = *self.living.allocator();
         let columns = with_key_not_null(alloc, def.columns.as_slice(), def.key.as_slice())?;
         put(&mut self.living, TableDef { id, columns, ..def })?;
@@ -79,6 +77,17 @@ impl Tables {
         ensures { result ≡ create_refusal self.now def.now }
     {
         refusal_of(self.living.contains_key(&def.name), def, self.living.len())
+    }
+
+    /// The id that the next table gets. It finds no memory where 4,294,967,295 tables were made.
+    pub fn next_id(&self) -> Result<TableId, NoMemory>
+        ensures id { IfOk result (λ id. id ≡ next_id self.now) }
+        ensures few { OnOk result (self.now.made < MAX_COUNT) }
+    {
+        if self.made as usize >= MAX_COUNT {
+            return Err(NoMemory);
+        }
+        Ok(TableId(self.made + 1))
     }
 
     /// The code by which `add_column` would refuse a column.
