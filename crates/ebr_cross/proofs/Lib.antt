@@ -1,4 +1,6 @@
 pub mod Applied
+pub mod Changes
+pub mod ObjectPuts
 pub mod TableIds
 pub mod SeenObjects
 pub mod Creations

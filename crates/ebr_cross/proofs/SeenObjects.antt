@@ -42,3 +42,9 @@ gone-alone e kind.Package name h = absurd (h refl)
 gone-alone e kind.PackageBody name h = refl
 gone-alone e kind.Trigger name h = refl
 gone-alone e kind.View name h = refl
+
+-- the record of a drop under such a key
+pub dropped : (c : Lists) (e : EditionNo) (k : ObjectKind) (key : ObjectKey) (name : List ℕ) (r : CatalogueRecord) → key ≡ key_of k name → is_object_of k (visible c e key) ≡ true → r ≡ gone_record e k name → drop_object c e k name ≡ Ok r
+dropped c e k key name r is seen gone =
+    ap (λ q. cond (is_object_of k (visible c e q)) (Ok (gone_record e k name)) (Err (missing_code k))) (sym is)
+    ∙ (ap (λ b. cond b (Ok (gone_record e k name)) (Err (missing_code k))) seen ∙ ap Ok (sym gone))

@@ -1,7 +1,10 @@
 //! The catalogue, and the definitions that change it.
 
-ghost use Rattle.std.specs.Prelude.{◌≡◌, IfOk};
+ghost use Rattle.std.specs.Prelude.{◌≡◌, IfOk, option_map};
 ghost use Rattle.std.specs.Option.{option_copied};
+ghost use Rattle.ebr_base.specs.Answers.{Answers};
+ghost use Rattle.ebr_editions.specs.Held.{deref_object};
+ghost use Rattle.ebr_editions.specs.Objects.{actual_at, keys_of};
 ghost use Rattle.ebr_cross.specs.Catalogue.{first_lists, kept, ForLists, HaveOwnKeys, visible, table_in};
 ghost use Rattle.ebr_cross.specs.Definitions.{outcome, set_edition, Applies};
 ghost use Rattle.ebr_cross.specs.Records.{with_record};
@@ -96,6 +99,44 @@ impl Catalogue {
         }
     }
 
+    /// What `apply` would answer, which changes nothing: the record, or the refusal.
+    pub fn outcome(
+        &self,
+        alloc: Global,
+        e: EditionNo,
+        sessions: &[EditionNo],
+        what: &Definition,
+        text: &Bytes,
+    ) -> Result<CatalogueRecord, Stop>
+        ensures { ForLists self.now (λ c. Answers result (outcome c e sessions.now what.now text.now)) }
+    {
+        match what {
+            Definition::CreateEdition { name, parent } => {
+                self.edition_outcome(alloc, name, parent.as_ref())
+            }
+            Definition::DropEdition { name, cascade } => {
+                self.edition_drop_outcome(sessions, name, *cascade)
+            }
+            Definition::DefaultEdition(name) => self.default_outcome(name),
+            Definition::CreateTable { name, columns, key } => {
+                self.table_outcome(alloc, e, name, columns.as_slice(), key.as_slice())
+            }
+            Definition::AddColumn { table, column, ty } => {
+                self.column_outcome(alloc, table, column, ty)
+            }
+            Definition::DropTable(name) => self.table_drop_outcome(name),
+            Definition::AlterTrigger { name, enabled } => {
+                self.trigger_outcome(alloc, e, name, *enabled)
+            }
+            Definition::DropObject { kind, name } => {
+                self.object_drop_outcome(alloc, e, *kind, name)
+            }
+            Definition::CreateObject { replace, unit } => {
+                self.object_outcome(alloc, e, *replace, unit, text)
+            }
+        }
+    }
+
     /// The living edition of a name, which ALTER SESSION SET EDITION asks for; ORA-38802 where there is none.
     pub fn edition_named(&self, name: &Name) -> Result<EditionNo, Code>
         ensures { result ≡ set_edition self.now.chain.made name.now }
@@ -111,6 +152,21 @@ impl Catalogue {
         ensures { ForLists self.now (λ c. option_copied result ≡ visible c e key.now) }
     {
         self.actuals.visible(&self.chain, e, key)
+    }
+
+    /// The keys that were ever defined, in any edition, in the order of their first definitions.
+    pub fn keys(&self) -> &[ObjectKey]
+        ensures { ForLists self.now (λ c. result.now ≡ keys_of c.entries) }
+    {
+        self.actuals.keys()
+    }
+
+    /// The key at a place among those with a definition or drop in an edition, in the order of their first ones there,
+    /// with the object that is actual there; none where the last one was a drop.
+    pub fn actual_in(&self, e: EditionNo, at: u32) -> Option<(&ObjectKey, Option<&Shared<Object>>)>
+        ensures { ForLists self.now (λ c. option_map deref_object result ≡ actual_at c.entries e at) }
+    {
+        self.actuals.actual_in(e, at)
     }
 
     /// The living table of a name.

@@ -1,15 +1,17 @@
 //! Definitions of editions.
 
-ghost use Rattle.std.specs.Prelude.{◌≡◌, Some, false, IfOk, IfNone};
+ghost use Rattle.std.specs.Prelude.{◌≡◌, Some, Ok, false, IfOk, IfNone};
 ghost use Rattle.std.specs.Option.{option_copied};
 ghost use Rattle.std.specs.List.{list_any};
+ghost use Rattle.ebr_base.specs.Answers.{Answers};
 ghost use Rattle.ebr_editions.specs.Editions.{is_edition, edition_named, drop_answer};
 ghost use Rattle.ebr_cross.specs.Catalogue.{ForLists};
-ghost use Rattle.ebr_cross.specs.Definitions.{Applies, parent_in, has_objects};
+ghost use Rattle.ebr_cross.specs.Definitions.{Applies, recording, has_objects};
 ghost use Rattle.ebr_cross.specs.Definitions as spec;
+ghost use Rattle.ebr_cross.specs.declared.record.CatalogueRecord.TheVariants as made;
 
 use crate::catalogue::Catalogue;
-use crate::record::CatalogueRecord;
+use crate::record::{CatalogueRecord, after};
 use ebr_base::{CloneIn, Code, EditionNo, Name, Stop};
 use std::alloc::Global;
 
@@ -23,27 +25,32 @@ impl Catalogue {
     ) -> Result<CatalogueRecord, Stop>
         ensures { Applies self.old self.new (λ c. spec.create_edition c name.now (option_copied parent.entry)) result }
     {
-        let below = self.parent_named(parent);
         let copy = name.clone_in(alloc)?;
-        self.chain.create(name.clone_in(alloc)?, parent)?;
-        Ok(CatalogueRecord::Edition {
-            name: copy,
-            parent: below,
-        })
-    }
-
-    /// The edition below which CREATE EDITION makes one.
-    fn parent_named(&self, parent: Option<&Name>) -> EditionNo
-        ensures { ForLists self.now (λ c. result ≡ parent_in c (option_copied parent.entry)) }
-    {
-        match parent {
-            Some(name) => self.chain.number(name).unwrap_or(EditionNo(1)),
-            None => self.chain.leaf(),
+        match self.edition_outcome(alloc, name, parent) {
+            Ok(record) => after(self.chain.create(copy, parent), record),
+            Err(stop) => Err(stop),
         }
     }
 
-    /// DROP EDITION. Refusals: those of `Chain::drop_leaf`, EBR-0033 where it is the default or a session's edition,
-    /// ORA-38811 where an object is actual in it and CASCADE isn't there.
+    /// What CREATE EDITION answers.
+    pub(crate) fn edition_outcome(
+        &self,
+        alloc: Global,
+        name: &Name,
+        parent: Option<&Name>,
+    ) -> Result<CatalogueRecord, Stop>
+        ensures { ForLists self.now (λ c. Answers result (spec.create_edition c name.now (option_copied parent.entry))) }
+    {
+        match self.chain.place_for(name, parent) {
+            Ok(parent) => Ok(CatalogueRecord::Edition {
+                name: name.clone_in(alloc)?,
+                parent,
+            }),
+            Err(code) => Err(Stop::Raised(code)),
+        }
+    }
+
+    /// DROP EDITION. Refusals: those of `leaf_to_drop`.
     pub(crate) fn drop_edition(
         &mut self,
         sessions: &[EditionNo],
@@ -52,16 +59,47 @@ impl Catalogue {
     ) -> Result<CatalogueRecord, Stop>
         ensures { Applies self.old self.new (λ c. spec.drop_edition c sessions.now name.now cascade) result }
     {
-        let e = match self.droppable(name) {
-            Ok(e) => e,
-            Err(code) => return Err(Stop::Raised(code)),
-        };
-        if let Some(code) = self.drop_refusal(sessions, cascade, e) {
-            return Err(Stop::Raised(code));
+        match self.leaf_to_drop(sessions, name, cascade) {
+            Ok(e) => {
+                self.chain.drop_leaf(name).unwrap();
+                Ok(CatalogueRecord::EditionGone(e))
+            }
+            Err(code) => Err(Stop::Raised(code)),
         }
-        match self.chain.drop_leaf(name) {
+    }
+
+    /// What DROP EDITION answers.
+    pub(crate) fn edition_drop_outcome(
+        &self,
+        sessions: &[EditionNo],
+        name: &Name,
+        cascade: bool,
+    ) -> Result<CatalogueRecord, Stop>
+        ensures { ForLists self.now (λ c. Answers result (spec.drop_edition c sessions.now name.now cascade)) }
+    {
+        match self.leaf_to_drop(sessions, name, cascade) {
             Ok(e) => Ok(CatalogueRecord::EditionGone(e)),
             Err(code) => Err(Stop::Raised(code)),
+        }
+    }
+
+    /// The edition that DROP EDITION drops. Refusals: those of `Chain::drop_leaf`, EBR-0033 where it is the default or a
+    /// session's edition, ORA-38811 where an object is actual in it and CASCADE isn't there.
+    fn leaf_to_drop(
+        &self,
+        sessions: &[EditionNo],
+        name: &Name,
+        cascade: bool,
+    ) -> Result<EditionNo, Code>
+        ensures answer { ForLists self.now (λ c. recording made.EditionGone result ≡ spec.drop_edition c sessions.now name.now cascade) }
+        ensures drops { IfOk result (λ e. drop_answer self.now.chain.made name.now ≡ Ok e) }
+        ensures named { IfOk result (λ e. edition_named self.now.chain.made name.now ≡ Some e) }
+        ensures spared { IfOk result (λ e. is_edition e self.now.chain.default ≡ false) }
+    {
+        let e = self.droppable(name)?;
+        match self.drop_refusal(sessions, cascade, e) {
+            Some(code) => Err(code),
+            None => Ok(e),
         }
     }
 
@@ -106,6 +144,16 @@ impl Catalogue {
             }
         }
         false
+    }
+
+    /// What ALTER DATABASE DEFAULT EDITION answers.
+    pub(crate) fn default_outcome(&self, name: &Name) -> Result<CatalogueRecord, Stop>
+        ensures { ForLists self.now (λ c. Answers result (spec.default_edition c name.now)) }
+    {
+        match self.edition_named(name) {
+            Ok(e) => Ok(CatalogueRecord::Default(e)),
+            Err(code) => Err(Stop::Raised(code)),
+        }
     }
 
     /// ALTER DATABASE DEFAULT EDITION. Refusal: ORA-38802 where no living edition has the name.

@@ -1,13 +1,14 @@
 //! Definitions of objects.
 
 ghost use Rattle.std.specs.Prelude.{◌≡◌, Some, IfOk};
+ghost use Rattle.ebr_base.specs.Answers.{Answers};
 ghost use Rattle.ebr_cross.specs.Catalogue.{ForLists, visible};
 ghost use Rattle.ebr_cross.specs.Definitions.{Applies};
 ghost use Rattle.ebr_cross.specs.Definitions as spec;
 ghost use Rattle.ebr_cross.specs.Kinds as kinds_spec;
 ghost use Rattle.ebr_ast.specs.declared.definition.ObjectKind.TheVariants as kind;
 ghost use Rattle.ebr_cross.specs.declared.record.CatalogueRecord.TheVariants as made;
-ghost use Rattle.ebr_cross.specs.inside.Steps.{hidden};
+ghost use Rattle.ebr_cross.specs.inside.Steps.{FindsKey, MakesObject, hidden};
 
 use crate::catalogue::Catalogue;
 use crate::kinds::{is_of_kind, key_of, kind_of, name_of};
@@ -17,8 +18,7 @@ use ebr_base::{Bytes, CloneIn, Code, EditionNo, Name, NoMemory, ObjectKey, Share
 use std::alloc::Global;
 
 impl Catalogue {
-    /// CREATE of a unit or an editioning view. Refusals: those of `creation_refusal`, and EBR-0034 where the edition would see
-    /// more than 4,096 objects.
+    /// CREATE of a unit or an editioning view. Refusals: those of `new_object`.
     pub(crate) fn create_object(
         &mut self,
         alloc: Global,
@@ -29,17 +29,52 @@ impl Catalogue {
     ) -> Result<CatalogueRecord, Stop>
         ensures { Applies self.old self.new (λ c. spec.create_object c e replace unit.now text.now) result }
     {
+        match self.new_object(alloc, e, replace, unit, text) {
+            Ok(object) => self.put_object(alloc, object),
+            Err(stop) => Err(stop),
+        }
+    }
+
+    /// What CREATE of a unit or an editioning view answers.
+    pub(crate) fn object_outcome(
+        &self,
+        alloc: Global,
+        e: EditionNo,
+        replace: bool,
+        unit: &UnitTree,
+        text: &Bytes,
+    ) -> Result<CatalogueRecord, Stop>
+        ensures { ForLists self.now (λ c. Answers result (spec.create_object c e replace unit.now text.now)) }
+    {
+        match self.new_object(alloc, e, replace, unit, text) {
+            Ok(object) => Ok(CatalogueRecord::Object(object)),
+            Err(stop) => Err(stop),
+        }
+    }
+
+    /// The object that a CREATE makes. Refusals: those of `creation_refusal`, and EBR-0034 where the edition would see more
+    /// than 4,096 objects.
+    fn new_object(
+        &self,
+        alloc: Global,
+        e: EditionNo,
+        replace: bool,
+        unit: &UnitTree,
+        text: &Bytes,
+    ) -> Result<Shared<Object>, Stop>
+        ensures { ForLists self.now (λ c. MakesObject c (spec.create_object c e replace unit.now text.now) result) }
+    {
         match (kind_of(unit), name_of(unit)) {
             (Some(kind), Some(name)) => {
-                self.create_named(alloc, e, replace, kind, name, unit, text)
+                self.new_named(alloc, e, replace, kind, name, unit, text)
             }
             _ => Err(Stop::Raised(Code::Ora(900))),
         }
     }
 
-    /// CREATE of an object of a kind, under a name.
-    fn create_named(
-        &mut self,
+    /// The object of a kind that a CREATE makes under a name.
+    fn new_named(
+        &self,
         alloc: Global,
         e: EditionNo,
         replace: bool,
@@ -47,18 +82,17 @@ impl Catalogue {
         name: &Name,
         unit: &UnitTree,
         text: &Bytes,
-    ) -> Result<CatalogueRecord, Stop>
-        ensures { Applies self.old self.new (λ c. spec.object_named c e replace unit.now text.now (Some kind) (Some name.now)) result }
+    ) -> Result<Shared<Object>, Stop>
+        ensures { ForLists self.now (λ c. MakesObject c (spec.object_named c e replace unit.now text.now (Some kind) (Some name.now)) result) }
     {
         let key = key_of(alloc, kind, name)?;
         if let Some(code) = self.creation_refusal(alloc, e, replace, kind, &key, unit)? {
             return Err(Stop::Raised(code));
         }
-        self.make_object(alloc, e, key, text, unit, is_enabled(unit))
+        self.allowed_object(alloc, e, &key, text, unit, is_enabled(unit))
     }
 
-    /// ALTER TRIGGER. Refusals: ORA-04080 where the edition sees no such trigger, EBR-0034 where it would see more than 4,096
-    /// objects.
+    /// ALTER TRIGGER. Refusals: those of `altered_trigger`.
     pub(crate) fn alter_trigger(
         &mut self,
         alloc: Global,
@@ -68,28 +102,72 @@ impl Catalogue {
     ) -> Result<CatalogueRecord, Stop>
         ensures { Applies self.old self.new (λ c. spec.alter_trigger c e name.now enabled) result }
     {
+        match self.altered_trigger(alloc, e, name, enabled) {
+            Ok(object) => self.put_object(alloc, object),
+            Err(stop) => Err(stop),
+        }
+    }
+
+    /// What ALTER TRIGGER answers.
+    pub(crate) fn trigger_outcome(
+        &self,
+        alloc: Global,
+        e: EditionNo,
+        name: &Name,
+        enabled: bool,
+    ) -> Result<CatalogueRecord, Stop>
+        ensures { ForLists self.now (λ c. Answers result (spec.alter_trigger c e name.now enabled)) }
+    {
+        match self.altered_trigger(alloc, e, name, enabled) {
+            Ok(object) => Ok(CatalogueRecord::Object(object)),
+            Err(stop) => Err(stop),
+        }
+    }
+
+    /// The trigger that ALTER TRIGGER makes. Refusals: ORA-04080 where the edition sees no such trigger, EBR-0034 where it
+    /// would see more than 4,096 objects.
+    fn altered_trigger(
+        &self,
+        alloc: Global,
+        e: EditionNo,
+        name: &Name,
+        enabled: bool,
+    ) -> Result<Shared<Object>, Stop>
+        ensures { ForLists self.now (λ c. MakesObject c (spec.alter_trigger c e name.now enabled) result) }
+    {
         let key = key_of(alloc, ObjectKind::Trigger, name)?;
         let Some(trigger) = self.visible(e, &key) else {
             return Err(Stop::Raised(Code::Ora(4080)));
         };
-        let trigger = trigger.clone_in(alloc)?;
         let found = trigger.get();
-        self.make_object(alloc, e, key, &found.text, &found.tree, enabled)
+        self.allowed_object(alloc, e, &key, &found.text, &found.tree, enabled)
     }
 
-    /// Makes an object actual in an edition. Refusal: EBR-0034 where the edition would see more than 4,096 objects.
-    fn make_object(
-        &mut self,
+    /// An object as it is made now. Refusal: EBR-0034 where the edition would see more than 4,096 objects.
+    fn allowed_object(
+        &self,
         alloc: Global,
         e: EditionNo,
-        key: ObjectKey,
+        key: &ObjectKey,
         text: &Bytes,
         tree: &UnitTree,
         enabled: bool,
-    ) -> Result<CatalogueRecord, Stop>
-        ensures { Applies self.old self.new (λ c. spec.put_object c e key (spec.object_of c e key text.now tree.now enabled)) result }
+    ) -> Result<Shared<Object>, Stop>
+        ensures { ForLists self.now (λ c. MakesObject c (spec.put_object c e key.now (spec.object_of c e key.now text.now tree.now enabled)) result) }
     {
-        let object = self.object_of(alloc, e, &key, text, tree, enabled)?;
+        let object = self.object_of(alloc, e, key, text, tree, enabled)?;
+        match self.actuals.put_answer(&self.chain, e, key, &object) {
+            Ok(_) => Ok(object),
+            Err(code) => Err(Stop::Raised(code)),
+        }
+    }
+
+    /// Makes an object actual in the edition of its stamp.
+    fn put_object(&mut self, alloc: Global, object: Shared<Object>) -> Result<CatalogueRecord, Stop>
+        ensures { Applies self.old self.new (λ c. spec.put_object c object.stamp.edition object.key object) result }
+    {
+        let e = object.get().stamp.edition;
+        let key = object.get().key.clone_in(alloc)?;
         let shared = object.clone_in(alloc)?;
         match self.actuals.put(&self.chain, e, key, shared) {
             Ok(_) => Ok(CatalogueRecord::Object(object)),
@@ -122,8 +200,7 @@ impl Catalogue {
         Ok(Shared::new(alloc, object)?)
     }
 
-    /// DROP of an object. Refusal where the edition sees none of that kind and name: ORA-04080 for a trigger, ORA-00942 for a
-    /// view, ORA-04043 for every other. DROP PACKAGE takes the body along, where it is visible.
+    /// DROP of an object. Refusals: those of `key_to_drop`. DROP PACKAGE takes the body along, where it is visible.
     pub(crate) fn drop_object(
         &mut self,
         alloc: Global,
@@ -133,10 +210,59 @@ impl Catalogue {
     ) -> Result<CatalogueRecord, Stop>
         ensures { Applies self.old self.new (λ c. spec.drop_object c e kind name.now) result }
     {
+        match self.key_to_drop(alloc, e, kind, name) {
+            Ok(key) => self.hide(alloc, e, kind, key, name),
+            Err(stop) => Err(stop),
+        }
+    }
+
+    /// What DROP of an object answers.
+    pub(crate) fn object_drop_outcome(
+        &self,
+        alloc: Global,
+        e: EditionNo,
+        kind: ObjectKind,
+        name: &Name,
+    ) -> Result<CatalogueRecord, Stop>
+        ensures { ForLists self.now (λ c. Answers result (spec.drop_object c e kind name.now)) }
+    {
+        match self.key_to_drop(alloc, e, kind, name) {
+            Ok(key) => Ok(gone_record(alloc, e, kind, key, name)?),
+            Err(stop) => Err(stop),
+        }
+    }
+
+    /// The key of the object that a DROP drops. Refusal where the edition sees none of that kind and name: ORA-04080 for a
+    /// trigger, ORA-00942 for a view, ORA-04043 for every other.
+    fn key_to_drop(
+        &self,
+        alloc: Global,
+        e: EditionNo,
+        kind: ObjectKind,
+        name: &Name,
+    ) -> Result<ObjectKey, Stop>
+        ensures answer { ForLists self.now (λ c. FindsKey c e kind (spec.drop_object c e kind name.now) result) }
+        ensures key { IfOk result (λ key. key ≡ kinds_spec.key_of kind name.now) }
+    {
         let key = key_of(alloc, kind, name)?;
         if !self.has_object(e, &key, kind) {
             return Err(Stop::Raised(missing_code(kind)));
         }
+        Ok(key)
+    }
+
+    /// Hides an object that is visible.
+    fn hide(
+        &mut self,
+        alloc: Global,
+        e: EditionNo,
+        kind: ObjectKind,
+        key: ObjectKey,
+        name: &Name,
+    ) -> Result<CatalogueRecord, Stop>
+        requires { key ≡ kinds_spec.key_of kind name.now }
+        ensures { Applies self.old self.new (λ c. hidden c e key (spec.gone_record e kind name.now)) result }
+    {
         match kind {
             ObjectKind::Package => self.hide_package(alloc, e, &key, name),
             _ => self.hide_object(e, key),
@@ -183,6 +309,26 @@ impl Catalogue {
             Some(object) => is_of_kind(kind, &object.get().tree),
             None => false,
         }
+    }
+}
+
+/// The record of the drop of an object.
+fn gone_record(
+    alloc: Global,
+    e: EditionNo,
+    kind: ObjectKind,
+    key: ObjectKey,
+    name: &Name,
+) -> Result<CatalogueRecord, NoMemory>
+    requires { key ≡ kinds_spec.key_of kind name.now }
+    ensures { IfOk result (λ gone. gone ≡ spec.gone_record e kind name.now) }
+{
+    match kind {
+        ObjectKind::Package => Ok(CatalogueRecord::PackageGone {
+            edition: e,
+            name: name.clone_in(alloc)?,
+        }),
+        _ => Ok(CatalogueRecord::ObjectGone { edition: e, key }),
     }
 }
 

@@ -1,17 +1,18 @@
 //! Definitions of tables.
 
 ghost use Rattle.std.specs.Prelude.{◌≡◌, Some, IfOk, IfSome};
+ghost use Rattle.ebr_base.specs.Answers.{Answers};
 ghost use Rattle.ebr_tables.specs.Tables.{kept_as};
 ghost use Rattle.ebr_cross.specs.Catalogue.{ForLists, table_in};
 ghost use Rattle.ebr_columns.specs.Columns as columns_spec;
 ghost use Rattle.ebr_cross.specs.Definitions.{Applies};
 ghost use Rattle.ebr_cross.specs.Definitions as spec;
 ghost use Rattle.ebr_cross.specs.Records.{table_name};
-ghost use Rattle.ebr_cross.specs.inside.Steps.{first_table_refusal, Creates, made_table, id_in};
+ghost use Rattle.ebr_cross.specs.inside.Steps.{first_table_refusal, Creates, MakesColumn, made_table, put_column, id_in};
 
 use crate::catalogue::Catalogue;
 use crate::kinds::unit_key;
-use crate::record::CatalogueRecord;
+use crate::record::{CatalogueRecord, after};
 use ebr_ast::{ColumnTree, DeclaredType};
 use ebr_base::{
     CloneIn, Code, ColType, Column, EditionNo, Name, NoMemory, Stop, TableDef, TableId,
@@ -82,22 +83,45 @@ impl Catalogue {
         Ok(self.table(name).is_some() || self.visible(e, &key).is_some())
     }
 
-    /// Makes a table, whose name no object has.
-    fn add_table(&mut self, alloc: Global, def: TableDef) -> Result<CatalogueRecord, Stop>
-        ensures { Applies self.old self.new (λ c. made_table c def) result }
+    /// What CREATE TABLE answers.
+    pub(crate) fn table_outcome(
+        &self,
+        alloc: Global,
+        e: EditionNo,
+        name: &Name,
+        columns: &[ColumnTree],
+        key: &[Name],
+    ) -> Result<CatalogueRecord, Stop>
+        ensures { ForLists self.now (λ c. Answers result (spec.create_table c e name.now columns.now key.now)) }
     {
-        let mut kept = kept_copy(alloc, &def)?;
-        match self.tables.create(def) {
-            Ok(id) => {
-                kept.id = id;
-                Ok(CatalogueRecord::Table(kept))
-            }
+        match self.table_of(alloc, e, name, columns, key) {
+            Ok(def) => self.table_record(alloc, &def),
             Err(stop) => Err(stop),
         }
     }
 
-    /// ALTER TABLE ADD. Refusals: ORA-00942 where no table has the name, EBR-0029 of a bad column, EBR-0036 where the table
-    /// has 64 columns.
+    /// Makes a table, whose name no object has.
+    fn add_table(&mut self, alloc: Global, def: TableDef) -> Result<CatalogueRecord, Stop>
+        ensures { Applies self.old self.new (λ c. made_table c def) result }
+    {
+        match self.table_record(alloc, &def) {
+            Ok(record) => after(self.tables.create(def), record),
+            Err(stop) => Err(stop),
+        }
+    }
+
+    /// What making a table answers, whose name no object has.
+    fn table_record(&self, alloc: Global, def: &TableDef) -> Result<CatalogueRecord, Stop>
+        ensures { ForLists self.now (λ c. Answers result (made_table c def.now)) }
+    {
+        if let Some(code) = self.tables.create_refusal(def) {
+            return Err(Stop::Raised(code));
+        }
+        let id = self.tables.next_id()?;
+        Ok(CatalogueRecord::Table(kept_copy(alloc, id, def)?))
+    }
+
+    /// ALTER TABLE ADD. Refusals: those of `column_for`.
     pub(crate) fn add_column(
         &mut self,
         alloc: Global,
@@ -107,12 +131,51 @@ impl Catalogue {
     ) -> Result<CatalogueRecord, Stop>
         ensures { Applies self.old self.new (λ c. spec.add_column c table.now name.now ty.now) result }
     {
+        match self.column_for(alloc, table, name, ty) {
+            Ok((id, column)) => self.widen(alloc, table, id, column),
+            Err(stop) => Err(stop),
+        }
+    }
+
+    /// What ALTER TABLE ADD answers.
+    pub(crate) fn column_outcome(
+        &self,
+        alloc: Global,
+        table: &Name,
+        name: &Name,
+        ty: &DeclaredType,
+    ) -> Result<CatalogueRecord, Stop>
+        ensures { ForLists self.now (λ c. Answers result (spec.add_column c table.now name.now ty.now)) }
+    {
+        match self.column_for(alloc, table, name, ty) {
+            Ok((table, column)) => Ok(CatalogueRecord::Column { table, column }),
+            Err(stop) => Err(stop),
+        }
+    }
+
+    /// The column that ALTER TABLE ADD adds, and its table. Refusals: ORA-00942 where no table has the name, EBR-0029 of a bad
+    /// column, EBR-0036 where the table has 64 columns.
+    fn column_for(
+        &self,
+        alloc: Global,
+        table: &Name,
+        name: &Name,
+        ty: &DeclaredType,
+    ) -> Result<(TableId, Column), Stop>
+        ensures made { ForLists self.now (λ c. MakesColumn (table_in c table.now) (spec.add_column c table.now name.now ty.now) result) }
+        ensures there { IfOk result (λ p. id_in self.now table.now ≡ Some p.0) }
+        ensures named { IfOk result (λ p. table_name self.now.tables p.0 ≡ table.now) }
+    {
         let Some(id) = self.table_id(table) else {
             return Err(Stop::Raised(Code::Ora(942)));
         };
-        match column_type(ty) {
-            Some(ty) => self.widen(alloc, table, id, name, ty),
-            None => Err(Stop::Raised(Code::Ebr(29))),
+        let Some(ty) = column_type(ty) else {
+            return Err(Stop::Raised(Code::Ebr(29)));
+        };
+        let column = new_column(alloc, name, ty)?;
+        match self.tables.add_refusal(table, &column) {
+            Some(code) => Err(Stop::Raised(code)),
+            None => Ok((id, column)),
         }
     }
 
@@ -133,14 +196,12 @@ impl Catalogue {
         alloc: Global,
         table: &Name,
         id: TableId,
-        name: &Name,
-        ty: ColType,
+        column: Column,
     ) -> Result<CatalogueRecord, Stop>
         requires there { id_in self.old table.now ≡ Some id }
         requires named { table_name self.old.tables id ≡ table.now }
-        ensures { Applies self.old self.new (λ c. spec.added_column (table_in c table.now) name.now (Some ty)) result }
+        ensures { Applies self.old self.new (λ c. put_column (table_in c table.now) column) result }
     {
-        let column = new_column(alloc, name, ty)?;
         let copy = column.clone_in(alloc)?;
         match self.tables.add_column(table, column) {
             Ok(()) => Ok(CatalogueRecord::Column {
@@ -148,6 +209,16 @@ impl Catalogue {
                 column: copy,
             }),
             Err(stop) => Err(stop),
+        }
+    }
+
+    /// What DROP TABLE answers.
+    pub(crate) fn table_drop_outcome(&self, name: &Name) -> Result<CatalogueRecord, Stop>
+        ensures { ForLists self.now (λ c. Answers result (spec.drop_table c name.now)) }
+    {
+        match self.table_id(name) {
+            Some(id) => Ok(CatalogueRecord::TableGone(id)),
+            None => Err(Stop::Raised(Code::Ora(942))),
         }
     }
 
@@ -173,14 +244,14 @@ impl Catalogue {
     }
 }
 
-/// A copy of the definition as it is kept, before it has its id.
-fn kept_copy(alloc: Global, def: &TableDef) -> Result<TableDef, NoMemory>
-    ensures { IfOk result (λ copy. copy ≡ kept_as def.now.id def.now) }
+/// A copy of the definition as it is kept, with its id.
+fn kept_copy(alloc: Global, id: TableId, def: &TableDef) -> Result<TableDef, NoMemory>
+    ensures { IfOk result (λ copy. copy ≡ kept_as id def.now) }
 {
     let columns = with_key_not_null(alloc, def.columns.as_slice(), def.key.as_slice())?;
     let key = def.key.clone_in(alloc)?;
     Ok(TableDef {
-        id: def.id,
+        id,
         name: def.name.clone_in(alloc)?,
         columns,
         key,

@@ -1,8 +1,8 @@
-use Rattle.ebr_cross.specs.Definitions.{new_column}
+use Rattle.std.proofs.Common.{refl}
 use Rattle.ebr_cross.proofs.TableIds.{column-added}
 use Rattle.ebr_cross.proofs.catalogue.Catalogue.widen.Goals as goal
 
 pub returns-in-Ok : goal.returns-in-Ok
 returns-in-Ok c = λ lists h.
-    column-added c.args.self.now lists c.args.table.now c.args.id c.in_ok-column.column c.in_ok-copy.copy (new_column c.args.name.now c.args.ty) c.add_column.new.self h c.requires.there c.requires.named
-    c.in_ok-column.ensures c.in_ok-copy.ensures c.in-Ok.ensures.answer c.in-Ok.ensures.tables
+    column-added c.args.self.now lists c.args.table.now c.args.id c.args.column c.in_ok-copy.copy c.args.column c.add_column.new.self h c.requires.there c.requires.named
+    refl c.in_ok-copy.ensures c.in-Ok.ensures.answer c.in-Ok.ensures.tables
