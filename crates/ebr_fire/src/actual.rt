@@ -1,10 +1,8 @@
 //! The triggers that are actual in editions further along the line.
 
-ghost use Rattle.std.specs.Prelude.{◌≡◌, ◌++◌, OnOk, option_map};
+ghost use Rattle.std.specs.Prelude.{◌≡◌, ◌++◌, OnOk};
 ghost use Rattle.std.specs.Option.{option_copied};
 ghost use Rattle.ebr_editions.specs.Editions.{line_from};
-ghost use Rattle.ebr_editions.specs.Held.{deref_object};
-ghost use Rattle.ebr_editions.specs.Objects.{actual_at};
 ghost use Rattle.ebr_cross.specs.Catalogue.{ForLists};
 ghost use Rattle.ebr_fire.specs.Fires.{group, actual_among, ancestors, descendants};
 ghost use Rattle.ebr_fire.specs.inside.Groups.{with_key, with_edition, with_editions};
@@ -104,19 +102,12 @@ fn add_edition(
     ensures { ForLists c.now (λ lists. OnOk result (triggers.new.keys ≡ with_edition lists kind on.now triggers.old.keys d)) }
 {
     for at in 0..u32::MAX {
-        let Some((key, object)) = entry(c, d, at) else {
+        let Some((key, object)) = c.actual_in(d, at) else {
             return Ok(());
         };
         add_actual(alloc, kind, on, triggers, key, object)?;
     }
     Err(NoMemory)
-}
-
-/// The key at a place among those with a definition or drop in an edition, with the object that is actual there.
-fn entry(c: &Catalogue, d: EditionNo, at: u32) -> Option<(&ObjectKey, Option<&Shared<Object>>)>
-    ensures { ForLists c.now (λ lists. option_map deref_object result ≡ actual_at lists.entries d at) }
-{
-    c.actuals.actual_in(d, at)
 }
 
 fn add_actual(

@@ -1,7 +1,6 @@
 //! The triggers that an edition sees.
 
 ghost use Rattle.std.specs.Prelude.{◌≡◌, ◌++◌, OnOk};
-ghost use Rattle.ebr_editions.specs.Objects.{keys_of};
 ghost use Rattle.ebr_cross.specs.Catalogue.{ForLists, visible};
 ghost use Rattle.ebr_fire.specs.Fires.{group, seen_triggers};
 ghost use Rattle.ebr_fire.specs.inside.Groups.{with_key, with_seen};
@@ -25,15 +24,8 @@ pub fn add_seen(
     ensures { ForLists c.now (λ lists. OnOk result (found.new ≡ found.old ++ group e kind on.now (seen_triggers lists e))) }
 {
     let mut triggers = BTreeSet::new(alloc);
-    add_under(alloc, c, e, kind, on, keys(c), &mut triggers)?;
+    add_under(alloc, c, e, kind, on, c.keys(), &mut triggers)?;
     add_firings(kind.crossedition, e, triggers, found)
-}
-
-/// The keys that were ever defined, in any edition.
-fn keys(c: &Catalogue) -> &[ObjectKey]
-    ensures { ForLists c.now (λ lists. result.now ≡ keys_of lists.entries) }
-{
-    c.actuals.keys()
 }
 
 /// Adds what an edition sees under keys.
