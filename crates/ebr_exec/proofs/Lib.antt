@@ -5,5 +5,6 @@ mod BehindChecks
 mod Room
 mod Counts
 mod Ends
+mod Growing
 mod Firings
 mod Examples

@@ -60,7 +60,7 @@ module _ (t : TxId) (f : Transaction → Transaction) (more : List Change) (name
       by false is b c s rest = ap (λ q. cond q (marked m x ∷ changed t f xs) (x ∷ changed t (marked m) (changed t f xs))) is ∙ ap (λ ys. x ∷ ys) (rest b c s)
 
   -- it has no fewer changes
-  no_fewer : (live : List Transaction) → length (own_in t live).changes ≤ length (own_in t (changed t f live)).changes
+  pub no_fewer : (live : List Transaction) → length (own_in t live).changes ≤ length (own_in t (changed t f live)).changes
   no_fewer [] = omega arith
   no_fewer (x ∷ xs) = by (is_named t x) refl (no_fewer xs)
     where
@@ -75,7 +75,7 @@ module _ (t : TxId) (f : Transaction → Transaction) (more : List Change) (name
 -- ---- the locks
 
 module _ (t : TxId) where
-  abbrev locked_by : List RowId → List Lock
+  abbrev pub locked_by : List RowId → List Lock
   locked_by rows = map (λ row. (row, t)) rows
 
   all_released : (rows : List RowId) → released t 0 (locked_by rows) ≡ []
@@ -95,7 +95,7 @@ module _ (t : TxId) where
       by true is rest = ap (λ b. cond b (l ∷ released t (length (locks_of t ls)) (ls ++ locked_by rows)) (l ∷ released t (suc (length (locks_of t ls))) (ls ++ locked_by rows))) is ∙ ap (λ x. l ∷ x) rest
       by false is rest = passed (length (locks_of t ls)) is ∙ ap (λ x. l ∷ x) rest
 
-  no_fewer_locks : (rows : List RowId) (ls : List Lock) → length (locks_of t ls) ≤ length (locks_of t (ls ++ locked_by rows))
+  pub no_fewer_locks : (rows : List RowId) (ls : List Lock) → length (locks_of t ls) ≤ length (locks_of t (ls ++ locked_by rows))
   no_fewer_locks rows ls =
       let so : length (locks_of t (ls ++ locked_by rows)) ≡ length (locks_of t ls) + length (locks_of t (locked_by rows)) =
       ap (λ (xs : List Lock). length xs) (filter-append (is_of t) ls (locked_by rows)) ∙ length-append (locks_of t ls) (locks_of t (locked_by rows)) in
@@ -193,7 +193,7 @@ pub still_mark_of : (before now : Data) (t : TxId) (m : TxMark) → m ≡ mark_o
 still_mark_of before now t m is h o = subst (IsMarkOf now t) (sym is) (still_mark before t now o (subst (IsMarkOf before t) is h))
 
 -- the same transactions are live
-named_alike : (t : TxId) (f : Transaction → Transaction) → ((x : Transaction) → (f x).id ≡ x.id) → (live : List Transaction) → names_of (changed t f live) ≡ names_of live
+pub named_alike : (t : TxId) (f : Transaction → Transaction) → ((x : Transaction) → (f x).id ≡ x.id) → (live : List Transaction) → names_of (changed t f live) ≡ names_of live
 named_alike t f named [] = refl
 named_alike t f named (x ∷ xs) = by (is_named t x) (named_alike t f named xs)
   where

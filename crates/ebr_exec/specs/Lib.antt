@@ -1,5 +1,6 @@
 pub mod Places
 pub mod Narrow
 pub mod Statements
+pub mod Grown
 pub mod Shows
 pub mod inside

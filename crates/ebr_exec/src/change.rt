@@ -7,6 +7,7 @@ ghost use Rattle.ebr_tx.specs.Calls.{after_begin};
 ghost use Rattle.ebr_tx.specs.Data.{IsLive, own};
 ghost use Rattle.ebr_dml.specs.Steps.{AreKnown, CanStep, started};
 ghost use Rattle.ebr_database.specs.Storable.{AllStorable};
+ghost use Rattle.ebr_exec.specs.Grown.{Grows};
 ghost use Rattle.ebr_exec.specs.Narrow.{AreNarrow, IsNarrow};
 ghost use Rattle.ebr_exec.specs.Shows.{Runs};
 ghost use Rattle.ebr_exec.specs.Statements as spec;
@@ -39,6 +40,7 @@ pub fn run_change(
     requires storable { AllStorable tx.old.contents }
     ensures answer { Runs result tx.old.contents tx.new.contents (on (spec.change_ran fires (after_begin tx.old.contents t)) (started (after_begin tx.old.contents t) t v.now s.now binds.now)) }
     ensures storable { AllStorable tx.new.contents }
+    ensures grows { Grows tx.old.contents t tx.new.contents }
 {
     let mark = tx.mark(t)?;
     tx.begin(t);

@@ -9,6 +9,7 @@ ghost use Rattle.ebr_tx.specs.Calls.{after_begin};
 ghost use Rattle.ebr_tx.specs.Data.{IsLive, own};
 ghost use Rattle.ebr_query.specs.Queries as queries;
 ghost use Rattle.ebr_database.specs.Storable.{AllStorable};
+ghost use Rattle.ebr_exec.specs.Grown.{Grows};
 ghost use Rattle.ebr_exec.specs.Places.{own_place};
 ghost use Rattle.ebr_exec.specs.Shows.{Runs};
 ghost use Rattle.ebr_exec.specs.Statements as spec;
@@ -37,6 +38,7 @@ pub fn run_query(
     requires checked { query_check v.now (binds_alone binds.now) q.now ≡ right }
     requires storable { AllStorable tx.old.contents }
     ensures storable { AllStorable tx.new.contents }
+    ensures grows { Grows tx.old.contents t tx.new.contents }
     ensures answer { Runs result tx.old.contents tx.new.contents (spec.query_ran (own_place v.now.edition t) room (queries.Query q.now (after_begin tx.old.contents t) t v.now binds.now)) }
 {
     let mark = tx.mark(t)?;

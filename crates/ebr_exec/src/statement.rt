@@ -12,6 +12,7 @@ ghost use Rattle.ebr_fire.specs.Fires.{Fires};
 ghost use Rattle.ebr_dml.specs.Steps.{AreKnown, started};
 ghost use Rattle.ebr_database.specs.Shows.{Tells, base_of};
 ghost use Rattle.ebr_database.specs.Storable.{AllStorable};
+ghost use Rattle.ebr_exec.specs.Grown.{Grows};
 ghost use Rattle.ebr_exec.specs.Narrow.{AreNarrow};
 ghost use Rattle.ebr_exec.specs.Places.{names_of, own_place, firings_on, target};
 ghost use Rattle.ebr_exec.specs.Shows.{Runs};
@@ -57,6 +58,7 @@ pub fn run_seen<K: Keep, B: Drop>(
         (base_of world.new.tx.contents (K.told world.new.keeper)) (K.told world.old.keeper) (K.told world.new.keeper) result }
     ensures storable { AllStorable world.new.tx.contents }
     ensures catalogue { world.new.catalogue ≡ world.old.catalogue }
+    ensures grows { Grows world.old.tx.contents t world.new.tx.contents }
 {
     let ran = statement(alloc, &world.catalogue, &mut world.tx, t, v, s, binds, room);
     match ran {
@@ -94,55 +96,20 @@ fn statement(
     requires narrow { AreNarrow v.now.tables }
     requires storable { AllStorable tx.old.contents }
     ensures storable { AllStorable tx.new.contents }
+    ensures grows { Grows tx.old.contents t tx.new.contents }
     ensures answer { ForLists c.now (λ lists. Runs result tx.old.contents tx.new.contents (spec.statement_ran v.now (own_place v.now.edition t) (spec.is_some_firing (firings_on (names_of lists) (own_place v.now.edition t) (target s.now))) s.now binds.now room tx.old.contents)) }
 {
     check_sql(alloc, v, s, binds)?;
     match s {
         SqlTree::Query(query) => run_query(alloc, tx, t, v, query.get(), binds, room),
-        SqlTree::Insert(insert) => {
-            change(
-                alloc,
-                c,
-                tx,
-                t,
-                v,
-                s,
-                binds,
-                &insert.get().table,
-                Op::Insert,
-            )
-        }
-        SqlTree::Update(update) => {
-            change(
-                alloc,
-                c,
-                tx,
-                t,
-                v,
-                s,
-                binds,
-                &update.get().table,
-                Op::Update,
-            )
-        }
-        SqlTree::Delete(delete) => {
-            change(
-                alloc,
-                c,
-                tx,
-                t,
-                v,
-                s,
-                binds,
-                &delete.get().table,
-                Op::Delete,
-            )
+        SqlTree::Insert(_) | SqlTree::Update(_) | SqlTree::Delete(_) => {
+            change(alloc, c, tx, t, v, s, binds)
         }
         SqlTree::Apply(_) => Err(Stop::Raised(Code::Ebr(1))),
     }
 }
 
-/// An INSERT, UPDATE or DELETE of what has this name.
+/// An INSERT, UPDATE or DELETE.
 fn change(
     alloc: Global,
     c: &Catalogue,
@@ -151,8 +118,6 @@ fn change(
     v: &EditionView,
     s: &SqlTree,
     binds: &[Value],
-    named: &Name,
-    op: Op,
 ) -> Result<Answer, Stop>
     requires order { IsInOrder v.now }
     requires live { IsLive tx.old.contents t }
@@ -160,14 +125,28 @@ fn change(
     requires narrow { AreNarrow v.now.tables }
     requires storable { AllStorable tx.old.contents }
     ensures storable { AllStorable tx.new.contents }
-    ensures answer { ForLists c.now (λ lists. Runs result tx.old.contents tx.new.contents (on (spec.change_ran (spec.is_some_firing (Fires lists v.now.edition named.now op when.Before Plain ++ Fires lists v.now.edition named.now op when.After Plain)) (after_begin tx.old.contents t)) (started (after_begin tx.old.contents t) t v.now s.now binds.now))) }
+    ensures grows { Grows tx.old.contents t tx.new.contents }
+    ensures answer { ForLists c.now (λ lists. Runs result tx.old.contents tx.new.contents (on (spec.change_ran (spec.is_some_firing (firings_on (names_of lists) (own_place v.now.edition t) (target s.now))) (after_begin tx.old.contents t)) (started (after_begin tx.old.contents t) t v.now s.now binds.now))) }
 {
-    let some = some_fire(alloc, c, v.edition, named, op)?;
-    run_change(alloc, tx, t, v, s, binds, some)
+    let fires = some_fire(alloc, c, v.edition, s)?;
+    run_change(alloc, tx, t, v, s, binds, fires)
+}
+
+/// Whether a session's statement fires a trigger of either timing.
+fn some_fire(alloc: Global, c: &Catalogue, e: EditionNo, s: &SqlTree) -> Result<bool, NoMemory>
+    ensures { ForLists c.now (λ lists. (t : TxId) → IfOk result (λ some. some ≡ spec.is_some_firing (firings_on (names_of lists) (own_place e t) (target s.now)))) }
+{
+    match s {
+        SqlTree::Query(_) => Ok(false),
+        SqlTree::Insert(insert) => some_on(alloc, c, e, &insert.get().table, Op::Insert),
+        SqlTree::Update(update) => some_on(alloc, c, e, &update.get().table, Op::Update),
+        SqlTree::Delete(delete) => some_on(alloc, c, e, &delete.get().table, Op::Delete),
+        SqlTree::Apply(_) => Ok(false),
+    }
 }
 
 /// Whether a change of what has this name fires a trigger of either timing.
-fn some_fire(
+fn some_on(
     alloc: Global,
     c: &Catalogue,
     e: EditionNo,

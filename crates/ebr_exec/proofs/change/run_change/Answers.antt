@@ -7,6 +7,7 @@ use Rattle.ebr_database.specs.Storable.{AllStorable}
 use Rattle.ebr_exec.specs.Statements.{change_ran}
 use Rattle.ebr_exec.specs.inside.Changes.{Changes}
 use Rattle.ebr_exec.proofs.Ends.{begun_storable, change_refused, over_change}
+use Rattle.ebr_exec.proofs.Growing.{grown_back, grown_change, not_grown}
 use Rattle.ebr_exec.proofs.Undone.{over_names, still_mark_of, undone_to}
 use Rattle.ebr_exec.proofs.change.run_change.Goals as goal
 
@@ -35,3 +36,15 @@ pub returns-in-Err-clause-storable : goal.returns-in-Err-clause-storable
 returns-in-Err-clause-storable c =
     subst AllStorable (sym (undone_to c.args.tx.now.contents c.changed.new.tx.contents c.back_to_mark.new.self.contents c.args.t c.in_ok-mark.mark c.in_ok-mark.ensures.mark
     (over_change c.args.tx.now.contents c.begin.new.self.contents c.changed.new.tx.contents c.args.t c.begin.ensures.contents c.changed.ensures.over) c.back_to_mark.ensures.contents)) c.requires.storable
+
+pub returns-in_err-mark-clause-grows : goal.returns-in_err-mark-clause-grows
+returns-in_err-mark-clause-grows c = not_grown c.args.tx.now.contents c.args.t
+
+pub returns-in-Ok-clause-grows : goal.returns-in-Ok-clause-grows
+returns-in-Ok-clause-grows c = grown_change c.args.tx.now.contents c.begin.new.self.contents c.changed.new.tx.contents c.args.t c.begin.ensures.contents c.changed.ensures.over
+
+pub returns-in-Err-clause-grows : goal.returns-in-Err-clause-grows
+returns-in-Err-clause-grows c =
+    grown_back c.args.tx.now.contents c.back_to_mark.new.self.contents c.args.t
+    (undone_to c.args.tx.now.contents c.changed.new.tx.contents c.back_to_mark.new.self.contents c.args.t c.in_ok-mark.mark c.in_ok-mark.ensures.mark
+    (over_change c.args.tx.now.contents c.begin.new.self.contents c.changed.new.tx.contents c.args.t c.begin.ensures.contents c.changed.ensures.over) c.back_to_mark.ensures.contents)
