@@ -1,26 +1,21 @@
 -- A statement behind its checks, and a world of it.
-use Rattle.std.proofs.Common.{◌≡◌, ℕ, Bool, true, false, List, [], ◌∷◌, ◌++◌, Ok, Err, refl, sym, ap, subst, ◌∙◌, append-nil}
+use Rattle.std.proofs.Common.{◌≡◌, ℕ, Bool, List, [], Ok, Err, refl, sym, ap, subst}
 use Rattle.std.specs.Prelude.{Result}
 use Rattle.ebr_base.specs.declared.code.Code.{Code}
-use Rattle.ebr_base.specs.declared.code.Stop.{Stop}
-use Rattle.ebr_base.specs.declared.code.Stop.TheVariants.{Raised, NoMemory}
-use Rattle.ebr_base.specs.declared.numbers.EditionNo.{EditionNo}
+use Rattle.ebr_base.specs.declared.code.Stop.TheVariants.{Raised}
 use Rattle.ebr_base.specs.declared.row.TxId.{TxId}
 use Rattle.ebr_base.specs.declared.value.Value.{Value}
 use Rattle.ebr_ast.specs.declared.sql.SqlTree.{SqlTree}
 use Rattle.ebr_ast.specs.declared.view.EditionView.{EditionView}
 use Rattle.ebr_asks.specs.declared.answer.Answer.{Answer}
-use Rattle.ebr_sqlcheck.specs.Checked.{on, must}
+use Rattle.ebr_sqlcheck.specs.Checked.{on}
 use Rattle.ebr_sqlcheck.specs.Statements.{checked_with}
 use Rattle.ebr_tx.specs.Data.{Data}
 use Rattle.ebr_tx.specs.Calls.{after_begin}
 use Rattle.ebr_record.specs.Keeper.{Keeper}
-use Rattle.ebr_database.specs.declared.failure.Halt.{Halt}
-use Rattle.ebr_database.specs.declared.failure.Halt.TheVariants as halt
 use Rattle.ebr_database.specs.Outcome.{Question, after}
-use Rattle.ebr_database.specs.Shows.{base_of, Said, Tells}
+use Rattle.ebr_database.specs.Shows.{base_of, Said}
 use Rattle.ebr_database.proofs.Goes.{says}
-use Rattle.ebr_database.proofs.Keeping.{stays}
 use Rattle.ebr_exec.specs.Places.{own_place}
 use Rattle.ebr_exec.specs.Statements.{Ran, begun_ran, statement_ran, ended, refused}
 use Rattle.ebr_exec.specs.Shows.{Runs}

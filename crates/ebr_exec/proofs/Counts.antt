@@ -1,6 +1,6 @@
 -- All rows of a change.
-use Rattle.std.proofs.Common.{◌≡◌, ℕ, Bool, true, false, List, [], ◌∷◌, Ok, Err, length, refl, sym, ap, subst, ◌∙◌, arith}
-use Rattle.std.specs.Prelude.{Result, Option, Some, None}
+use Rattle.std.proofs.Common.{◌≡◌, ℕ, Bool, true, false, List, [], Ok, Err, length, refl, sym, ap, subst, ◌∙◌, arith}
+use Rattle.std.specs.Prelude.{Result}
 use Rattle.ebr_base.specs.Answers.{Answers}
 use Rattle.ebr_base.specs.declared.code.Code.{Code}
 use Rattle.ebr_base.specs.declared.code.Code.TheVariants.{Ebr}
@@ -8,7 +8,6 @@ use Rattle.ebr_base.specs.declared.code.Stop.{Stop}
 use Rattle.ebr_base.specs.declared.code.Stop.TheVariants.{Raised, NoMemory}
 use Rattle.ebr_base.specs.declared.row.TxId.{TxId}
 use Rattle.ebr_base.specs.declared.value.Value.{Value}
-use Rattle.ebr_asks.specs.declared.answer.Answer.{Answer}
 use Rattle.ebr_asks.specs.declared.answer.Answer.TheVariants.{Count}
 use Rattle.ebr_ast.specs.declared.sql.SqlTree.{SqlTree}
 use Rattle.ebr_ast.specs.declared.view.EditionView.{EditionView}
@@ -19,10 +18,9 @@ use Rattle.ebr_dml.specs.declared.taken.Taken.{Taken}
 use Rattle.ebr_dml.specs.Plans.{plan_of}
 use Rattle.ebr_dml.specs.Rows.{rows_of}
 use Rattle.ebr_dml.specs.Steps.{Standing, started, first_standing}
-use Rattle.ebr_exec.specs.Statements.{Ran, rows_written, counted, all_written, change_ran}
-use Rattle.ebr_exec.specs.Shows.{Runs}
+use Rattle.ebr_exec.specs.Statements.{rows_written, counted, all_written, change_ran}
 use Rattle.ebr_exec.specs.inside.Changes.{Changes}
-use Rattle.ebr_exec.specs.inside.Rest.{left_of, total, total_with, Goes, Writes, Turns}
+use Rattle.ebr_exec.specs.inside.Rest.{left_of, total, total_with, Goes, Writes}
 
 -- ---- one row after the other
 

@@ -1,5 +1,5 @@
 -- How a session's statement ends.
-use Rattle.std.proofs.Common.{◌≡◌, ℕ, Bool, true, false, List, [], ◌∷◌, Ok, Err, refl, sym, ap, subst, ◌∙◌}
+use Rattle.std.proofs.Common.{◌≡◌, ℕ, List, [], Ok, Err, sym, subst}
 use Rattle.std.specs.Prelude.{Result}
 use Rattle.ebr_base.specs.declared.code.Code.{Code}
 use Rattle.ebr_base.specs.declared.code.Stop.{Stop}
@@ -11,7 +11,7 @@ use Rattle.ebr_ast.specs.declared.query.Query.{Query as Select}
 use Rattle.ebr_ast.specs.declared.view.EditionView.{EditionView}
 use Rattle.ebr_tx.specs.Data.{Data}
 use Rattle.ebr_tx.specs.Calls.{after_begin}
-use Rattle.ebr_query.specs.Queries.{Answered, AddsLocks, Query}
+use Rattle.ebr_query.specs.Queries.{AddsLocks, Query}
 use Rattle.ebr_database.specs.Storable.{AllStorable}
 use Rattle.ebr_database.proofs.AllStays.{begun}
 use Rattle.ebr_exec.specs.Places.{Place}

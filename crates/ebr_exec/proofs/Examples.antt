@@ -1,5 +1,5 @@
 -- The definitions, tried on examples.
-use Rattle.std.proofs.Common.{◌≡◌, ℕ, pos, List, [], ◌∷◌, Some, None, refl}
+use Rattle.std.proofs.Common.{◌≡◌, ℕ, List, [], refl}
 use Rattle.ebr_base.specs.declared.code.Code.TheVariants.{Ora, Ebr}
 use Rattle.ebr_base.specs.declared.numbers.EditionNo.{EditionNo}
 use Rattle.ebr_base.specs.declared.row.TxId.{TxId}

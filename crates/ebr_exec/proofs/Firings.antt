@@ -1,5 +1,5 @@
 -- Whether something fires.
-use Rattle.std.proofs.Common.{◌≡◌, Bool, true, false, List, [], ◌∷◌, ◌++◌, Ok, Err, refl, sym, ◌∙◌}
+use Rattle.std.proofs.Common.{◌≡◌, Bool, true, false, List, [], ◌∷◌, ◌++◌, Ok, Err, refl, ◌∙◌}
 use Rattle.std.specs.Prelude.{Result, IfOk}
 use Rattle.ebr_exec.specs.Statements.{is_some_firing}
 

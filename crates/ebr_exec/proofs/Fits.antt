@@ -1,6 +1,6 @@
 -- Rows that passed their tests can be spelled in a record.
 use Rattle.std.proofs.Common.{◌≡◌, ℕ, zero, suc, ◌+◌, ◌<◌, Bool, true, false, cond, List, [], ◌∷◌, Option, Some, None, Ok, Err, length, map, refl, sym, ap, subst, ◌∙◌, arith}
-use Rattle.std.specs.Prelude.{◌^◌, Result, All, find, slice_get, slice_set, unwrap_or}
+use Rattle.std.specs.Prelude.{◌^◌, Result, All, find, slice_set, unwrap_or}
 use Rattle.std.specs.Option.{option_or}
 use Rattle.std.proofs.lemmas.List.{length-set}
 use Rattle.std.proofs.lemmas.Option.{slice_get-get_or, same_Some}
@@ -43,7 +43,7 @@ use Rattle.ebr_dml.specs.declared.plan.Setting.{Setting}
 use Rattle.ebr_dml.specs.declared.plan.Work.{Work}
 use Rattle.ebr_dml.specs.declared.plan.Work.TheVariants.{Set, Remove}
 use Rattle.ebr_dml.specs.declared.taken.Taken.{Taken}
-use Rattle.ebr_dml.specs.Images.{filled_from, filled, old_values, set_values, worked, new_values}
+use Rattle.ebr_dml.specs.Images.{filled_from, old_values, set_values, worked, new_values}
 use Rattle.ebr_dml.specs.Plans.{there, over, set_of, insert_places, update_over, delete_over, trigger_key, tree_table, object_table, trigger_table, plan_of}
 use Rattle.ebr_dml.specs.Rows.{rows_of}
 use Rattle.ebr_dml.specs.Steps.{Standing, started, first_standing}

@@ -22,7 +22,7 @@ use Rattle.ebr_dml.specs.declared.taken.Taken.{Taken}
 use Rattle.ebr_dml.specs.Images.{old_values, new_values, after_values}
 use Rattle.ebr_dml.specs.Steps.{Standing, Stepped, Gives, stepped, next_step, row_step, before_row, after_row}
 use Rattle.ebr_dml.specs.Tests.{first_code, insert_tests, update_tests, delete_tests, update, removal, tested, written, written_to}
-use Rattle.ebr_exec.specs.Statements.{rows_written, row_written}
+use Rattle.ebr_exec.specs.Statements.{rows_written}
 use Rattle.ebr_exec.specs.inside.Over.{Over}
 use Rattle.ebr_exec.specs.inside.Rest.{left_of, total, total_with, Goes, Turns}
 use Rattle.ebr_database.specs.Storable.{AllStorable}

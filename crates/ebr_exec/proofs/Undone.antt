@@ -1,6 +1,6 @@
 -- Going back to the mark of before leaves all as before.
-use Rattle.std.proofs.Common.{◌≡◌, ℕ, zero, suc, ◌+◌, ◌≤◌, Bool, true, false, cond, List, [], ◌∷◌, ◌++◌, Option, Some, None, length, map, take, refl, sym, ap, subst, ◌∙◌, append_assoc, append-nil, length-append, arith}
-use Rattle.std.specs.Prelude.{◌&&◌, ◌==◌, filter, find, unwrap_or}
+use Rattle.std.proofs.Common.{◌≡◌, ℕ, zero, suc, ◌+◌, ◌≤◌, Bool, true, false, cond, List, [], ◌∷◌, ◌++◌, Some, length, map, take, refl, sym, ap, subst, ◌∙◌, append_assoc, append-nil, length-append, arith}
+use Rattle.std.specs.Prelude.{◌==◌, find, unwrap_or}
 use Rattle.std.proofs.Math.Seq.{take-append_seam}
 use Rattle.std.proofs.lemmas.Bool.{and_from, eq-eqb}
 use Rattle.std.proofs.lemmas.List.{map-append}
@@ -9,9 +9,8 @@ use Rattle.ebr_base.specs.declared.row.Change.{Change}
 use Rattle.ebr_base.specs.declared.row.RowId.{RowId}
 use Rattle.ebr_base.specs.declared.row.TxId.{TxId}
 use Rattle.ebr_locks.specs.Locks.{Lock, same_tx, is_of, locks_of, released}
-use Rattle.ebr_tx.specs.declared.savepoints.Savepoint.{Savepoint}
 use Rattle.ebr_tx.specs.declared.savepoints.TxMark.{TxMark}
-use Rattle.ebr_tx.specs.Data.{Transaction, Data, is_named, names_of, not_begun, changed, own}
+use Rattle.ebr_tx.specs.Data.{Transaction, Data, is_named, names_of, not_begun, changed}
 use Rattle.ebr_tx.specs.Calls.{after_begin, begun_at, after_change, with_change, mark_of, marked, after_mark, IsMarkOf}
 use Rattle.ebr_query.specs.Queries.{AddsLocks}
 use Rattle.ebr_exec.specs.inside.Over.{Over}

@@ -3,19 +3,17 @@
 -- The order of the tests, and the codes of this server (EBR), are own.
 --
 -- The bodies of triggers don't run yet: a statement that would fire one is answered EBR-0001, and so is APPLY TRIGGER.
-use Rattle.std.specs.Prelude.{ℕ, zero, suc, ◌+◌, Bool, true, false, not, ◌&&◌, nat_lt, List, [], ◌∷◌, length, sum_by, Option, Some, None, Result, Ok, Err}
+use Rattle.std.specs.Prelude.{ℕ, zero, suc, Bool, true, false, not, nat_lt, List, [], ◌∷◌, length, sum_by, Result, Ok, Err}
 use Rattle.ebr_base.specs.declared.code.Code.{Code}
 use Rattle.ebr_base.specs.declared.code.Code.TheVariants.{Ora, Ebr}
 use Rattle.ebr_base.specs.declared.row.TxId.{TxId}
 use Rattle.ebr_base.specs.declared.value.Value.{Value}
-use Rattle.ebr_base.specs.declared.value.Value.TheVariants as value
-use Rattle.ebr_ast.specs.declared.query.Query.{Query as Select}
 use Rattle.ebr_ast.specs.declared.sql.SqlTree.{SqlTree}
 use Rattle.ebr_ast.specs.declared.sql.SqlTree.TheVariants as sql
 use Rattle.ebr_ast.specs.declared.view.EditionView.{EditionView}
 use Rattle.ebr_asks.specs.declared.answer.Answer.{Answer}
 use Rattle.ebr_asks.specs.declared.answer.Answer.TheVariants.{Rows, Count, Refused}
-use Rattle.ebr_sqlcheck.specs.Checked.{Checked, right, must, on}
+use Rattle.ebr_sqlcheck.specs.Checked.{must, on}
 use Rattle.ebr_sqlcheck.specs.Statements.{checked_with}
 use Rattle.ebr_tx.specs.Data.{Data}
 use Rattle.ebr_tx.specs.Calls.{after_begin}

@@ -3,13 +3,11 @@ use Rattle.std.specs.Prelude.{◌≡◌, ℕ, ◌+◌, false, List, length, Opti
 use Rattle.ebr_base.specs.declared.code.Code.{Code}
 use Rattle.ebr_base.specs.declared.code.Stop.{Stop}
 use Rattle.ebr_base.specs.declared.code.Stop.TheVariants.{Raised, NoMemory}
-use Rattle.ebr_base.specs.declared.row.TxId.{TxId}
 use Rattle.ebr_sqlcheck.specs.Checked.{on}
 use Rattle.ebr_tx.specs.Data.{Data}
 use Rattle.ebr_dml.specs.declared.taken.Taken.{Taken}
 use Rattle.ebr_dml.specs.Steps.{Standing}
 use Rattle.ebr_exec.specs.Statements.{rows_written}
-use Rattle.ebr_exec.specs.inside.Over.{Over}
 
 -- the data when all rows that are left are changed, or the first code
 abbrev pub left_of : Standing → Data → Result Data Code

@@ -1,6 +1,4 @@
-use Rattle.std.proofs.Common.{◌≡◌, None, Ok, sym, subst}
-use Rattle.ebr_database.specs.Storable.{AllStorable}
-use Rattle.ebr_dml.specs.Steps.{CanStep}
+use Rattle.std.proofs.Common.{Ok, subst}
 use Rattle.ebr_exec.specs.inside.Over.{Over}
 use Rattle.ebr_exec.specs.inside.Rest.{Goes, Turns}
 use Rattle.ebr_exec.proofs.Counts.{goes_goes, goes_same}

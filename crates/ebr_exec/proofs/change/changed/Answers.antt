@@ -1,4 +1,4 @@
-use Rattle.std.proofs.Common.{◌≡◌, false, sym, subst, rules}
+use Rattle.std.proofs.Common.{◌≡◌, false, subst, rules}
 use Rattle.ebr_sqlcheck.specs.Checked.{on}
 use Rattle.ebr_dml.specs.Steps.{started}
 use Rattle.ebr_exec.specs.Statements.{change_ran}

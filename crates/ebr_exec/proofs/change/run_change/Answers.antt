@@ -1,4 +1,4 @@
-use Rattle.std.proofs.Common.{◌≡◌, ◌∙◌, Err, sym, subst}
+use Rattle.std.proofs.Common.{◌∙◌, Err, sym, subst}
 use Rattle.ebr_sqlcheck.specs.Checked.{on}
 use Rattle.ebr_tx.specs.Calls.{after_begin}
 use Rattle.ebr_tx.specs.Data.{IsIn}

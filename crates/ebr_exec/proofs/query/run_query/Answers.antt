@@ -1,4 +1,4 @@
-use Rattle.std.proofs.Common.{◌≡◌, ◌∙◌, refl, sym, subst}
+use Rattle.std.proofs.Common.{refl, sym, subst}
 use Rattle.ebr_database.specs.Storable.{AllStorable}
 use Rattle.ebr_exec.specs.Places.{own_place}
 use Rattle.ebr_exec.proofs.Ends.{over_query, query_refused, query_storable}
