@@ -1,7 +1,7 @@
 //! Rows of tables: definitions, and questions with their answers.
 
 use ebr_ast::{Definition, Op, Origin, Timing};
-use ebr_base::{Bytes, EditionNo, List, MAX_COUNT, Name, NoMemory, Shared};
+use ebr_base::{Bytes, EditionNo, List, MAX_COUNT, Name, NoMemory, Shared, Stop};
 use ebr_cross::Catalogue;
 use ebr_ddlparse::definition;
 use ebr_fire::{Firing, crossing, fires};
@@ -42,7 +42,11 @@ fn definition_of(alloc: Global, text: &str) -> Result<Shared<Definition>, NoMemo
     Ok(Shared::new(alloc, what)?)
 }
 
-/// Carries out a definition; where it is refused, the test fails with want of memory.
+fn is_made<T: Drop>(answer: Result<T, Stop>) -> bool {
+    answer.is_ok()
+}
+
+/// Carries out a definition, after it was asked what it would answer; where it is refused, the test fails with want of memory.
 fn apply(
     alloc: Global,
     c: &mut Catalogue,
@@ -50,13 +54,12 @@ fn apply(
     what: &Definition,
 ) -> Result<(), NoMemory> {
     let text = Bytes::new(alloc);
-    match c.apply(alloc, e, &[], what, &text) {
-        Ok(made) => {
-            release(made);
-            Ok(())
-        }
-        Err(_) => Err(NoMemory),
+    if is_made(c.outcome(alloc, e, &[], what, &text))
+        && is_made(c.apply(alloc, e, &[], what, &text))
+    {
+        return Ok(());
     }
+    Err(NoMemory)
 }
 
 fn define(alloc: Global, c: &mut Catalogue, e: EditionNo, text: &str) -> Result<(), NoMemory> {
