@@ -58,6 +58,7 @@ pub fn run_seen<K: Keep, B: Drop>(
         (base_of world.new.tx.contents (K.told world.new.keeper)) (K.told world.old.keeper) (K.told world.new.keeper) result }
     ensures storable { AllStorable world.new.tx.contents }
     ensures catalogue { world.new.catalogue ≡ world.old.catalogue }
+    ensures book { world.new.book ≡ world.old.book }
     ensures grows { Grows world.old.tx.contents t world.new.tx.contents }
 {
     let ran = statement(alloc, &world.catalogue, &mut world.tx, t, v, s, binds, room);

@@ -1,0 +1,10 @@
+pub mod Others
+pub mod Stacks
+pub mod Seated
+pub mod Live
+pub mod Marks
+pub mod Replies
+pub mod Asked
+pub mod Levels
+pub mod Calls
+pub mod First

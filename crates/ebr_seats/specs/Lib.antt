@@ -1,0 +1,4 @@
+pub mod Tests
+pub mod Ends
+pub mod Seats
+pub mod inside
