@@ -1,0 +1,407 @@
+-- What an answer leaves of the engine's parts.
+use Rattle.std.proofs.Common.{◌≡◌, ◌≢◌, ℕ, zero, suc, ◌-◌, ◌+◌, ◌<◌, ◌≤◌, Bool, true, false, List, [], ◌∷◌, ◌++◌, length, refl, sym, ap, subst, ◌∙◌, append-nil, arith}
+use Rattle.std.specs.Prelude.{◌↔◌, IsTrue, Option, Some, None, IsSome, is_some, Result, Ok, Err, slice_set, vec_len, vec_capacity}
+use Rattle.ebr_base.specs.declared.numbers.EditionNo.{EditionNo}
+use Rattle.ebr_base.specs.declared.numbers.SessionId.{SessionId}
+use Rattle.ebr_ast.specs.declared.view.EditionView.{EditionView}
+use Rattle.ebr_asks.specs.declared.ask.Ask.{Ask}
+use Rattle.ebr_asks.specs.declared.ask.Ask.TheVariants.{Begin, Leave}
+use Rattle.ebr_asks.specs.declared.answer.Answer.{Answer}
+use Rattle.ebr_asks.specs.declared.answer.Answer.TheVariants as answer
+use Rattle.ebr_asks.specs.declared.entry.Entry.{Entry}
+use Rattle.ebr_laws.specs.Served.{HasCodeOf}
+use Rattle.ebr_record.specs.Keeper.{Keeper}
+use Rattle.ebr_record.specs.declared.record.Record.{Record}
+use Rattle.ebr_database.specs.declared.failure.Halt.{Halt}
+use Rattle.ebr_database.specs.declared.failure.Halt.TheVariants as why
+use Rattle.ebr_database.specs.Database.{Session, Database, Replied, session_at}
+use Rattle.ebr_database.specs.Shows.{Grew, GaveUp}
+use Rattle.ebr_units.specs.Served.{served}
+use Rattle.ebr_core.specs.declared.current.Current.{Current}
+use Rattle.ebr_core.specs.declared.parts.Parts.{Parts}
+use Rattle.ebr_core.specs.Machine.{Build, Reply}
+use Rattle.ebr_core.specs.History.{After, AllStopped, IsLive, Legal, edition_of, next, session_edition}
+use Rattle.ebr_core.specs.Engine.{Answers, EngineState, Gives, HasBook, HasLegalHistory, IsAnswer, database_of, entry_of, has_given_up, is_last, with_book}
+use Rattle.ebr_core.specs.inside.Held.{ComesWith, Holds, IsHeld, IsReplied}
+use Rattle.ebr_core.specs.inside.Parts.{Adds, Copies, GivesUp, Tries, HasRoom, HasStopped, IsSound, Keeps, Runs, Stands, database, entry, first, last_answer, live_count, lives, lives_at, state_of}
+use Rattle.ebr_core.proofs.Lives.{Replies, Suits, at_there, count_most, lives_is, lives_left, one_left, other_lives, reply_suits, within}
+use Rattle.ebr_core.proofs.Histories.{After-append, gives_up, given_up_before, given_up_now, goes_on, is_stopped, never_given_up}
+
+-- ---- a live session
+
+pub record LiveSession (db : Database) (s : SessionId) : Type 0 where
+  pub edition : EditionNo
+  pub session : Session
+  pub there : session_at db.sessions s.0 ≡ Some session
+  pub is_in : session.edition ≡ Some edition
+
+pub live_session : (db : Database) (s : SessionId) → IsLive db s → LiveSession db s
+live_session db s live = by (session_at db.sessions s.0) refl live
+  where
+    in_edition : (x : Session) (o : Option EditionNo) → session_at db.sessions s.0 ≡ Some x → x.edition ≡ o → IsSome o → LiveSession db s
+    in_edition x None there is some = cc
+    in_edition x (Some e) there is some = record { edition = e; session = x; there = there; is_in = is }
+
+    by : (o : Option Session) → session_at db.sessions s.0 ≡ o → IsSome (edition_of o) → LiveSession db s
+    by None is some = cc
+    by (Some x) is some = in_edition x x.edition is refl some
+
+-- ---- lists
+
+length_set : {X : Type 0} (xs : List X) (n : ℕ) (y : X) → length (slice_set xs n y) ≡ length xs
+length_set [] n y = refl
+length_set (x ∷ xs) zero y = refl
+length_set (x ∷ xs) (suc n) y = ap suc (length_set xs n y)
+
+pub placed : (books : List (Option EditionView)) (n : ℕ) (book : Option EditionView) → 1 ≤ n → slice_set books (n - 1) book ≡ with_book books n book
+placed books zero book low = absurd (omega (arith, low))
+placed books (suc n) book low = ap (λ k. slice_set books k book) (less n)
+  where
+    less : (k : ℕ) → suc k - 1 ≡ k
+    less k = omega arith
+
+-- ---- answers
+
+is_no_last : (ask : Ask) (a : Answer) → Replies ask a → is_last a ≡ false
+is_no_last Begin (answer.View v) h = refl
+is_no_last Begin answer.DiskFault h = absurd h
+is_no_last Begin answer.NoMemory h = absurd h
+is_no_last Begin a h = refl
+is_no_last ask answer.DiskFault h = absurd h
+is_no_last ask answer.NoMemory h = absurd h
+is_no_last ask a h = refl
+
+entry_is : (s : SessionId) (ask : Ask) (a : Answer) → Replies ask a → entry s ask a ≡ entry_of s ask a
+entry_is s Begin answer.Stopped h = absurd h
+entry_is s Begin a h = refl
+entry_is s ask answer.Stopped h = absurd h
+entry_is s ask a h = refl
+
+is_answer : (ask : Ask) (a : Answer) (r : Replied) (old new : Keeper) → Replies ask a → a ≡ r.answer → Grew old new r.records → IsAnswer a r old new
+is_answer Begin answer.DiskFault r old new h same grew = absurd h
+is_answer Begin answer.NoMemory r old new h same grew = absurd h
+is_answer Begin answer.Stopped r old new h same grew = absurd h
+is_answer Begin a r old new h same grew = (same, grew)
+is_answer ask answer.DiskFault r old new h same grew = absurd h
+is_answer ask answer.NoMemory r old new h same grew = absurd h
+is_answer ask answer.Stopped r old new h same grew = absurd h
+is_answer ask a r old new h same grew = (same, grew)
+
+with_code : (v : EditionView) → HasCodeOf v (served v)
+with_code v = record { unit = λ key. refl; stamp = λ key. refl }
+
+has_book : (ask : Ask) (a : Answer) (book : Option EditionView) → Replies ask a → ComesWith ask a book → HasBook a book
+has_book Begin (answer.View v) book h comes = (comes.0, comes.1, with_code v)
+has_book Begin a book h comes = comes
+has_book ask (answer.View v) book h comes = absurd h
+has_book ask a book h comes = comes
+
+-- the answer with which it gives up, where the keeper hadn't stopped
+last_is : (why : Halt) → is_last (last_answer why) ≡ true
+last_is why.DiskFault = refl
+last_is why.Stopped = refl
+last_is why.NoMemory = refl
+
+last_entry : (s : SessionId) (ask : Ask) (why : Halt) → entry s ask (last_answer why) ≡ entry_of s ask (last_answer why)
+last_entry s ask why.DiskFault = refl
+last_entry s ask why.Stopped = refl
+last_entry s ask why.NoMemory = refl
+
+last_book : (why : Halt) → HasBook (last_answer why) None
+last_book why.DiskFault = refl
+last_book why.Stopped = refl
+last_book why.NoMemory = refl
+
+is_last_answer : (why : Halt) (r : Replied) (old new : Keeper) → old.stopped ≡ false → GaveUp old new r.records why → IsAnswer (last_answer why) r old new
+is_last_answer why.DiskFault r old new goes g = g
+is_last_answer why.Stopped r old new goes g = absurd (differ (sym goes ∙ g.cause))
+  where
+    differ : false ≡ true → ⊥
+    differ e = cc
+is_last_answer why.NoMemory r old new goes g = g
+
+pub wanted : (old new : Keeper) (made : List Record) → Grew old new made → GaveUp old new made why.NoMemory
+wanted old new made g = record { faults = g.faults; moment = g.moment; holds = g.holds; cause = tt }
+
+module _ {K : Type 0} (told : K → Keeper) where
+  -- a reply with a copy of its answer, or without memory for one
+  pub tried : (old new : Current K) (given : Answer × Option EditionView) (result : Result ((Answer × Option EditionView) × Answer) Halt) (r : Replied) → IsReplied told old new given.0 r → Copies given result → Tries told old new result r
+  tried old new given (Ok pair) r h c = (subst (λ (g : Answer × Option EditionView). IsReplied told old new g.0 r) (sym c.0) h, c.1 ∙ ap (λ (g : Answer × Option EditionView). g.0) (sym c.0))
+  tried old new given (Err why) r h c = subst (GaveUp (told old.world.keeper) (told new.world.keeper) r.records) (sym c) (wanted (told old.world.keeper) (told new.world.keeper) r.records h.kept)
+
+  -- the history is legal at any time
+  pub legal_now : (p : Parts K) → IsSound told p → HasLegalHistory (state_of told p)
+  legal_now p h = by p.stopped h.stands
+    where
+      by : (b : Bool) → Stands told b p → HasLegalHistory (state_of told p)
+      by false r = subst (Legal (first told p)) (append-nil p.history.items) (r.legal [] tt)
+      by true r = subst (Legal (first told p)) (append-nil p.history.items) (r.legal [] tt)
+
+  pub live_is : (p : Parts K) (s : SessionId) (b : Bool) → IsSound told p → b ≡ lives_at p.living.items s.0 → IsTrue b ↔ IsLive (database_of (state_of told p)) s
+  live_is p s b h is =
+      let e : b ≡ is_some (session_edition (database_of (state_of told p)) s) = is ∙ ap (λ bs. lives_at bs s.0) h.living ∙ lives_is (database_of (state_of told p)).sessions s.0 in
+      (λ yes. sym e ∙ yes, λ yes. e ∙ yes)
+
+-- ---- the parts with one entry more
+
+module _ {K : Type 0} (told : K → Keeper) where
+  pub record Entered (old new : Parts K) (s : SessionId) (x : Entry) (book : Option EditionView) (living : List Bool) : Type 0 where
+    pub entry : new.history.items ≡ old.history.items ++ x ∷ []
+    pub books : new.books.items ≡ slice_set old.books.items (s.0 - 1) book
+    pub living_is : new.living.items ≡ living
+
+  module _ (old : Parts K) (s : SessionId) (h : IsSound told old) (live : IsLive (database told old) s) where
+    abbrev pub db : Database
+    db = database told old
+
+    abbrev pub at : LiveSession db s
+    at = live_session db s live
+
+    lives_s : lives_at old.living.items s.0 ≡ true
+    lives_s = ap (λ bs. lives_at bs s.0) h.living ∙ at_there db.sessions s.0 at.session at.there ∙ ap is_some at.is_in
+
+    enough : (b : Bool) → Stands told b old → vec_len old.history < vec_capacity old.history
+    enough false r = let e = one_left old.living.items s.0 lives_s in let m = r.room in omega (arith, e, m)
+    enough true r = let e = one_left old.living.items s.0 lives_s in let m = r.room in omega (arith, e, m)
+
+    first_place : 1 ≤ s.0
+    first_place = (within old.living.items s.0 lives_s).0
+
+    pub has_room : HasRoom told old s
+    has_room = record { first = first_place; last = (within old.living.items s.0 lives_s).1; books = h.books; room = enough old.stopped h.stands }
+
+    abbrev pub runs : old.stopped ≡ false → Runs told old
+    runs is = subst (λ b. Stands told b old) is h.stands
+
+    abbrev pub is_held : old.stopped ≡ false → IsHeld told old.current s
+    is_held is = record { database = db; edition = at.edition; session = at.session; holds = (runs is).holds; has = record { there = at.there; edition = at.is_in } }
+
+    given_before : (b : Bool) → old.stopped ≡ b → has_given_up old.history.items ≡ b
+    given_before b is = sym h.stopped ∙ is
+
+    module _ (new : Parts K) (x : Entry) (book : Option EditionView) (living : List Bool) (a : Entered old new s x book living) (len : length living ≡ length old.living.items) where
+      same_len : length new.living.items ≡ length old.living.items
+      same_len = ap (λ (bs : List Bool). length bs) a.living_is ∙ len
+
+      after : database told new ≡ next db x
+      after = ap (λ n. After (Build [] n) new.history.items) same_len ∙ ap (After (first told old)) a.entry ∙ After-append (first told old) old.history.items x
+
+      books_len : length new.books.items ≡ length new.living.items
+      books_len = ap (λ (bs : List (Option EditionView)). length bs) a.books ∙ length_set old.books.items (s.0 - 1) book ∙ h.books ∙ sym same_len
+
+      legal_on : (P : Database → List Entry → Type 0) → ((more : List Entry) → P (next db x) more → Legal (first told old) ((old.history.items ++ x ∷ []) ++ more))
+          → (more : List Entry) → P (database told new) more → Legal (first told new) (new.history.items ++ more)
+      legal_on P f more p =
+          subst (λ n. Legal (Build [] n) (new.history.items ++ more)) (sym same_len)
+          (subst (λ es. Legal (first told old) (es ++ more)) (sym a.entry) (f more (subst (λ d. P d more) after p)))
+
+      whole : (P : Database → List Entry → Type 0) → ((more : List Entry) → P (database told new) more → Legal (first told new) (new.history.items ++ more)) → P (database told new) [] → HasLegalHistory (state_of told new)
+      whole P f none = subst (Legal (first told new)) (append-nil new.history.items) (f [] none)
+
+      lives_after : IsSound told new → (r : SessionId) → lives_at living r.0 ≡ true → IsLive (database told new) r
+      lives_after sound r is =
+          sym (ap (λ bs. lives_at bs r.0) (sym a.living_is ∙ sound.living) ∙ lives_is (database told new).sessions r.0) ∙ is
+
+      was_live : (r : SessionId) → IsLive db r → lives_at old.living.items r.0 ≡ true
+      was_live r is = ap (λ bs. lives_at bs r.0) h.living ∙ lives_is db.sessions r.0 ∙ is
+
+      answers_by : (ask : Ask) (y : Answer) → x ≡ entry_of s ask y → IsSound told new → ((r : SessionId) → (r.0 ≡ s.0 → ⊥) → lives_at old.living.items r.0 ≡ true → lives_at living r.0 ≡ true)
+          → (y ≢ answer.Stopped → ask ≢ Leave → lives_at living s.0 ≡ true) → HasLegalHistory (state_of told new) → HasBook y book
+          → Gives told (has_given_up old.history.items) old.current.world.keeper new.current.world.keeper y (Reply db s ask) → Answers told (state_of told old) (state_of told new) s ask y
+      answers_by ask y same sound others stays legal has gives = record {
+        entry = a.entry ∙ ap (λ e. old.history.items ++ e ∷ []) same;
+        legal = legal;
+        sessions = same_len;
+        book = book;
+        books = a.books ∙ placed old.books.items s.0 book first_place;
+        has_book = has;
+        others = λ r differ is. lives_after sound r (others r differ (was_live r is));
+        stays = λ y' stays'. lives_after sound s (stays y' stays');
+        gives = gives;
+      }
+
+    entered : (new : Parts K) (x : Entry) (book : Option EditionView) (living : List Bool) → Adds told old new s x book living → Entered old new s x book living
+    entered new x book living a = record { entry = a.entry; books = a.books; living_is = a.living_is }
+
+    -- the room that was made before
+    pub room_on : (mid : Parts K) → Keeps told old mid → HasRoom told mid s
+    room_on mid k =
+        let r = has_room in
+        let living : length mid.living.items ≡ length old.living.items = ap (λ (bs : List Bool). length bs) k.living in
+        let books : length mid.books.items ≡ length old.books.items = ap (λ (bs : List (Option EditionView)). length bs) k.books in
+        let last : s.0 ≤ length mid.living.items = omega (arith, r.last, living) in
+        let room : vec_len mid.history < vec_capacity mid.history = omega (arith, r.room, k.len, k.room) in
+        record { first = r.first; last = last; books = books ∙ r.books ∙ sym living; room = room }
+
+    -- ---- once it has stopped
+
+    left_len : length (slice_set old.living.items (s.0 - 1) false) ≡ length old.living.items
+    left_len = length_set old.living.items (s.0 - 1) false
+
+    left_others : (r : SessionId) → (r.0 ≡ s.0 → ⊥) → lives_at old.living.items r.0 ≡ true → lives_at (slice_set old.living.items (s.0 - 1) false) r.0 ≡ true
+    left_others r differ is = other_lives old.living.items s.0 r.0 lives_s differ ∙ is
+
+    left_lives : (new : Parts K) (y : Answer) (a : Adds told old new s (entry s Leave y) None (slice_set old.living.items (s.0 - 1) false)) → new.living.items ≡ lives (database told new)
+    left_lives new y a =
+        a.living_is ∙ ap (λ bs. slice_set bs (s.0 - 1) false) h.living ∙ sym (lives_left db s at.edition at.session at.there at.is_in)
+        ∙ ap lives (sym (after new (entry s Leave y) None _ (entered new _ None _ a) left_len))
+
+    module _ (new : Parts K) (a : Adds told old new s (entry s Leave answer.Stopped) None (slice_set old.living.items (s.0 - 1) false)) (current : new.current ≡ old.current) (is : old.stopped ≡ true) where
+      abbrev es : Entered old new s (entry s Leave answer.Stopped) None (slice_set old.living.items (s.0 - 1) false)
+      es = entered new _ None _ a
+
+      had : HasStopped told old
+      had = subst (λ b. Stands told b old) is h.stands
+
+      stays_stopped : HasStopped told new
+      stays_stopped = record {
+        legal = legal_on new _ None _ es left_len AllStopped (is_stopped (first told old) old.history.items (entry s Leave answer.Stopped) live had.legal refl refl);
+        room =
+            let e = one_left old.living.items s.0 lives_s in
+            let m = had.room in
+            let c : live_count new.living.items ≡ live_count (slice_set old.living.items (s.0 - 1) false) = ap live_count a.living_is in
+            omega (arith, e, m, c, a.len, a.room);
+      }
+
+      pub stop_sound : IsSound told new
+      stop_sound = record {
+        living = left_lives new answer.Stopped a;
+        books = books_len new _ None _ es left_len;
+        stopped = a.stopped ∙ is ∙ sym (given_up_before old.history.items (entry s Leave answer.Stopped) (given_before true is)) ∙ ap has_given_up (sym a.entry);
+        stands = subst (λ b. Stands told b new) (sym (a.stopped ∙ is)) stays_stopped;
+      }
+
+      pub stop_answers : (ask : Ask) (y : Answer) → y ≡ answer.Stopped → Answers told (state_of told old) (state_of told new) s ask y
+      stop_answers ask y same = subst (λ y. Answers told (state_of told old) (state_of told new) s ask y) (sym same)
+          (answers_by new _ None _ es left_len ask answer.Stopped refl stop_sound left_others (λ y' stays. absurd (y' refl)) (whole new _ None _ es left_len AllStopped stays_stopped.legal tt) refl
+          (subst (λ b. Gives told b old.current.world.keeper new.current.world.keeper answer.Stopped (Reply db s ask)) (sym (given_before true is))
+          (refl, ap (λ (c : Current K). c.world.keeper) current)))
+
+    -- ---- it runs
+
+    module _ (new : Parts K) (is : old.stopped ≡ false) where
+      module _ (ask : Ask) (y : Answer) (book : Option EditionView) (living : List Bool) (e : Entered old new s (entry s ask y) book living) (len : length living ≡ length old.living.items)
+          (r : IsReplied told old.current new.current y (Reply db s ask)) (last : is_last y ≡ false)
+          (room : vec_len new.history + live_count new.living.items + 1 ≤ vec_capacity new.history)
+          (stopped : new.stopped ≡ old.stopped) (lives_new : living ≡ lives (Reply db s ask).database) where
+        goes_legal : (more : List Entry) → Legal (database told new) more → Legal (first told new) (new.history.items ++ more)
+        goes_legal = legal_on new _ book living e len Legal (goes_on (first told old) old.history.items (entry s ask y) live (runs is).legal last r.answer)
+
+        runs_on : Runs told new
+        runs_on = record {
+          legal = goes_legal;
+          holds = subst (Holds told new.current) (sym (after new _ book living e len)) r.holds;
+          goes = r.kept.stopped ∙ (runs is).goes;
+          room = room;
+        }
+
+        pub reply_sound : IsSound told new
+        reply_sound = record {
+          living = e.living_is ∙ lives_new ∙ ap lives (sym (after new _ book living e len));
+          books = books_len new _ book living e len;
+          stopped = stopped ∙ is ∙ sym (never_given_up old.history.items (entry s ask y) (given_before false is) last) ∙ ap has_given_up (sym e.entry);
+          stands = subst (λ b. Stands told b new) (sym (stopped ∙ is)) runs_on;
+        }
+
+        pub reply_answers : ((r : SessionId) → (r.0 ≡ s.0 → ⊥) → lives_at old.living.items r.0 ≡ true → lives_at living r.0 ≡ true) → (y ≢ answer.Stopped → ask ≢ Leave → lives_at living s.0 ≡ true)
+            → entry s ask y ≡ entry_of s ask y → HasBook y book → IsAnswer y (Reply db s ask) (told old.current.world.keeper) (told new.current.world.keeper)
+            → Answers told (state_of told old) (state_of told new) s ask y
+        reply_answers others stays same has answers =
+            answers_by new _ book living e len ask y same reply_sound others stays (whole new _ book living e len Legal goes_legal tt) has
+            (subst (λ b. Gives told b old.current.world.keeper new.current.world.keeper y (Reply db s ask)) (sym (given_before false is)) answers)
+
+      -- a session leaves
+      module _ (a : Adds told old new s (entry s Leave answer.Done) None (slice_set old.living.items (s.0 - 1) false)) (r : IsReplied told old.current new.current answer.Done (Reply db s Leave)) where
+        left_room : vec_len new.history + live_count new.living.items + 1 ≤ vec_capacity new.history
+        left_room =
+            let e = one_left old.living.items s.0 lives_s in
+            let m = (runs is).room in
+            let c : live_count new.living.items ≡ live_count (slice_set old.living.items (s.0 - 1) false) = ap live_count a.living_is in
+            omega (arith, e, m, c, a.len, a.room)
+
+        left_is : slice_set old.living.items (s.0 - 1) false ≡ lives (Reply db s Leave).database
+        left_is = ap (λ bs. slice_set bs (s.0 - 1) false) h.living ∙ sym (lives_left db s at.edition at.session at.there at.is_in)
+
+        pub leave_sound : IsSound told new
+        leave_sound = reply_sound Leave answer.Done None _ (entered new _ None _ a) left_len r refl left_room a.stopped left_is
+
+        pub leave_answers : (y : Answer) → y ≡ answer.Done → Answers told (state_of told old) (state_of told new) s Leave y
+        leave_answers y same = subst (λ y. Answers told (state_of told old) (state_of told new) s Leave y) (sym same)
+            (reply_answers Leave answer.Done None _ (entered new _ None _ a) left_len r refl left_room a.stopped left_is left_others (λ y' stays. absurd (stays refl)) refl refl (r.answer, r.kept))
+
+      -- another ask, with room made before
+      module _ (mid : Parts K) (k : Keeps told old mid) (ask : Ask) (stays : ask ≢ Leave) where
+        suits : Suits db ask (Reply db s ask)
+        suits = reply_suits db s at.edition at.session at.there at.is_in ask stays
+
+        same_lives : old.living.items ≡ lives (Reply db s ask).database
+        same_lives = h.living ∙ sym suits.lives_are
+
+        module _ (y copy : Answer) (book : Option EditionView) (a : Adds told mid new s (entry s ask copy) book mid.living.items) (same : copy ≡ y) (current : new.current ≡ mid.current)
+            (r : IsReplied told old.current mid.current y (Reply db s ask)) (comes : ComesWith ask y book)
+            (room : vec_len mid.history + (length mid.living.items + 2) ≤ vec_capacity mid.history) where
+          on_old : Entered old new s (entry s ask y) book old.living.items
+          on_old = record {
+            entry = a.entry ∙ ap (λ es. es ++ entry s ask copy ∷ []) k.entries ∙ ap (λ z. old.history.items ++ entry s ask z ∷ []) same;
+            books = a.books ∙ ap (λ bs. slice_set bs (s.0 - 1) book) k.books;
+            living_is = a.living_is ∙ k.living;
+          }
+
+          replied : IsReplied told old.current new.current y (Reply db s ask)
+          replied = subst (λ c. IsReplied told old.current c y (Reply db s ask)) (sym current) r
+
+          replies : Replies ask y
+          replies = subst (Replies ask) (sym r.answer) suits.answer_is
+
+          enough_room : vec_len new.history + live_count new.living.items + 1 ≤ vec_capacity new.history
+          enough_room =
+              let m = count_most mid.living.items in
+              let c : live_count new.living.items ≡ live_count mid.living.items = ap live_count a.living_is in
+              omega (arith, m, c, room, a.len, a.room)
+
+          pub asked_sound : IsSound told new
+          asked_sound = reply_sound ask y book old.living.items on_old refl replied (is_no_last ask y replies) enough_room (a.stopped ∙ k.stopped) same_lives
+
+          pub asked_answers : Answers told (state_of told old) (state_of told new) s ask y
+          asked_answers =
+              reply_answers ask y book old.living.items on_old refl replied (is_no_last ask y replies) enough_room (a.stopped ∙ k.stopped) same_lives
+              (λ r' differ is'. is') (λ y' stays'. lives_s) (entry_is s ask y replies) (has_book ask y book replies comes) (is_answer ask y (Reply db s ask) _ _ replies r.answer replied.kept)
+
+        -- it gives up
+        module _ (why : Halt) (g : GivesUp told mid new s (entry s ask (last_answer why))) (current : new.current ≡ mid.current)
+            (up : GaveUp (told old.current.world.keeper) (told mid.current.world.keeper) (Reply db s ask).records why) where
+          on_last : Entered old new s (entry s ask (last_answer why)) None old.living.items
+          on_last = record {
+            entry = g.entry ∙ ap (λ es. es ++ entry s ask (last_answer why) ∷ []) k.entries;
+            books = g.books ∙ ap (λ bs. slice_set bs (s.0 - 1) None) k.books;
+            living_is = g.living ∙ k.living;
+          }
+
+          last_legal : (more : List Entry) → AllStopped (database told new) more → Legal (first told new) (new.history.items ++ more)
+          last_legal = legal_on new _ None _ on_last refl AllStopped (gives_up (first told old) old.history.items (entry s ask (last_answer why)) live (runs is).legal (last_is why))
+
+          has_stopped : HasStopped told new
+          has_stopped = record {
+            legal = last_legal;
+            room =
+                let m = (runs is).room in
+                let c : live_count new.living.items ≡ live_count old.living.items = ap live_count (g.living ∙ k.living) in
+                omega (arith, m, c, g.len, g.room, k.len, k.room);
+          }
+
+          pub last_sound : IsSound told new
+          last_sound = record {
+            living = g.living ∙ k.living ∙ same_lives ∙ ap lives (sym (after new _ None _ on_last refl));
+            books = books_len new _ None _ on_last refl;
+            stopped = g.stopped ∙ sym (given_up_now old.history.items (entry s ask (last_answer why)) (last_is why)) ∙ ap has_given_up (sym g_entry);
+            stands = subst (λ b. Stands told b new) (sym g.stopped) has_stopped;
+          }
+            where
+              g_entry : new.history.items ≡ old.history.items ++ entry s ask (last_answer why) ∷ []
+              g_entry = on_last.entry
+
+          pub last_answers : (y : Answer) → y ≡ last_answer why → Answers told (state_of told old) (state_of told new) s ask y
+          last_answers y same = subst (λ y. Answers told (state_of told old) (state_of told new) s ask y) (sym same)
+              (answers_by new _ None _ on_last refl ask (last_answer why) (last_entry s ask why) last_sound (λ r' differ is'. is') (λ y' stays'. lives_s) (whole new _ None _ on_last refl AllStopped last_legal tt) (last_book why)
+              (subst (λ b. Gives told b old.current.world.keeper new.current.world.keeper (last_answer why) (Reply db s ask)) (sym (given_before false is))
+              (is_last_answer why (Reply db s ask) _ _ (runs is).goes (subst (λ (c : Current K). GaveUp (told old.current.world.keeper) (told c.world.keeper) (Reply db s ask).records why) (sym current) up))))

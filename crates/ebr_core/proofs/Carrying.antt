@@ -1,0 +1,285 @@
+-- A definition is carried out over the database that the engine holds.
+use Rattle.std.proofs.Common.{◌≡◌, ℕ, zero, suc, ◌+◌, ◌≤◌, Bool, true, false, List, [], ◌∷◌, ◌++◌, refl, sym, ap, subst, ◌∙◌, append-nil, arith}
+use Rattle.std.specs.Prelude.{Option, Some, None, IfSome, Result, Ok, Err, OnOk, slice_get, slice_set, ◌-◌, ◌&&◌, sum_by, if◌then◌else◌}
+use Rattle.std.specs.List.{filter_map, cons_option}
+use Rattle.ebr_base.specs.declared.code.Code.{Code}
+use Rattle.ebr_base.specs.declared.code.Code.TheVariants.{Ora}
+use Rattle.ebr_base.specs.declared.numbers.EditionNo.{EditionNo}
+use Rattle.ebr_base.specs.declared.numbers.SessionId.{SessionId}
+use Rattle.ebr_ast.specs.declared.definition.Definition.{Definition}
+use Rattle.ebr_asks.specs.declared.answer.Answer.{Answer}
+use Rattle.ebr_asks.specs.declared.answer.Answer.TheVariants as answer
+use Rattle.ebr_tx.specs.declared.savepoints.TxMark.{TxMark}
+use Rattle.ebr_tx.specs.Data.{Data, named_at}
+use Rattle.ebr_base.specs.declared.table.TableDef.{TableDef}
+use Rattle.ebr_tx.specs.Calls.{IsMarkOf, after_add_table}
+use Rattle.ebr_cross.specs.declared.record.CatalogueRecord.{CatalogueRecord}
+use Rattle.ebr_cross.specs.declared.record.CatalogueRecord.TheVariants as made
+use Rattle.ebr_cross.specs.Catalogue.{Lists, HaveOwnKeys, View, kept}
+use Rattle.ebr_cross.specs.Definitions.{outcome}
+use Rattle.ebr_cross.specs.Records.{with_record}
+use Rattle.ebr_record.specs.declared.record.Record.{Record}
+use Rattle.ebr_record.specs.Keeper.{Keeper, share, used_by}
+use Rattle.ebr_database.specs.declared.failure.Failure.{Failure}
+use Rattle.ebr_database.specs.declared.failure.Failure.TheVariants.{Refused, Halted}
+use Rattle.ebr_database.specs.declared.failure.Halt.{Halt}
+use Rattle.ebr_database.specs.declared.failure.Halt.TheVariants as why
+use Rattle.ebr_database.specs.Base.{Base}
+use Rattle.ebr_database.specs.Outcome.{gives}
+use Rattle.ebr_database.specs.Shows.{Grew, GaveUp}
+use Rattle.ebr_database.specs.Storable.{AllStorable}
+use Rattle.ebr_database.specs.Transact.{commit}
+use Rattle.ebr_database.specs.Database.{Session, Database, Replied, data_of, base_in, session_at, at_end, own_on_top, on_top, reply_commit}
+use Rattle.ebr_database.specs.Database.{is_done as done_by}
+use Rattle.ebr_database.proofs.Keeping.{grew_grew, grew_gave_up, gave_up_more, kept_stops, grew_same}
+use Rattle.ebr_seats.specs.declared.seat.Seat.{Seat}
+use Rattle.ebr_seats.specs.Ends.{own_of}
+use Rattle.ebr_seats.proofs.Seated.{at, at_here}
+use Rattle.ebr_seats.specs.Seats.{IsSeatOf, Sits, Holds as Seated, seat_at}
+use Rattle.ebr_units.specs.Living.{AreCurrent}
+use Rattle.ebr_core.specs.declared.current.Current.{Current}
+use Rattle.ebr_core.specs.Machine.{lists_of, editions_in_use, recorded, defined_by, definition_answer, reply_define, behind, then_reply, answer_in, defined, is_held, table_changed}
+use Rattle.ebr_core.specs.Records.{record_of}
+use Rattle.ebr_core.specs.inside.Defined.{Defines, IsNew, with_definition_of}
+use Rattle.ebr_core.specs.inside.Defining.{Applied, Carries, HoldsSome, AnswersIn, IsKept, IsMade, IsRefused, KeepsOutcome, MakesNew, NotKept, Recorded}
+use Rattle.ebr_core.specs.inside.Held.{Holds, HasSession, IsReplied, Replies, IsTextOf}
+use Rattle.ebr_core.specs.inside.Tables.{with_table_of}
+use Rattle.ebr_core.proofs.HeldAgain.{holds_on}
+use Rattle.ebr_core.proofs.MadeRecords.{defines}
+
+-- ---- the editions in use
+
+abbrev SameEdition : Option Seat → Option Session → Type 0
+SameEdition None None = Unit {0}
+SameEdition (Some seat) (Some x) = seat.edition ≡ x.edition
+SameEdition seat x = ⊥
+
+abbrev seat_edition : Seat → Option EditionNo
+seat_edition seat = seat.edition
+
+abbrev session_edition : Session → Option EditionNo
+session_edition x = x.edition
+
+same_editions : (seats : List Seat) (sessions : List Session) → ((n : ℕ) → SameEdition (slice_get seats n) (slice_get sessions n)) → filter_map seat_edition seats ≡ filter_map session_edition sessions
+same_editions [] [] same = refl
+same_editions [] (x ∷ xs) same = absurd (same 0)
+same_editions (seat ∷ seats) [] same = absurd (same 0)
+same_editions (seat ∷ seats) (x ∷ xs) same =
+    ap (λ o. cons_option o (filter_map seat_edition seats)) (same 0)
+    ∙ ap (cons_option x.edition) (same_editions seats xs (λ n. same (suc n)))
+
+sits_in : (d : Data) (s : SessionId) (seat : Option Seat) (x : Option Session) → Sits d s seat x → SameEdition seat x
+sits_in d s None None h = tt
+sits_in d s (Some seat) (Some x) h = h.edition
+sits_in d s None (Some x) h = h
+sits_in d s (Some seat) None h = h
+
+pub editions_are : (used : ℕ) (d : Data) (seats : List Seat) (db : Database) → Seated used d seats db → filter_map seat_edition seats ≡ editions_in_use db
+editions_are used d seats db h =
+    same_editions seats db.sessions (λ n. sits_in d (record { 0 = suc n }) (slice_get seats n) (slice_get db.sessions n) (h.sit (record { 0 = suc n })))
+
+-- ---- the seats where a table is added
+
+mark_on : (t : TableDef) (d : Data) (s : SessionId) (call : Option TxMark) → IfSome call (IsMarkOf d (named_at s 0)) → IfSome call (IsMarkOf (after_add_table d t.id t.key) (named_at s 0))
+mark_on t d s None h = tt
+mark_on t d s (Some m) h = record { begun = h.begun; changes = h.changes; locks = h.locks }
+
+seat_on : (r : CatalogueRecord) (d : Data) (s : SessionId) (seat : Seat) (x : Session) → IsSeatOf d s seat x → IsSeatOf (with_table_of d r) s seat x
+seat_on (made.Table t) d s seat x h = record {
+  edition = h.edition;
+  call = h.call;
+  asks = h.asks;
+  carried = h.carried;
+  stack = h.stack;
+  mark = mark_on t d s x.call h.mark;
+  closed = h.closed;
+}
+seat_on r d s seat x h = h
+
+sits_on : (r : CatalogueRecord) (d : Data) (s : SessionId) (seat : Option Seat) (x : Option Session) → Sits d s seat x → Sits (with_table_of d r) s seat x
+sits_on r d s None None h = tt
+sits_on r d s (Some seat) (Some x) h = seat_on r d s seat x h
+sits_on r d s None (Some x) h = h
+sits_on r d s (Some seat) None h = h
+
+storable_on : (r : CatalogueRecord) (d : Data) → AllStorable d → AllStorable (with_table_of d r)
+storable_on (made.Table t) d h = h
+storable_on r d h = h
+
+-- what is held after a definition
+seated_on : (r : CatalogueRecord) (db : Database) (used used' : ℕ) (d d' : Data) (seats : List Seat) → Defines db r → Seated used d seats db → used' ≡ used + sum_by share (record_of r ∷ [])
+    → d' ≡ with_table_of d r → Seated used' d' seats (with_definition_of db r)
+seated_on r db used used' d d' seats made h grown is = record {
+  data_is = is ∙ ap (λ k. with_table_of k r) h.data_is ∙ sym (ap (λ (b : Base). b.data_now) made.base);
+  used_is = omega (arith, grown, h.used_is, ap (λ (b : Base). b.used) made.base);
+  storable = subst AllStorable (sym is) (storable_on r d h.storable);
+  sit = λ s. subst (λ k. Sits k s (seat_at seats s.0) (session_at db.sessions s.0)) (sym is) (sits_on r d s (seat_at seats s.0) (session_at db.sessions s.0) (h.sit s));
+}
+
+-- ---- what a definition leaves
+
+abbrev may_be : CatalogueRecord → Result CatalogueRecord Code
+may_be r = Ok r
+
+same_made : (x y : CatalogueRecord) → may_be x ≡ may_be y → x ≡ y
+same_made x y e = cc
+
+module _ {K : Type 0} (told : K → Keeper) where
+  -- the same but for the keeper
+  abbrev with_keeper : Current K → K → Current K
+  with_keeper now k = record now { world = record now.world { keeper = k } }
+
+  held_on : (old new : Current K) (db : Database) → Holds told old db → new ≡ with_keeper old new.world.keeper → Grew (told old.world.keeper) (told new.world.keeper) [] → Holds told new db
+  held_on old new db h same kept =
+      subst (λ c. Holds told c db) (sym same)
+      (holds_on told old (with_keeper old new.world.keeper) db h refl refl refl db refl h.reached (record {
+        data_is = h.seated.data_is;
+        used_is = omega (arith, kept.used, h.seated.used_is);
+        storable = h.seated.storable;
+        sit = h.seated.sit;
+      }))
+
+  pub not_carried : (old new : Current K) (db : Database) (out : Result CatalogueRecord Code) (f : Failure) → Holds told old db → new ≡ with_keeper old new.world.keeper
+      → KeepsOutcome (told old.world.keeper) (told new.world.keeper) (Err f) out (recorded out (used_by db.records)) → Carries told old new (Err f) db (recorded out (used_by db.records))
+  not_carried old new db out (Refused code) h same k = record { is = k; holds = held_on old new db h same k.kept }
+  not_carried old new db out (Halted why) h same k = k
+
+  -- there was no memory behind the record
+  pub carried_short : (old mid new : Current K) (db : Database) (out : Result CatalogueRecord Code) (u : Unit {0}) → new.world.keeper ≡ mid.world.keeper
+      → KeepsOutcome (told old.world.keeper) (told mid.world.keeper) (Ok u) out (recorded out (used_by db.records))
+      → GaveUp (told old.world.keeper) (told new.world.keeper) (recorded out (used_by db.records)).made why.NoMemory
+  carried_short old mid new db out u same k =
+      subst (λ x. GaveUp (told old.world.keeper) (told x) (recorded out (used_by db.records)).made why.NoMemory) (sym same)
+      (subst (λ m. GaveUp (told old.world.keeper) (told mid.world.keeper) m why.NoMemory) (sym k.2.made) (kept_stops _ _ _ k.2.kept))
+
+  module _ (old : Current K) (db : Database) (e : EditionNo) (sessions : List EditionNo) (what : Definition) (text : List ℕ) (h : Holds told old db) (fit : IsTextOf what text) where
+    defines_so : (r : CatalogueRecord) → outcome (lists_of db) e sessions what text ≡ Ok r → Defines db r
+    defines_so r is = defines db e sessions what text r fit.spelled fit.small is h.reached
+
+    pub makes_new : (mid : Current K) → mid ≡ with_keeper old mid.world.keeper → MakesNew mid e sessions what text
+    makes_new mid same = subst (λ c. MakesNew c e sessions what text) (sym same) (record {
+      lists = lists_of db;
+      is = h.catalogue_is;
+      new = λ r is. subst (λ d. IsNew d r) (sym h.seated.data_is) (defines_so r is).new;
+    })
+
+    -- it was carried out
+    pub carried : (mid new : Current K) (u : Unit {0}) → mid ≡ with_keeper old mid.world.keeper → new.world.keeper ≡ mid.world.keeper
+        → KeepsOutcome (told old.world.keeper) (told mid.world.keeper) (Ok u) (outcome (lists_of db) e sessions what text) (recorded (outcome (lists_of db) e sessions what text) (used_by db.records))
+        → ((r : CatalogueRecord) → outcome (lists_of db) e sessions what text ≡ Ok r → Applied (lists_of db) r mid new)
+        → IsMade told old new db (recorded (outcome (lists_of db) e sessions what text) (used_by db.records))
+    carried mid new u same keeper k applied =
+        let r = k.0 in
+        let m = defines_so r k.1 in
+        let a = applied r k.1 in
+        let grown = subst (λ x. Grew (told old.world.keeper) (told x) (record_of r ∷ [])) (sym keeper) k.2.kept in
+        let seats : new.seats.items ≡ old.seats.items = ap (λ v. v.items) (a.noticed.seats ∙ ap (λ (c : Current K). c.seats) same) in
+        let after : new.world.tx.contents ≡ with_table_of old.world.tx.contents r = a.noticed.tables ∙ ap (λ (c : Current K). with_table_of c.world.tx.contents r) same in
+        record {
+          definition = r;
+          is = record { made = k.2.made; value = k.2.value; kept = grown };
+          holds = record {
+            catalogue_is = a.catalogue ∙ ap kept (sym m.lists);
+            own_keys = subst HaveOwnKeys (sym m.lists) a.own_keys;
+            views_are = subst (λ c. AreCurrent c new.views) (sym m.lists) a.noticed.views;
+            books_are = subst (λ c. AreCurrent c new.world.book) (sym m.lists) a.noticed.books;
+            seated = subst (λ l. Seated (told new.world.keeper).used new.world.tx.contents l (with_definition_of db r)) (sym seats)
+                (seated_on r db (told old.world.keeper).used (told new.world.keeper).used old.world.tx.contents new.world.tx.contents old.seats.items m h.seated grown.used after);
+            reached = m.reached;
+          };
+        }
+
+  -- what holds behind a definition that was carried out
+  pub held_behind : (old new : Current K) (db : Database) (o : Recorded) (res : Result (Unit {0}) Failure) → Carries told old new res db o → OnOk res (HoldsSome told new)
+  held_behind old new db o (Ok u) m = record { database = with_definition_of db m.definition; holds = m.holds }
+  held_behind old new db o (Err f) m = tt
+
+  -- the outcome is that of the definition, where no other transaction holds the table
+  pub defined_on : (old new : Current K) (db : Database) (s : SessionId) (e d : EditionNo) (sessions : List EditionNo) (what : Definition) (text : List ℕ) (res : Result (Unit {0}) Failure) (c : Data) → c ≡ data_of db
+      → sessions ≡ editions_in_use db → false ≡ is_held c (own_of s) (table_changed (lists_of db) what) → d ≡ e → Carries told old new res db (recorded (outcome (lists_of db) e sessions what text) (used_by db.records))
+      → Carries told old new res db (recorded (defined (lists_of db) (data_of db) s d (editions_in_use db) what text) (used_by db.records))
+  defined_on old new db s e d sessions what text res c is in_use free same carries =
+      subst (λ o. Carries told old new res db (recorded o (used_by db.records)))
+      (ap (λ l. outcome (lists_of db) e l what text) in_use ∙ ap (λ k. outcome (lists_of db) k (editions_in_use db) what text) (sym same)
+      ∙ ap (λ b. if b then Err (Ora 54) else outcome (lists_of db) d (editions_in_use db) what text) (free ∙ ap (λ k. is_held k (own_of s) (table_changed (lists_of db) what)) is)) carries
+
+  pub held_by_other : (old : Current K) (db : Database) (s : SessionId) (d : EditionNo) (what : Definition) (text : List ℕ) → Holds told old db → true ≡ is_held old.world.tx.contents (own_of s) (table_changed (lists_of db) what)
+      → IsRefused told old old db (recorded (defined (lists_of db) (data_of db) s d (editions_in_use db) what text) (used_by db.records)) (Ora 54)
+  held_by_other old db s d what text h held =
+      subst (λ o. IsRefused told old old db (recorded o (used_by db.records)) (Ora 54))
+      (ap (λ b. if b then Err (Ora 54) else outcome (lists_of db) d (editions_in_use db) what text) (held ∙ ap (λ k. is_held k (own_of s) (table_changed (lists_of db) what)) h.seated.data_is))
+      (record { is = record { made = refl; value = refl; kept = grew_same (told old.world.keeper) }; holds = h })
+
+  -- ---- the reply
+
+  made_replied : (old mid new : Current K) (db : Database) (e : EditionNo) (what : Definition) (o : Recorded) (m : IsMade told old mid db o) (x : Result Answer Halt)
+      → AnswersIn told mid new x (with_definition_of db m.definition) (answer_in (View (lists_of (with_definition_of db m.definition)) e) what)
+      → Replies told old new x (defined_by db e what o)
+  made_replied old mid new db e what o m (Ok a) h = record {
+    answer = h.0 ∙ by m.definition o.made o.value m.is.made m.is.value;
+    kept = subst (λ l. Grew (told old.world.keeper) (told new.world.keeper) l) (sym m.is.made) (subst (λ k. Grew (told old.world.keeper) (told k) (record_of m.definition ∷ [])) (sym h.2) m.is.kept);
+    holds = subst (λ l. Holds told new (record db { records = db.records ++ l })) (sym m.is.made) h.1;
+  }
+    where
+      by : (r : CatalogueRecord) (l : List Record) (v : Result CatalogueRecord Code) → l ≡ record_of r ∷ [] → v ≡ Ok r
+          → answer_in (View (lists_of (with_definition_of db r)) e) what ≡ definition_answer (db.records ++ l) e what v
+      by r l v is told = ap (λ k. definition_answer (db.records ++ k) e what (Ok r)) (sym is) ∙ ap (definition_answer (db.records ++ l) e what) (sym told)
+  made_replied old mid new db e what o m (Err w) h =
+      subst (λ y. GaveUp (told old.world.keeper) (told new.world.keeper) o.made y) (sym h.0)
+      (subst (λ l. GaveUp (told old.world.keeper) (told new.world.keeper) l why.NoMemory) (sym m.is.made)
+      (subst (λ k. GaveUp (told old.world.keeper) (told k) (record_of m.definition ∷ []) why.NoMemory) (sym h.1) (kept_stops _ _ _ m.is.kept)))
+
+  pub replied_made : (old mid new : Current K) (db : Database) (e d : EditionNo) (what : Definition) (o : Recorded) (m : IsMade told old mid db o) (x : Result Answer Halt) → d ≡ e
+      → AnswersIn told mid new x (with_definition_of db m.definition) (answer_in (View (lists_of (with_definition_of db m.definition)) e) what)
+      → Replies told old new x (defined_by db d what o)
+  replied_made old mid new db e d what o m x same h = subst (λ k. Replies told old new x (defined_by db k what o)) (sym same) (made_replied old mid new db e what o m x h)
+
+  pub replied_refused : (old new : Current K) (db : Database) (d : EditionNo) (what : Definition) (o : Recorded) (code : Code) (a : Answer) → a ≡ answer.Refused code 0 [] → IsRefused told old new db o code
+      → IsReplied told old new a (defined_by db d what o)
+  replied_refused old new db d what o code a said r = record {
+    answer = said ∙ sym (ap (definition_answer (db.records ++ o.made) d what) r.is.value);
+    kept = subst (λ l. Grew (told old.world.keeper) (told new.world.keeper) l) (sym r.is.made) r.is.kept;
+    holds = subst (λ l. Holds told new (record db { records = l })) (sym (ap (λ l. db.records ++ l) r.is.made ∙ append-nil db.records)) r.holds;
+  }
+
+  -- ---- behind the commit
+
+  pub behind_on : (old mid new : Current K) (first next : Replied) (x : Result Answer Halt) → Grew (told old.world.keeper) (told mid.world.keeper) first.records → Replies told mid new x next
+      → Replies told old new x (behind first next)
+  behind_on old mid new first next (Ok a) g r = record { answer = r.answer; kept = grew_grew _ _ _ _ _ g r.kept; holds = r.holds }
+  behind_on old mid new first next (Err w) g r = grew_gave_up _ _ _ _ _ w g r
+
+  pub then_replied : (old mid new : Current K) (first : Replied) (next : Database → Replied) (x : Result Answer Halt) → IsReplied told old mid answer.Done first → Replies told mid new x (next first.database)
+      → Replies told old new x (then_reply first.answer first next)
+  then_replied old mid new first next x m r =
+      subst (λ a. Replies told old new x (then_reply a first next)) m.answer (behind_on old mid new first (next first.database) x m.kept r)
+
+  pub refused_first : (old new : Current K) (first : Replied) (next : Database → Replied) (code : Code) (a : Answer) → a ≡ answer.Refused code 0 [] → IsReplied told old new (answer.Refused code 0 []) first
+      → IsReplied told old new a (then_reply first.answer first next)
+  refused_first old new first next code a said m =
+      subst (λ k. IsReplied told old new a (then_reply k first next)) m.answer (subst (λ k. IsReplied told old new k first) (sym said) m)
+
+-- the session behind a commit
+at_is : (xs : List Session) (n : ℕ) → session_at xs n ≡ at xs n
+at_is xs zero = refl
+at_is xs (suc n) = refl
+
+same_edition : (b : Bool) (x : Session) → (at_end b x).edition ≡ x.edition
+same_edition true x = refl
+same_edition false x = refl
+
+abbrev pub committed : Database → SessionId → Session → Session
+committed db s x = at_end (own_on_top (data_of db) s && done_by (commit (on_top db s) (base_in db)).value) x
+
+pub committed_there : {K : Type 0} (told : K → Keeper) (db : Database) (s : SessionId) (e : EditionNo) (x : Session) → HasSession told db s e x → HasSession told (reply_commit db s x).database s e (committed db s x)
+committed_there told db s e x has = record {
+  there = at_is (slice_set db.sessions (s.0 - 1) (committed db s x)) s.0 ∙ at_here db.sessions s.0 x (committed db s x) (sym (at_is db.sessions s.0) ∙ has.there);
+  edition = same_edition (own_on_top (data_of db) s && done_by (commit (on_top db s) (base_in db)).value) x ∙ has.edition;
+}
+
+gave_up_then : (a b : Keeper) (first : Replied) (next : Database → Replied) (x : Answer) (w : Halt) → GaveUp a b first.records w → GaveUp a b (then_reply x first next).records w
+gave_up_then a b first next answer.Done w h = gave_up_more a b _ _ w h
+gave_up_then a b first next x w h = h
+
+pub gave_up_first : (a b : Keeper) (first : Replied) (next : Database → Replied) (w : Halt) → GaveUp a b first.records w → GaveUp a b (then_reply first.answer first next).records w
+gave_up_first a b first next w h = gave_up_then a b first next first.answer w h

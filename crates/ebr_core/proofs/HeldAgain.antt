@@ -1,0 +1,99 @@
+-- What the engine holds after an ask that leaves the catalogue as it is.
+use Rattle.std.proofs.Common.{◌≡◌, ℕ, ◌≤◌, List, [], ◌∷◌, ◌++◌, refl, sym, ap, subst, ◌∙◌, append-nil, inl}
+use Rattle.std.specs.Prelude.{Option, Some, None, Result, Ok, Err}
+use Rattle.std.specs.List.{AllByRecursion}
+use Rattle.ebr_base.specs.declared.code.Code.{Code}
+use Rattle.ebr_base.specs.declared.code.Stop.{Stop}
+use Rattle.ebr_base.specs.declared.code.Stop.TheVariants as stop
+use Rattle.ebr_base.specs.declared.numbers.EditionNo.{EditionNo}
+use Rattle.ebr_base.specs.declared.numbers.SessionId.{SessionId}
+use Rattle.ebr_asks.specs.declared.answer.Answer.{Answer}
+use Rattle.ebr_cross.specs.Catalogue.{HaveOwnKeys, kept}
+use Rattle.ebr_record.specs.Keeper.{Keeper}
+use Rattle.ebr_record.specs.declared.record.Record.{Record}
+use Rattle.ebr_database.specs.declared.failure.Failure.{Failure}
+use Rattle.ebr_database.specs.declared.failure.Failure.TheVariants as failure
+use Rattle.ebr_database.specs.declared.failure.Halt.{Halt}
+use Rattle.ebr_database.specs.declared.failure.Halt.TheVariants as halt
+use Rattle.ebr_database.specs.Shows.{Grew, GaveUp}
+use Rattle.ebr_database.specs.Database.{Session, Database, Replied, session_at, as_answer}
+use Rattle.ebr_database.proofs.Keeping.{grew_same, stays}
+use Rattle.ebr_seats.specs.Seats.{Finishes, Goes, Leaves, LeavesOr, Holds as Seated, IsHeld as IsSeatHeld}
+use Rattle.ebr_units.specs.Living.{AreCurrent}
+use Rattle.ebr_core.specs.declared.current.Current.{Current}
+use Rattle.ebr_core.specs.Machine.{lists_of}
+use Rattle.ebr_core.specs.Records.{catalogue_of}
+use Rattle.ebr_core.specs.inside.Reached.{AreReached, IsCommit}
+use Rattle.ebr_core.specs.inside.Held.{Holds, HasSession, IsHeld, IsReplied, Replies, answered, failed, refused_by}
+use Rattle.ebr_core.proofs.MadeRecords.{same_lists, reached_commits}
+use Rattle.ebr_core.proofs.ReachedRecords.{reached_same}
+
+module _ {K : Type 0} (told : K → Keeper) where
+  pub seat_held : (now : Current K) (s : SessionId) → IsHeld told now s → IsSeatHeld now.world.tx.contents now.seats.items s
+  seat_held now s h = record { used = (told now.world.keeper).used; database = h.database; session = h.session; holds = h.holds.seated; there = h.has.there }
+
+  module _ (old new : Current K) (db : Database) (h : Holds told old db) (catalogue : new.world.catalogue ≡ old.world.catalogue) (views : new.views ≡ old.views) (books : new.world.book ≡ old.world.book) where
+    pub holds_on : (db' : Database) → catalogue_of db'.records ≡ catalogue_of db.records → AreReached db'.records
+        → Seated (told new.world.keeper).used new.world.tx.contents new.seats.items db' → Holds told new db'
+    holds_on db' same reached seated = record {
+      catalogue_is = catalogue ∙ h.catalogue_is ∙ ap kept (sym same);
+      own_keys = subst HaveOwnKeys (sym same) h.own_keys;
+      views_are = subst (λ c. AreCurrent c new.views) (sym same) (subst (AreCurrent (lists_of db)) (sym views) h.views_are);
+      books_are = subst (λ c. AreCurrent c new.world.book) (sym same) (subst (AreCurrent (lists_of db)) (sym books) h.books_are);
+      seated = seated;
+      reached = reached;
+    }
+
+    module _ (r : Replied) (grown : r.database.records ≡ db.records ++ r.records) where
+      pub goes_on : AllByRecursion IsCommit r.records → (a : Answer) → Goes (told old.world.keeper) (told new.world.keeper) new.world.tx.contents new.seats.items a r → IsReplied told old new a r
+      goes_on commits a g = record {
+        answer = g.answer;
+        kept = g.kept;
+        holds = holds_on r.database (ap catalogue_of grown ∙ same_lists db.records r.records commits)
+            (subst AreReached (sym grown) (reached_commits db.records r.records commits h.reached)) g.holds;
+      }
+
+      pub leaves_on : new.world.keeper ≡ old.world.keeper → (a : Answer) → Leaves (told old.world.keeper).used new.world.tx.contents new.seats.items a r → IsReplied told old new a r
+      leaves_on keeper a g =
+          let same : r.database.records ≡ db.records = grown ∙ ap (λ l. db.records ++ l) g.none ∙ append-nil db.records in
+          record {
+            answer = g.answer;
+            kept = subst (λ l. Grew (told old.world.keeper) (told new.world.keeper) l) (sym g.none) (subst (λ k. Grew (told old.world.keeper) (told k) []) (sym keeper) (grew_same (told old.world.keeper)));
+            holds = holds_on r.database (ap catalogue_of same) (subst AreReached (sym same) h.reached)
+                (subst (λ k. Seated (told k).used new.world.tx.contents new.seats.items r.database) (sym keeper) g.holds);
+          }
+
+      pub finishes_on : AllByRecursion IsCommit r.records → (done : Result (Unit {0}) Failure) → Finishes (told old.world.keeper) (told new.world.keeper) new.world.tx.contents new.seats.items done r → Replies told old new (answered done) r
+      finishes_on commits (Ok u) f = goes_on commits _ f
+      finishes_on commits (Err (failure.Refused code)) f = goes_on commits _ f
+      finishes_on commits (Err (failure.Halted why)) f = f
+
+      module _ (keeper : new.world.keeper ≡ old.world.keeper) where
+        none_left : GaveUp (told old.world.keeper) (told new.world.keeper) r.records halt.NoMemory
+        none_left = subst (λ k. GaveUp (told old.world.keeper) (told k) r.records halt.NoMemory) (sym keeper) (stays (told old.world.keeper) r.records)
+
+        pub may_fail : (done : Result (Unit {0}) Stop) (res : Result (Unit {0}) Failure) → res ≡ failed done → LeavesOr (told old.world.keeper).used new.world.tx.contents new.seats.items done r → Replies told old new (answered res) r
+        may_fail done res is l = subst (λ x. Replies told old new (answered x) r) (sym is) (by done l)
+          where
+            by : (done : Result (Unit {0}) Stop) → LeavesOr (told old.world.keeper).used new.world.tx.contents new.seats.items done r → Replies told old new (answered (failed done)) r
+            by (Ok u) l = leaves_on keeper _ l
+            by (Err (stop.Raised code)) l = leaves_on keeper _ l
+            by (Err stop.NoMemory) l = none_left
+
+        pub may_refuse : (done : Result (Unit {0}) Code) (res : Result (Unit {0}) Failure) → res ≡ refused_by done → Leaves (told old.world.keeper).used new.world.tx.contents new.seats.items (as_answer done) r → Replies told old new (answered res) r
+        may_refuse done res is l = subst (λ x. Replies told old new (answered x) r) (sym is) (by done l)
+          where
+            by : (done : Result (Unit {0}) Code) → Leaves (told old.world.keeper).used new.world.tx.contents new.seats.items (as_answer done) r → Replies told old new (answered (refused_by done)) r
+            by (Ok u) l = leaves_on keeper _ l
+            by (Err code) l = leaves_on keeper _ l
+
+  -- a view more is kept
+  pub viewed : (old new : Current K) (db : Database) → Holds told old db → new.world ≡ old.world → new.seats ≡ old.seats → AreCurrent (lists_of db) new.views → Holds told new db
+  viewed old new db h world seats views = record {
+    catalogue_is = ap (λ w. w.catalogue) world ∙ h.catalogue_is;
+    own_keys = h.own_keys;
+    views_are = views;
+    books_are = subst (λ w. AreCurrent (lists_of db) w.book) (sym world) h.books_are;
+    seated = subst (λ w. Seated (told w.keeper).used w.tx.contents new.seats.items db) (sym world) (subst (λ l. Seated (told old.world.keeper).used old.world.tx.contents l.items db) (sym seats) h.seated);
+    reached = h.reached;
+  }

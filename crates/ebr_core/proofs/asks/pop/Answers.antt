@@ -1,0 +1,9 @@
+use Rattle.std.proofs.Common.{refl}
+use Rattle.ebr_database.specs.Database.{reply_pop}
+use Rattle.ebr_core.proofs.HeldAgain.{may_refuse}
+use Rattle.ebr_core.proofs.asks.pop.Goals as goal
+
+pub returns : goal.returns
+returns g c = λ db e x h has.
+    may_refuse g.K.Keep.told c.args.current.now _ db h refl refl refl (reply_pop db c.args.s x c.args.failed) refl refl c.pop_top.result _ c.refused_by.ensures
+    (c.pop_top.ensures (g.K.Keep.told c.args.current.now.world.keeper).used db x h.seated has.there)

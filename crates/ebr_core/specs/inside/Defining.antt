@@ -1,0 +1,109 @@
+-- What the calls that carry out a definition leave.
+use Rattle.std.specs.Prelude.{◌≡◌, ℕ, List, [], ◌∷◌, Result, Ok, Err}
+use Rattle.ebr_base.specs.declared.code.Code.{Code}
+use Rattle.ebr_base.specs.declared.numbers.EditionNo.{EditionNo}
+use Rattle.ebr_ast.specs.declared.definition.Definition.{Definition}
+use Rattle.ebr_asks.specs.declared.answer.Answer.{Answer}
+use Rattle.ebr_cross.specs.declared.record.CatalogueRecord.{CatalogueRecord}
+use Rattle.ebr_cross.specs.Catalogue.{Lists, HaveOwnKeys, kept}
+use Rattle.ebr_cross.specs.Definitions.{outcome}
+use Rattle.ebr_cross.specs.Records.{with_record}
+use Rattle.ebr_record.specs.declared.record.Record.{Record}
+use Rattle.ebr_record.specs.Keeper.{Keeper, used_by}
+use Rattle.ebr_database.specs.declared.failure.Failure.{Failure}
+use Rattle.ebr_database.specs.declared.failure.Failure.TheVariants.{Refused, Halted}
+use Rattle.ebr_database.specs.declared.failure.Halt.{Halt}
+use Rattle.ebr_database.specs.declared.failure.Halt.TheVariants as why
+use Rattle.ebr_database.specs.Outcome.{Outcome}
+use Rattle.ebr_database.specs.Shows.{Grew, GaveUp}
+use Rattle.ebr_database.specs.Database.{Database}
+use Rattle.ebr_units.specs.Living.{AreCurrent}
+use Rattle.ebr_core.specs.declared.current.Current.{Current}
+use Rattle.ebr_core.specs.Machine.{recorded}
+use Rattle.ebr_core.specs.Records.{record_of}
+use Rattle.ebr_core.specs.inside.Defined.{IsNew, with_definition_of}
+use Rattle.ebr_core.specs.inside.Tables.{with_table_of}
+use Rattle.ebr_core.specs.inside.Held.{Holds}
+
+-- the record that a definition makes, or what refuses it
+abbrev pub record_made : Result CatalogueRecord Code → Result Record Code
+record_made (Ok r) = Ok (record_of r)
+record_made (Err code) = Err code
+
+-- What a definition is recorded as: by the outcome that the catalogue tells, where the records take so many bytes.
+abbrev pub Recorded : Type 0
+Recorded = Outcome ℕ (Result CatalogueRecord Code)
+
+-- The record was kept.
+pub record IsKept (old new : Keeper) (o : Recorded) (r : CatalogueRecord) : Type 0 where
+  pub made : o.made ≡ record_of r ∷ []
+  pub value : o.value ≡ Ok r
+  pub kept : Grew old new (record_of r ∷ [])
+
+-- Nothing was kept.
+pub record NotKept (old new : Keeper) (o : Recorded) (code : Code) : Type 0 where
+  pub made : o.made ≡ []
+  pub value : o.value ≡ Err code
+  pub kept : Grew old new []
+
+-- by what the keeping of an outcome's record answers
+abbrev pub KeepsOutcome : Keeper → Keeper → Result (Unit {0}) Failure → Result CatalogueRecord Code → Recorded → Type 0
+KeepsOutcome old new (Ok u) out o = (r : CatalogueRecord) × (out ≡ Ok r) × IsKept old new o r
+KeepsOutcome old new (Err (Refused code)) out o = NotKept old new o code
+KeepsOutcome old new (Err (Halted why)) out o = GaveUp old new o.made why
+
+module _ {K : Type 0} where
+  -- A table that a definition would make wasn't added before.
+  pub record MakesNew (now : Current K) (e : EditionNo) (sessions : List EditionNo) (what : Definition) (text : List ℕ) : Type 0 where
+    pub lists : Lists
+    pub is : now.world.catalogue ≡ kept lists
+    pub new : (r : CatalogueRecord) → outcome lists e sessions what text ≡ Ok r → IsNew now.world.tx.contents r
+
+  -- The views, the books and the tables are those behind a definition.
+  pub record Noticed (lists : Lists) (r : CatalogueRecord) (old new : Current K) : Type 0 where
+    pub views : AreCurrent (with_record lists r) new.views
+    pub books : AreCurrent (with_record lists r) new.world.book
+    pub tables : new.world.tx.contents ≡ with_table_of old.world.tx.contents r
+    pub seats : new.seats ≡ old.seats
+
+  -- The catalogue is so too.
+  pub record Applied (lists : Lists) (r : CatalogueRecord) (old new : Current K) : Type 0 where
+    pub catalogue : new.world.catalogue ≡ kept (with_record lists r)
+    pub own_keys : HaveOwnKeys (with_record lists r)
+    pub noticed : Noticed lists r old new
+
+  -- This is so of whichever lists are held.
+  abbrev pub ForLists : Current K → (Lists → Type 0) → Type 0
+  ForLists now P = (lists : Lists) → HaveOwnKeys lists → AreCurrent lists now.views → AreCurrent lists now.world.book → now.world.catalogue ≡ kept lists → P lists
+
+module _ {K : Type 0} (told : K → Keeper) where
+  -- This is so of whichever database is held.
+  abbrev pub ForHeld : Current K → (Database → Type 0) → Type 0
+  ForHeld now P = (db : Database) → Holds told now db → P db
+
+  -- There is such a database.
+  pub record HoldsSome (now : Current K) : Type 0 where
+    pub database : Database
+    pub holds : Holds told now database
+
+  -- The definition was carried out, and its record kept.
+  pub record IsMade (old new : Current K) (db : Database) (o : Recorded) : Type 0 where
+    pub definition : CatalogueRecord
+    pub is : IsKept (told old.world.keeper) (told new.world.keeper) o definition
+    pub holds : Holds told new (with_definition_of db definition)
+
+  -- It was refused, and nothing is another.
+  pub record IsRefused (old new : Current K) (db : Database) (o : Recorded) (code : Code) : Type 0 where
+    pub is : NotKept (told old.world.keeper) (told new.world.keeper) o code
+    pub holds : Holds told new db
+
+  -- by what the carrying out answers
+  abbrev pub Carries : Current K → Current K → Result (Unit {0}) Failure → Database → Recorded → Type 0
+  Carries old new (Ok u) db o = IsMade old new db o
+  Carries old new (Err (Refused code)) db o = IsRefused old new db o code
+  Carries old new (Err (Halted why)) db o = GaveUp (told old.world.keeper) (told new.world.keeper) o.made why
+
+  -- This is answered, or there was no memory; the keeper wasn't asked.
+  abbrev pub AnswersIn : Current K → Current K → Result Answer Halt → Database → Answer → Type 0
+  AnswersIn old new (Ok a) db wanted = (a ≡ wanted) × Holds told new db × (new.world.keeper ≡ old.world.keeper)
+  AnswersIn old new (Err w) db wanted = (w ≡ why.NoMemory) × (new.world.keeper ≡ old.world.keeper)
