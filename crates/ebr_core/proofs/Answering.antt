@@ -142,6 +142,9 @@ module _ {K : Type 0} (told : K → Keeper) where
       let e : b ≡ is_some (session_edition (database_of (state_of told p)) s) = is ∙ ap (λ bs. lives_at bs s.0) h.living ∙ lives_is (database_of (state_of told p)).sessions s.0 in
       (λ yes. sym e ∙ yes, λ yes. e ∙ yes)
 
+true_false : true ≡ false → ⊥
+true_false e = cc
+
 -- ---- the parts with one entry more
 
 module _ {K : Type 0} (told : K → Keeper) where
@@ -207,14 +210,16 @@ module _ {K : Type 0} (told : K → Keeper) where
 
       answers_by : (ask : Ask) (y : Answer) → x ≡ entry_of s ask y → IsSound told new → ((r : SessionId) → (r.0 ≡ s.0 → ⊥) → lives_at old.living.items r.0 ≡ true → lives_at living r.0 ≡ true)
           → (y ≢ answer.Stopped → ask ≢ Leave → lives_at living s.0 ≡ true) → HasLegalHistory (state_of told new) → HasBook y book
+          → (ask ≡ Leave → has_given_up old.history.items ≡ false → y ≡ answer.Done)
           → Gives told (has_given_up old.history.items) old.current.world.keeper new.current.world.keeper y (Reply db s ask) → Answers told (state_of told old) (state_of told new) s ask y
-      answers_by ask y same sound others stays legal has gives = record {
+      answers_by ask y same sound others stays legal has leaves gives = record {
         entry = a.entry ∙ ap (λ e. old.history.items ++ e ∷ []) same;
         legal = legal;
         sessions = same_len;
         book = book;
         books = a.books ∙ placed old.books.items s.0 book first_place;
         has_book = has;
+        leaves = leaves;
         others = λ r differ is. lives_after sound r (others r differ (was_live r is));
         stays = λ y' stays'. lives_after sound s (stays y' stays');
         gives = gives;
@@ -273,7 +278,7 @@ module _ {K : Type 0} (told : K → Keeper) where
 
       pub stop_answers : (ask : Ask) (y : Answer) → y ≡ answer.Stopped → Answers told (state_of told old) (state_of told new) s ask y
       stop_answers ask y same = subst (λ y. Answers told (state_of told old) (state_of told new) s ask y) (sym same)
-          (answers_by new _ None _ es left_len ask answer.Stopped refl stop_sound left_others (λ y' stays. absurd (y' refl)) (whole new _ None _ es left_len AllStopped stays_stopped.legal tt) refl
+          (answers_by new _ None _ es left_len ask answer.Stopped refl stop_sound left_others (λ y' stays. absurd (y' refl)) (whole new _ None _ es left_len AllStopped stays_stopped.legal tt) refl (λ q gave. absurd (true_false (sym (given_before true is) ∙ gave)))
           (subst (λ b. Gives told b old.current.world.keeper new.current.world.keeper answer.Stopped (Reply db s ask)) (sym (given_before true is))
           (refl, ap (λ (c : Current K). c.world.keeper) current)))
 
@@ -304,10 +309,10 @@ module _ {K : Type 0} (told : K → Keeper) where
         }
 
         pub reply_answers : ((r : SessionId) → (r.0 ≡ s.0 → ⊥) → lives_at old.living.items r.0 ≡ true → lives_at living r.0 ≡ true) → (y ≢ answer.Stopped → ask ≢ Leave → lives_at living s.0 ≡ true)
-            → entry s ask y ≡ entry_of s ask y → HasBook y book → IsAnswer y (Reply db s ask) (told old.current.world.keeper) (told new.current.world.keeper)
+            → entry s ask y ≡ entry_of s ask y → HasBook y book → (ask ≡ Leave → has_given_up old.history.items ≡ false → y ≡ answer.Done) → IsAnswer y (Reply db s ask) (told old.current.world.keeper) (told new.current.world.keeper)
             → Answers told (state_of told old) (state_of told new) s ask y
-        reply_answers others stays same has answers =
-            answers_by new _ book living e len ask y same reply_sound others stays (whole new _ book living e len Legal goes_legal tt) has
+        reply_answers others stays same has leaves answers =
+            answers_by new _ book living e len ask y same reply_sound others stays (whole new _ book living e len Legal goes_legal tt) has leaves
             (subst (λ b. Gives told b old.current.world.keeper new.current.world.keeper y (Reply db s ask)) (sym (given_before false is)) answers)
 
       -- a session leaves
@@ -327,7 +332,7 @@ module _ {K : Type 0} (told : K → Keeper) where
 
         pub leave_answers : (y : Answer) → y ≡ answer.Done → Answers told (state_of told old) (state_of told new) s Leave y
         leave_answers y same = subst (λ y. Answers told (state_of told old) (state_of told new) s Leave y) (sym same)
-            (reply_answers Leave answer.Done None _ (entered new _ None _ a) left_len r refl left_room a.stopped left_is left_others (λ y' stays. absurd (stays refl)) refl refl (r.answer, r.kept))
+            (reply_answers Leave answer.Done None _ (entered new _ None _ a) left_len r refl left_room a.stopped left_is left_others (λ y' stays. absurd (stays refl)) refl refl (λ q gave. refl) (r.answer, r.kept))
 
       -- another ask, with room made before
       module _ (mid : Parts K) (k : Keeps told old mid) (ask : Ask) (stays : ask ≢ Leave) where
@@ -365,7 +370,7 @@ module _ {K : Type 0} (told : K → Keeper) where
           pub asked_answers : Answers told (state_of told old) (state_of told new) s ask y
           asked_answers =
               reply_answers ask y book old.living.items on_old refl replied (is_no_last ask y replies) enough_room (a.stopped ∙ k.stopped) same_lives
-              (λ r' differ is'. is') (λ y' stays'. lives_s) (entry_is s ask y replies) (has_book ask y book replies comes) (is_answer ask y (Reply db s ask) _ _ replies r.answer replied.kept)
+              (λ r' differ is'. is') (λ y' stays'. lives_s) (entry_is s ask y replies) (has_book ask y book replies comes) (λ q gave. absurd (stays q)) (is_answer ask y (Reply db s ask) _ _ replies r.answer replied.kept)
 
         -- it gives up
         module _ (why : Halt) (g : GivesUp told mid new s (entry s ask (last_answer why))) (current : new.current ≡ mid.current)
@@ -402,6 +407,6 @@ module _ {K : Type 0} (told : K → Keeper) where
 
           pub last_answers : (y : Answer) → y ≡ last_answer why → Answers told (state_of told old) (state_of told new) s ask y
           last_answers y same = subst (λ y. Answers told (state_of told old) (state_of told new) s ask y) (sym same)
-              (answers_by new _ None _ on_last refl ask (last_answer why) (last_entry s ask why) last_sound (λ r' differ is'. is') (λ y' stays'. lives_s) (whole new _ None _ on_last refl AllStopped last_legal tt) (last_book why)
+              (answers_by new _ None _ on_last refl ask (last_answer why) (last_entry s ask why) last_sound (λ r' differ is'. is') (λ y' stays'. lives_s) (whole new _ None _ on_last refl AllStopped last_legal tt) (last_book why) (λ q gave. absurd (stays q))
               (subst (λ b. Gives told b old.current.world.keeper new.current.world.keeper (last_answer why) (Reply db s ask)) (sym (given_before false is))
               (is_last_answer why (Reply db s ask) _ _ (runs is).goes (subst (λ (c : Current K). GaveUp (told old.current.world.keeper) (told c.world.keeper) (Reply db s ask).records why) (sym current) up))))

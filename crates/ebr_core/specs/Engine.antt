@@ -6,7 +6,7 @@ use Rattle.ebr_ast.specs.Views.{IsInOrder}
 use Rattle.ebr_asks.specs.declared.ask.Ask.{Ask}
 use Rattle.ebr_asks.specs.declared.ask.Ask.TheVariants.{Leave}
 use Rattle.ebr_asks.specs.declared.answer.Answer.{Answer}
-use Rattle.ebr_asks.specs.declared.answer.Answer.TheVariants.{View, DiskFault, NoMemory, Stopped}
+use Rattle.ebr_asks.specs.declared.answer.Answer.TheVariants.{View, Done, DiskFault, NoMemory, Stopped}
 use Rattle.ebr_asks.specs.declared.entry.Entry.{Entry}
 use Rattle.ebr_laws.specs.Served.{HasCodeOf}
 use Rattle.ebr_record.specs.Keeper.{Keeper, used_by}
@@ -96,8 +96,8 @@ abbrev pub Gives : {K : Type 0} → (K → Keeper) → Bool → K → K → Answ
 Gives told false old new a r = IsAnswer a r (told old) (told new)
 Gives told true old new a r = (a ≡ Stopped) × (new ≡ old)
 
--- What comes of an ask: its answer and one entry, in a history that is legal with it. Other sessions that live stay so, and the
--- session itself unless it leaves or is answered Stopped.
+-- What comes of an ask: its answer and one entry, in a history that is legal with it. Leave always finds its memory. Other sessions
+-- that live stay so, and the session itself unless it leaves or is answered Stopped.
 pub record Answers {K : Type 0} (told : K → Keeper) (old new : EngineState K) (s : SessionId) (ask : Ask) (a : Answer) : Type 0 where
   pub entry : new.history ≡ old.history ++ entry_of s ask a ∷ []
   pub legal : HasLegalHistory new
@@ -105,6 +105,7 @@ pub record Answers {K : Type 0} (told : K → Keeper) (old new : EngineState K) 
   pub book : Option EditionView
   pub books : new.books ≡ with_book old.books s.0 book
   pub has_book : HasBook a book
+  pub leaves : ask ≡ Leave → has_given_up old.history ≡ false → a ≡ Done
   pub others : (r : SessionId) → (r.0 ≡ s.0 → ⊥) → IsLive (database_of old) r → IsLive (database_of new) r
   pub stays : a ≢ Stopped → ask ≢ Leave → IsLive (database_of new) s
   pub gives : Gives told (has_given_up old.history) old.keeper new.keeper a (Reply (database_of old) s ask)
