@@ -44,6 +44,22 @@ procedures() {
     }'
 }
 
+# rows COUNT KIND: a table of three columns with a key; its rows by a block, or each by a statement and a commit; and behind the
+# block an UPDATE or a SELECT of all, or a loop over them
+rows() {
+    awk -v count="$1" -v kind="$2" 'BEGIN {
+        print "CREATE TABLE t (id NUMBER PRIMARY KEY, v VARCHAR2(30), n NUMBER);"
+        if (kind == "statements") {
+            for (i = 1; i <= count; i++) printf "INSERT INTO t VALUES (%d, \047text of a row\047, %d);\nCOMMIT;\n", i, i
+            exit
+        }
+        printf "BEGIN FOR i IN 1 .. %d LOOP INSERT INTO t VALUES (i, \047text of a row\047, i); END LOOP; COMMIT; END;\n/\n", count
+        if (kind == "update") print "UPDATE t SET n = n + 1;\nCOMMIT;"
+        if (kind == "select") print "SELECT * FROM t;"
+        if (kind == "loop") print "DECLARE s NUMBER := 0; BEGIN FOR r IN (SELECT * FROM t) LOOP s := s + r.n; END LOOP; DBMS_OUTPUT.PUT_LINE(s); END;\n/"
+    }'
+}
+
 script() {
     case $2 in
         sum) repeated "$1" 'SELECT 1' ' + b' ' FROM t;' ;;
@@ -81,3 +97,25 @@ for kind in made called_after called_at_once; do
     done
     echo ' |'
 done
+
+# kinds SIZES KINDS: a line for each kind
+kinds() {
+    for kind in $2; do
+        printf '| %s' "$kind"
+        for count in $1; do
+            rows "$count" "$kind" >"$work/$kind.sql"
+            printf ' | %s' "$(measured "$work/$kind.sql")"
+        done
+        echo ' |'
+    done
+}
+
+echo
+echo '| Script | 10,000 rows | 20,000 rows |'
+echo '|---|---|---|'
+kinds '10000 20000' 'block update select loop'
+
+echo
+echo '| Script | 500 rows | 1,000 rows | 2,000 rows |'
+echo '|---|---|---|---|'
+kinds '500 1000 2000' statements

@@ -1,9 +1,6 @@
-pub mod Records
-pub mod Replies
-pub mod Histories
+pub mod Answering
 pub mod ReadBytes
 pub mod Additions
 pub mod Outputs
 pub mod Turns
 pub mod Outcomes
-pub mod NextViews

@@ -13,9 +13,8 @@ use Rattle.ebr_asks.specs.declared.answer.Answer.{Answer}
 use Rattle.ebr_session.specs.declared.next.NextAsk.{NextAsk}
 use Rattle.ebr_session.specs.declared.next.NextAsk.TheVariants as next
 use Rattle.ebr_session.specs.Has.{Advances, Follows, IsPrefix, Progress, answered, ends, quitting}
-use Rattle.ebr_server.specs.declared.engine.Engine.{Engine}
 use Rattle.ebr_server.specs.declared.exit.ExitCode.{ExitCode}
-use Rattle.ebr_server.specs.inside.Engine.{Answers}
+use Rattle.ebr_server.specs.inside.Engine.{Answers, Engine}
 use Rattle.ebr_server.specs.inside.Work.{Work}
 use Rattle.ebr_server.specs.inside.Worker.{Advanced, Asked, Flushed, code_of}
 

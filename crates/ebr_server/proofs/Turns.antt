@@ -18,14 +18,12 @@ use Rattle.ebr_calls.specs.Courses.{AllContinue}
 use Rattle.ebr_session.specs.declared.next.NextAsk.TheVariants as next
 use Rattle.ebr_session.specs.Has.{Follows, HasAsked, HasPrinted, IsFit, IsPrefix, Made, Progress, WentOn, answered, answers, asks, begun, ends, exchange, printed_before, quitting, run_of, stops}
 use Rattle.ebr_session.specs.Sessions.{SessionRun, Printed}
-use Rattle.ebr_server.specs.declared.engine.Engine.{Engine}
 use Rattle.ebr_server.specs.declared.exit.ExitCode.{ExitCode}
 use Rattle.ebr_server.specs.declared.exit.ExitCode.TheVariants as code
-use Rattle.ebr_server.specs.Machine.{the_session}
-use Rattle.ebr_server.specs.History.{Mine, EndsRun, is_of}
-use Rattle.ebr_server.specs.History.{exchange as exchange_of}
-use Rattle.ebr_server.specs.Program.{HasRun, Quit, Ran, RanOut, RanToEnd, Session, printed_before_last}
-use Rattle.ebr_server.specs.inside.Engine.{IsNoFault, IsOpen, entries, entry_of}
+use Rattle.ebr_core.specs.History.{Mine, is_of}
+use Rattle.ebr_core.specs.History.{exchange as exchange_of}
+use Rattle.ebr_server.specs.Program.{EndsRun, HasRun, Quit, Ran, RanOut, RanToEnd, Session, printed_before_last, the_session}
+use Rattle.ebr_server.specs.inside.Engine.{Engine, IsOpen, entry_of}
 use Rattle.ebr_server.specs.inside.Work.{Work}
 use Rattle.ebr_server.specs.inside.Worker.{Advanced, Asked, Came, Flushed, Left, MayLeave, Turned, Works, code_of}
 
@@ -67,7 +65,7 @@ Ran-same script script' mine mine' quit quit' p p' a b c d ran =
 went_on_so : (s : Progress) → Follows s → s.ended ≡ false → AllContinue (answers s.transcript)
 went_on_so s f runs = (subst (λ b. WentOn b s) runs f.went_on).0
 
-pub begins : (id : SessionId) (script : List ℕ) (w : Work) (e : Engine) → w.session ≡ begun id script → Follows w.session → w.written ≡ [] → entries e ≡ [] → IsOpen e → Works w e
+pub begins : (id : SessionId) (script : List ℕ) (w : Work) (e : Engine) → w.session ≡ begun id script → Follows w.session → w.written ≡ [] → e.history ≡ [] → IsOpen e → Works w e
 begins id script w e is f none empty open_yet = record {
   goes_on = ap (λ (s : Progress). s.ended) is;
   no_quit = ap (λ (s : Progress). s.quit) is;
@@ -86,7 +84,7 @@ pub record Asking (q : Ask) (s : Progress) (e : Engine) : Type 0 where
   pub no_quit : s.quit ≡ None
   pub out : s.out ≡ Some q
   pub follows : Follows s
-  pub mine : s.transcript ≡ Mine (entries e) the_session
+  pub mine : s.transcript ≡ Mine e.history the_session
   pub is_open : IsOpen e
   pub fit : IsFit q
 
@@ -119,7 +117,7 @@ record Last (script : List ℕ) (before mine : List Exchange) (q : Ask) (x : Ans
   pub went_on : AllContinue (answers before)
   pub ran : Ran script mine None replies
   pub leaves : q ≡ ask.Leave → x ≡ answer.Done
-  pub no_fault : IsNoFault x
+  pub no_fault : x ≢ answer.DiskFault
 
 ran_out : (script : List ℕ) (before mine : List Exchange) (q : Ask) (x : Answer) (replies : List ℕ) → EndsRun x → Last script before mine q x replies → RanOut script mine replies
 ran_out script before mine q x replies over l = record {
@@ -129,7 +127,7 @@ ran_out script before mine q x replies over l = record {
   last = l.is;
   went_on = l.went_on;
   ends = over;
-  no_fault = λ is. subst IsNoFault is l.no_fault;
+  no_fault = l.no_fault;
   ran = l.ran;
 }
 
@@ -144,7 +142,7 @@ ran_to_end script before mine q x replies on over l =
 
 ended_by : (script : List ℕ) (before mine : List Exchange) (q : Ask) (x : Answer) (h : List Entry) (replies : List ℕ) → mine ≡ Mine h the_session → ends q x ≡ true → Last script before mine q x replies
     → HasRun (code_of x) × Session (code_of x) script h replies
-ended_by script before mine q answer.DiskFault h replies is over l = absurd l.no_fault
+ended_by script before mine q answer.DiskFault h replies is over l = absurd (l.no_fault refl)
 ended_by script before mine q answer.NoMemory h replies is over l =
     (tt, inr (inr (subst (λ m. RanOut script m replies) is (ran_out script before mine q answer.NoMemory replies tt l))))
 ended_by script before mine q answer.Stopped h replies is over l =
@@ -165,10 +163,10 @@ module _ (q : Ask) (c : Option ExitCode) (old new : Work) (e e' : Engine) (was :
   quit_is : new.session.quit ≡ None
   quit_is = ap (λ (s : Progress). s.quit) session_is ∙ was.no_quit
 
-  grown : Mine (entries e') the_session ≡ old.session.transcript ++ exchange q did.answer ∷ []
-  grown = mine_grown (entries e) (entries e') old.session.transcript q did.answer did.answers.entry was.mine
+  grown : Mine e'.history the_session ≡ old.session.transcript ++ exchange q did.answer ∷ []
+  grown = mine_grown e.history e'.history old.session.transcript q did.answer did.answers.entry was.mine
 
-  transcript_is : new.session.transcript ≡ Mine (entries e') the_session
+  transcript_is : new.session.transcript ≡ Mine e'.history the_session
   transcript_is = ap (λ (s : Progress). s.transcript) session_is ∙ sym grown
 
   goes_on : ends q did.answer ≡ false → Works new e'
@@ -206,7 +204,7 @@ module _ (q : Ask) (c : Option ExitCode) (old new : Work) (e e' : Engine) (was :
     where
       by : (b : Bool) → ends q did.answer ≡ b → c ≡ (if b then Some (code_of did.answer) else None) → Came c new e'
       by true over is =
-          let over_so = ended_by new.session.script old.session.transcript new.session.transcript q did.answer (entries e') new.written transcript_is over (last over) in
+          let over_so = ended_by new.session.script old.session.transcript new.session.transcript q did.answer e'.history new.written transcript_is over (last over) in
           subst (λ d. Came d new e') (sym is) (over_so.0, over_so.1, did.answers.legal)
       by false on is = subst (λ d. Came d new e') (sym is) (goes_on on)
 
@@ -305,8 +303,8 @@ module _ (w quits mid new : Work) (e e' : Engine) (q : Ask) (c : Option ExitCode
   script_left : new.session.script ≡ s.script
   script_left = ap (λ (x : Progress). x.script) session_left ∙ ap (λ (x : Progress). x.script) on.advances.is ∙ ap (λ (x : Progress). x.script) session_quit
 
-  mine_left : Mine (entries e') the_session ≡ s.transcript ++ exchange q did.answer ∷ []
-  mine_left = mine_grown (entries e) (entries e') s.transcript q did.answer did.answers.entry may.mine
+  mine_left : Mine e'.history the_session ≡ s.transcript ++ exchange q did.answer ∷ []
+  mine_left = mine_grown e.history e'.history s.transcript q did.answer did.answers.entry may.mine
 
   printed_left : (run_of new.session).state.printed ≡ Printed s.script (answers s.transcript)
   printed_left =
@@ -338,10 +336,10 @@ module _ (w quits mid new : Work) (e e' : Engine) (q : Ask) (c : Option ExitCode
 rises_same : (a b c d : ℕ) → b ≡ a → d ≡ c → Rises b c → Rises a d
 rises_same a b c d from_a to_d rises = subst (λ n. Rises n d) from_a (subst (Rises b) (sym to_d) rises)
 
-quit_same : (old new : Work) (e : Engine) → Left old new e → Quit new.session.script (Mine (entries e) the_session) new.written
+quit_same : (old new : Work) (e : Engine) → Left old new e → Quit new.session.script (Mine e.history the_session) new.written
 quit_same old new e l =
-    subst (λ script. Quit script (Mine (entries e) the_session) new.written) (sym l.script)
-    (subst (Quit old.session.script (Mine (entries e) the_session)) (sym l.written) l.quit)
+    subst (λ script. Quit script (Mine e.history the_session) new.written) (sym l.script)
+    (subst (Quit old.session.script (Mine e.history the_session)) (sym l.written) l.quit)
 
 pub turned_asked : (q : Ask) (c : Option ExitCode) (old mid wrote new : Work) (e e' : Engine) → Works old e → Advanced (Ok (next.Ask q)) old mid → Flushed true mid wrote → Asked q c wrote new e e' → Turned c old new e'
 turned_asked q c old mid wrote new e e' works on flushed did =
@@ -401,5 +399,5 @@ turned_on c old mid new e script counted turned = record {
     since a b d grown rises = omega arith
 
 -- the session that a script began with
-pub session_of : (id : SessionId) (script : List ℕ) (c : ExitCode) (old new : Work) (e : Engine) → old.session ≡ begun id script → Turned (Some c) old new e → Session c script (entries e) new.written
-session_of id script c old new e is turned = subst (λ s. Session c s (entries e) new.written) (turned.script ∙ ap (λ (s : Progress). s.script) is) turned.came.1
+pub session_of : (id : SessionId) (script : List ℕ) (c : ExitCode) (old new : Work) (e : Engine) → old.session ≡ begun id script → Turned (Some c) old new e → Session c script e.history new.written
+session_of id script c old new e is turned = subst (λ s. Session c s e.history new.written) (turned.script ∙ ap (λ (s : Progress). s.script) is) turned.came.1

@@ -1,20 +1,30 @@
 -- The program: its words, what it prints last, and what it serves.
 use Rattle.std.specs.Prelude.{ℕ, ◌≡◌, ◌≢◌, Bool, true, false, not, ◌&&◌, if◌then◌else◌, List, [], ◌∷◌, ◌++◌, length, codes, Option, Some, None, IfSome, slice_get, unwrap_or, ◌⊎◌, option_and_then}
 use Rattle.std.specs.Str.{bytes_eq}
+use Rattle.ebr_base.specs.declared.numbers.SessionId.{SessionId}
 use Rattle.ebr_server.specs.declared.exit.ExitCode.{ExitCode}
 use Rattle.ebr_server.specs.declared.exit.ExitCode.TheVariants as code
 use Rattle.ebr_asks.specs.declared.ask.Ask.{Ask}
 use Rattle.ebr_asks.specs.declared.ask.Ask.TheVariants.{Leave}
 use Rattle.ebr_asks.specs.declared.answer.Answer.{Answer}
-use Rattle.ebr_asks.specs.declared.answer.Answer.TheVariants.{Done, DiskFault}
+use Rattle.ebr_asks.specs.declared.answer.Answer.TheVariants.{Done, DiskFault, NoMemory, Stopped}
 use Rattle.ebr_asks.specs.declared.entry.Entry.{Entry}
 use Rattle.ebr_asks.specs.declared.entry.Exchange.{Exchange}
 use Rattle.ebr_calls.specs.Steps.{Ended, line_of}
 use Rattle.ebr_calls.specs.Courses.{AllContinue}
 use Rattle.ebr_session.specs.Has.{IsPrefix, answers, asks, printed_before}
 use Rattle.ebr_session.specs.Sessions.{SessionRun, Printed}
-use Rattle.ebr_server.specs.Machine.{the_session}
-use Rattle.ebr_server.specs.History.{Mine, EndsRun}
+use Rattle.ebr_core.specs.Machine.{Build}
+use Rattle.ebr_core.specs.History.{Mine}
+use Rattle.ebr_database.specs.Database.{Database}
+
+-- the one session of `try`
+abbrev pub the_session : SessionId
+the_session = record { 0 = 1 }
+
+-- The database in which it begins, which has no record.
+abbrev pub start : Database
+start = Build [] 1
 
 abbrev pub is_empty : List ℕ → Bool
 is_empty [] = true
@@ -73,6 +83,13 @@ pub record Quit (script : List ℕ) (mine : List Exchange) (replies : List ℕ) 
   pub ran : Ran script mine (Some (length left.before)) (Printed script (answers left.before))
   pub most : IsPrefix replies (Printed script (answers left.before))
   pub least : IsPrefix (printed_before_last script (answers left.before)) replies
+
+-- an answer after which the session has ended
+abbrev pub EndsRun : Answer → Type 0
+EndsRun DiskFault = Unit {0}
+EndsRun NoMemory = Unit {0}
+EndsRun Stopped = Unit {0}
+EndsRun answer = ⊥
 
 -- A session was ended by an answer that there was no memory, which is its last. Its replies are all that it printed.
 pub record RanOut (script : List ℕ) (mine : List Exchange) (replies : List ℕ) : Type 0 where

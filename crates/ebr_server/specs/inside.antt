@@ -1,4 +1,5 @@
 pub mod Engine
+pub mod Memory
 pub mod Reading
 pub mod Report
 pub mod Work

@@ -3,11 +3,10 @@
 ghost use Rattle.std.specs.Prelude.{◌≡◌, ◌≢◌, ◌<◌, ◌≤◌, ◌↔◌, ◌⊎◌, ℕ, [], length, Some, None, IfSome, IfNone, IsSomeAnd, option_and_then};
 ghost use Rattle.std.specs.Option.{option_copied};
 ghost use Rattle.ebr_outside.specs.Faults.{Rises};
-ghost use Rattle.ebr_server.specs.Machine.{start};
-ghost use Rattle.ebr_server.specs.History.{Legal};
-ghost use Rattle.ebr_server.specs.Program.{script_word, script_bytes, Tried, Served, StopsTooLong, IsComplete, HasRun};
+ghost use Rattle.ebr_core.specs.History.{Legal};
+ghost use Rattle.ebr_server.specs.Program.{start, script_word, script_bytes, Tried, Served, StopsTooLong, IsComplete, HasRun};
 
-use crate::engine::{Engine, SESSION};
+use crate::engine::{SESSION, first_engine};
 use crate::exit::ExitCode;
 use crate::read::{MAX_SCRIPT, ReadErr, read_script};
 use crate::report::write_last_line;
@@ -75,16 +74,17 @@ fn run_session<C: Drop, R: Sink>(alloc: Global, script: &[u8], report: R) -> Out
     let Ok(session) = Session::new(alloc, SESSION, script) else {
         return stopped(alloc, ExitCode::NoMemory, None, report);
     };
-    let Ok(mut engine) = Engine::start(alloc) else {
+    let Ok(mut engine) = first_engine(alloc) else {
         return stopped(alloc, ExitCode::NoMemory, None, report);
     };
     let mut worker = Worker::new(session, report);
     let code = worker.run(&mut engine);
+    let (history, _) = engine.into_parts();
     Outcome {
         code,
         source: None,
         report: worker.into_sink(),
-        history: engine.into_history(),
+        history,
     }
 }
 

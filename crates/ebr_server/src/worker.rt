@@ -5,11 +5,13 @@ ghost use Rattle.ebr_session.specs.Has.{IsFit, quitting};
 ghost use Rattle.ebr_server.specs.inside.Engine.{IsOpen};
 ghost use Rattle.ebr_server.specs.inside.Worker.{Advanced, Asked, Flushed, Left, MayLeave, Turned, Works, code_of};
 
-use crate::engine::Engine;
+use crate::engine::answer;
 use crate::exit::ExitCode;
+use crate::memory::MemoryKeep;
 use crate::offer::offer;
 use ebr_asks::{Answer, Ask};
 use ebr_base::NoMemory;
+use ebr_core::Engine;
 use ebr_outside::Sink;
 use ebr_session::{NextAsk, Session};
 use ebr_units::Book;
@@ -62,7 +64,7 @@ impl<S: Sink> Worker<S> {
     }
 
     /// Runs the session to its end.
-    pub fn run(&mut self, engine: &mut Engine) -> ExitCode
+    pub fn run(&mut self, engine: &mut Engine<MemoryKeep>) -> ExitCode
         requires { Works self.old engine.old }
         ensures { Turned (Some result) self.old self.new engine.new }
     {
@@ -76,7 +78,7 @@ impl<S: Sink> Worker<S> {
 
     /// One turn: the session goes on to its next ask, what it printed is written, and the ask is answered. Gives the code
     /// of the session's end, where it has ended.
-    fn turn(&mut self, engine: &mut Engine) -> Option<ExitCode>
+    fn turn(&mut self, engine: &mut Engine<MemoryKeep>) -> Option<ExitCode>
         requires { Works self.old engine.old }
         ensures { Turned result self.old self.new engine.new }
     {
@@ -113,13 +115,13 @@ impl<S: Sink> Worker<S> {
     }
 
     /// Has the ask answered that is out. Gives the code of the session's end, where the answer ends it.
-    fn ask(&mut self, engine: &mut Engine, ask: Ask) -> Option<ExitCode>
+    fn ask(&mut self, engine: &mut Engine<MemoryKeep>, ask: Ask) -> Option<ExitCode>
         requires open { IsOpen engine.old }
         requires out { self.old.session.out ≡ Some ask }
         requires fit { IsFit ask }
         ensures { Asked ask result self.old self.new engine.old engine.new }
     {
-        let (answer, book) = engine.answer(ask);
+        let (answer, book) = answer(engine, ask);
         let code = code_of(&answer);
         self.session.take(answer, book);
         if self.session.has_ended() {
@@ -130,7 +132,7 @@ impl<S: Sink> Worker<S> {
     }
 
     /// The session quits: it leaves in place of its next ask.
-    fn leave(&mut self, engine: &mut Engine, code: ExitCode) -> ExitCode
+    fn leave(&mut self, engine: &mut Engine<MemoryKeep>, code: ExitCode) -> ExitCode
         requires { MayLeave self.old.session self.old.written engine.old }
         ensures code { result ≡ code }
         ensures left { Left self.old self.new engine.new }

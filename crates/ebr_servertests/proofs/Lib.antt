@@ -1,3 +1,5 @@
 pub mod Prints
 pub mod Valid
+pub mod Databases
+pub mod Histories
 pub mod Replayed

@@ -8,7 +8,6 @@ use Rattle.ebr_ast.specs.declared.statement.Stmt.{Stmt}
 use Rattle.ebr_ast.specs.declared.statement.Stmt as statement
 use Rattle.ebr_ast.specs.declared.statement.Stmt.TheVariants as stmt
 use Rattle.ebr_ast.specs.declared.statement.Stmt.TheOpen as form
-use Rattle.ebr_ast.specs.declared.unit.Head.{Head}
 use Rattle.ebr_ast.specs.declared.unit.UnitTree.{UnitTree}
 use Rattle.ebr_ast.specs.declared.unit.UnitTree.TheVariants as unit
 use Rattle.ebr_ast.specs.declared.view.EditionView.{EditionView}
@@ -22,7 +21,6 @@ use Rattle.ebr_exprtree.specs.declared.expression.Expr.TheOpen as expression_for
 use Rattle.ebr_exprtree.specs.declared.expression.Path.{Path}
 use denote.Hole.Carrier as carrier
 use Rattle.ebr_asks.specs.declared.answer.Answer.{Answer}
-use Rattle.ebr_check.specs.Verdict.{is_valid}
 use Rattle.ebr_expr.specs.Operators.{builtin_named}
 use Rattle.ebr_value.specs.Texts.{printed}
 use Rattle.ebr_run.specs.State.{line}

@@ -1,5 +1,5 @@
 -- Which units and blocks of the worked scripts are valid.
-use Rattle.std.proofs.Common.{◌≡◌, ℕ, Bool, true, false, List, [], ◌∷◌, ◌++◌, codes, refl, ap, ◌∙◌}
+use Rattle.std.proofs.Common.{◌≡◌, ℕ, Bool, true, List, [], ◌∷◌, ◌++◌, codes, refl, ap, ◌∙◌}
 use Rattle.std.specs.Prelude.{Some, None}
 use Rattle.std.specs.List.{list_all}
 use Rattle.ebr_ast.specs.declared.statement.Block as block
@@ -38,8 +38,7 @@ use Rattle.ebr_value.specs.declared.form.Builtin.{Builtin}
 use Rattle.ebr_expr.specs.Operators.{builtin_at}
 use Rattle.ebr_scope.specs.Meanings.{Subprogram}
 use Rattle.ebr_scope.specs.Names.{applied, applied_at, visible_head}
-use Rattle.ebr_check.specs.Statements.{Handling, act, in_block, called_with, unless_builtin, call_sites, print_sites, in_statement, in_body, in_branch, in_handler}
-use Rattle.ebr_check.specs.Units.{sites_in}
+use Rattle.ebr_check.specs.Statements.{Handling, act, in_block, called_with, unless_builtin, call_sites, in_statement, in_body, in_branch, in_handler}
 use Rattle.ebr_check.specs.Verdict.{is_valid}
 use Rattle.ebr_check.proofs.Laws.{statement-out, body-out}
 use Rattle.ebr_servertests.specs.WorkedScripts.{block_of, printing, call_of}

@@ -1,6 +1,6 @@
 -- Worked scripts, whose replies the definitions alone give. What the pieces and the stored texts spell is a premise, so that
 -- all but the grammar is computed.
-use Rattle.std.specs.Prelude.{ℕ, Bool, true, false, ◌≡◌, codes, List, [], ◌∷◌, Some, None}
+use Rattle.std.specs.Prelude.{ℕ, Bool, true, false, ◌≡◌, ◌≤◌, codes, List, [], ◌∷◌, length, Some, None}
 use Rattle.ebr_ast.specs.declared.definition.Definition.{Definition}
 use Rattle.ebr_ast.specs.declared.definition.Definition.TheVariants.{CreateEdition, CreateObject}
 use Rattle.ebr_ast.specs.declared.definition.Statement.TheVariants as statement
@@ -13,9 +13,9 @@ use Rattle.ebr_script.specs.declared.piece.Piece.{Piece}
 use Rattle.ebr_script.specs.declared.piece.PieceKind.TheVariants as piece
 use Rattle.ebr_script.specs.Pieces.{pieces_of, stored_definition, text_of}
 use Rattle.ebr_asks.specs.declared.entry.Entry.{Entry}
-use Rattle.ebr_server.specs.History.{Mine, Legal}
-use Rattle.ebr_server.specs.Machine.{the_session, start}
-use Rattle.ebr_server.specs.Program.{RanToEnd}
+use Rattle.ebr_core.specs.Asked.{max_text}
+use Rattle.ebr_core.specs.History.{Mine, Legal}
+use Rattle.ebr_server.specs.Program.{the_session, start, RanToEnd}
 
 -- A script gives these replies: there is a history that the machine replays, and by which the script is run to its end.
 pub record Gives (script replies : List ℕ) : Type 0 where
@@ -40,10 +40,12 @@ abbrev pub procedure : Bool → List ℕ → List ℕ → Definition
 procedure replace name line =
     CreateObject replace (unit.Subprogram (record { head = record { name = name; parameters = []; result = None }; body = printing line }))
 
--- A piece makes a procedure that prints one line, and its stored text spells what it does.
+-- A piece makes a procedure that prints one line, and its stored text spells what it does, in no more bytes than a script may
+-- have, so that the journal has room for it.
 pub record Makes (script : List ℕ) (p : Piece) (replace : Bool) (name line : List ℕ) : Type 0 where
   pub spells : p.what ≡ piece.Tree (statement.Definition (procedure replace name line))
   pub again : stored_definition (text_of script p) ≡ Some (procedure replace name line)
+  pub small : length (text_of script p) ≤ max_text
 
 -- A piece calls a procedure.
 abbrev pub Calls : Piece → List ℕ → Type 0

@@ -1,6 +1,6 @@
-//! Blocks: control, exceptions, and what is refused yet.
+//! Blocks: control, exceptions, rows and transactions.
 
-use crate::run::wrong_from;
+use ebr_trial::wrong_from;
 use std::test::Fail;
 
 /// What a script shows of blocks, the script, and its replies.
@@ -82,26 +82,33 @@ x is 1
 3 and 1
 OK
 ~\
-rows and transactions are refused, which code may catch~\
+rows and transactions, and what a savepoint that isn't there raises~\
 SELECT 1 FROM dual;
 COMMIT;
-BEGIN ROLLBACK; DBMS_OUTPUT.PUT_LINE('not here'); END;
+BEGIN ROLLBACK; DBMS_OUTPUT.PUT_LINE('rolled back'); END;
 /
-DECLARE n NUMBER; BEGIN SELECT 1 INTO n FROM dual; EXCEPTION WHEN OTHERS THEN DBMS_OUTPUT.PUT_LINE(SQLCODE); END;
+DECLARE n NUMBER; BEGIN SELECT 2 INTO n FROM dual; DBMS_OUTPUT.PUT_LINE(n); END;
 /
-DECLARE CURSOR c IS SELECT 1 FROM dual; BEGIN OPEN c; EXCEPTION WHEN OTHERS THEN DBMS_OUTPUT.PUT_LINE('caught'); END;
+DECLARE CURSOR c IS SELECT 3 FROM dual; n NUMBER; BEGIN OPEN c; FETCH c INTO n; DBMS_OUTPUT.PUT_LINE(n); END;
 /
-DECLARE PRAGMA AUTONOMOUS_TRANSACTION; BEGIN DBMS_OUTPUT.PUT_LINE('not here'); END;
+DECLARE PRAGMA AUTONOMOUS_TRANSACTION; BEGIN DBMS_OUTPUT.PUT_LINE('by itself'); END;
+/
+BEGIN ROLLBACK TO s; EXCEPTION WHEN OTHERS THEN DBMS_OUTPUT.PUT_LINE(SQLCODE); END;
 /
 ~\
-EBR-0001
-EBR-0001
-EBR-0001
--100001
+1
+1 rows
 OK
-caught
+rolled back
 OK
-EBR-0001
+2
+OK
+3
+OK
+by itself
+OK
+-1086
+OK
 ~\
 a text that is too long for its variable~\
 DECLARE x VARCHAR2(3) := 'abc'; BEGIN x := x || 'd'; EXCEPTION WHEN VALUE_ERROR THEN DBMS_OUTPUT.PUT_LINE(x); END;

@@ -1,6 +1,6 @@
 //! Calls of stored code: which unit is called in which edition, and with which package's state.
 
-use crate::run::wrong_from;
+use ebr_trial::wrong_from;
 use std::test::Fail;
 
 /// What a script shows of calls, the script, and its replies.

@@ -1,6 +1,6 @@
 //! Definitions: each refusal with its code, the order of two causes, and what calls then see.
 
-use crate::run::wrong_from;
+use ebr_trial::wrong_from;
 use std::test::Fail;
 
 /// Editions.

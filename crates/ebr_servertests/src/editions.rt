@@ -1,18 +1,24 @@
 //! Editions: each session sees what its own edition has, and else what its parent has.
 
-use crate::run::{UPGRADE, UPGRADE_REPLIES, prints, wrong_from};
+use crate::scripts::{UPGRADE, UPGRADE_REPLIES};
+use ebr_trial::{prints, wrong_from};
 use std::test::Fail;
 
 /// What a script shows of editions, the script, and its replies.
 static REPLIES: &str = "\
-refusals have their codes~\
+refusals have their codes, and inside a transaction no edition is looked for~\
 SELECT 1 FROM dual;
 CALL nope();
 ALTER SESSION SET EDITION = nope;
+COMMIT;
+ALTER SESSION SET EDITION = nope;
 CREATE EDITION ora$base;
 ~\
-EBR-0001
+1
+1 rows
 ORA-06550
+EBR-0016
+OK
 ORA-38802
 EBR-0031
 ~\

@@ -1,9 +1,10 @@
 //! What comes of words, sources, hosts and reports that fail.
 
-use crate::run::{FIRST_CALLS, Faults, NO_FAULTS, TRY, ended, prints, release, served};
+use crate::scripts::FIRST_CALLS;
 use ebr_base::NoMemory;
 use ebr_outside::Fail;
 use ebr_server::{ExitCode, MAX_SCRIPT};
+use ebr_trial::{Faults, NO_FAULTS, TRY, ended, prints, release, served};
 use std::alloc::Global;
 use std::test::Fail as TestFail;
 

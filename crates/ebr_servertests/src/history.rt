@@ -1,8 +1,9 @@
 //! What the history of a run has.
 
-use crate::run::{FIRST_CALLS, NO_FAULTS, TRY, UPGRADE, release, served};
+use crate::scripts::{FIRST_CALLS, UPGRADE};
 use ebr_base::NoMemory;
 use ebr_server::{Answer, Ask, Entry};
+use ebr_trial::{NO_FAULTS, TRY, release, served};
 use std::alloc::Global;
 use std::test::Fail;
 
@@ -64,9 +65,24 @@ static UPGRADED: [Kind; 10] = [
     Kind::Leave,
 ];
 
-const CAUGHT: &[u8] = b"BEGIN COMMIT; EXCEPTION WHEN OTHERS THEN ROLLBACK; END;\n/\nCOMMIT;\n";
+/// A savepoint that isn't there, with a handler and without, and a transaction of a block's own that fails.
+const CAUGHT: &[u8] = b"BEGIN ROLLBACK TO s; EXCEPTION WHEN OTHERS THEN ROLLBACK; END;
+/
+BEGIN ROLLBACK TO s; END;
+/
+DECLARE PRAGMA AUTONOMOUS_TRANSACTION; BEGIN RAISE NO_DATA_FOUND; END;
+/
+COMMIT;
+";
 
-static ASKED: [Kind; 6] = [
+static ASKED: [Kind; 13] = [
+    Kind::Begin(0),
+    Kind::Other,
+    Kind::Other,
+    Kind::EndCall,
+    Kind::Begin(0),
+    Kind::Other,
+    Kind::FailedCall,
     Kind::Begin(0),
     Kind::Other,
     Kind::Other,

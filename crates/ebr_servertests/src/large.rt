@@ -1,8 +1,8 @@
 //! As many steps, printed bytes and calls as there may be, and more.
 
-use crate::run::{MemOutcome, NO_FAULTS, TRY, prints, release, served};
 use ebr_base::{Bytes, NoMemory};
 use ebr_server::{ExitCode, MAX_SCRIPT};
+use ebr_trial::{MemOutcome, NO_FAULTS, TRY, prints, release, served};
 use std::alloc::Global;
 use std::test::Fail;
 
@@ -70,6 +70,13 @@ fn a_session_prints_16777216_bytes(rt: HostRuntime) -> Result<(), Fail> {
 /// As many calls as a script may hold behind the procedure.
 const CALLS: usize = 104853;
 
+/// The calls that a session may ask for behind the procedure: the beginning of the last of them is its 50,000th ask, and the end
+/// of a call is never one too many.
+const ALLOWED: usize = 25000;
+
+/// The other ones.
+const REFUSED: usize = 79853;
+
 /// A procedure, and the calls of it.
 fn calls(alloc: Global) -> Result<Bytes, NoMemory> {
     let mut script = Bytes::from_slice(alloc, b"CREATE PROCEDURE p IS BEGIN NULL; END;\n/\n")?;
@@ -79,17 +86,33 @@ fn calls(alloc: Global) -> Result<Bytes, NoMemory> {
     Ok(script)
 }
 
+/// `OK` for the procedure and for each call that may be asked for, and a code for each other one.
+fn replies_to_calls(alloc: Global) -> Result<Bytes, NoMemory> {
+    let mut replies = Bytes::from_slice(alloc, b"OK\n")?;
+    for _ in 0..ALLOWED {
+        replies.extend(b"OK\n")?;
+    }
+    for _ in 0..REFUSED {
+        replies.extend(b"EBR-0010\n")?;
+    }
+    Ok(replies)
+}
+
 /// Whether a script runs that is as long as it may be, less than a call.
 fn runs_calls(alloc: Global) -> Result<bool, NoMemory> {
     let script = calls(alloc)?;
     if script.len() <= MAX_SCRIPT - 10 {
         return Ok(false);
     }
-    replies_with(alloc, script.as_slice(), 3 * (1 + CALLS), b"OK\n")
+    prints(
+        alloc,
+        script.as_slice(),
+        replies_to_calls(alloc)?.as_slice(),
+    )
 }
 
 #[test]
-fn a_script_of_a_mebibyte_of_calls_runs(rt: HostRuntime) -> Result<(), Fail> {
+fn a_script_of_a_mebibyte_of_calls_makes_50000_asks(rt: HostRuntime) -> Result<(), Fail> {
     assert!(rt; runs_calls(rt.alloc())?);
     Ok(())
 }

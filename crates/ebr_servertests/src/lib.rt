@@ -20,9 +20,11 @@ mod limits;
 #[cfg(test)]
 mod pieces;
 #[cfg(test)]
-mod run;
+mod records;
 #[cfg(test)]
 mod script;
+#[cfg(test)]
+mod scripts;
 #[cfg(test)]
 mod validity;
 #[cfg(test)]

@@ -1,7 +1,7 @@
 //! As many editions, objects, tables and columns as there may be, and one more.
 
-use crate::run::prints;
 use ebr_base::{Bytes, NoMemory};
+use ebr_trial::prints;
 use std::alloc::Global;
 use std::test::Fail;
 
@@ -14,7 +14,7 @@ fn push_number(script: &mut Bytes, n: u32) -> Result<(), NoMemory> {
 }
 
 /// A piece so many times, each with a name of its own.
-fn many(alloc: Global, count: u32, head: &[u8], tail: &[u8]) -> Result<Bytes, NoMemory> {
+pub fn many(alloc: Global, count: u32, head: &[u8], tail: &[u8]) -> Result<Bytes, NoMemory> {
     let mut script = Bytes::new(alloc);
     for n in 0..count {
         script.extend(head)?;

@@ -1,8 +1,8 @@
 //! What the pieces of a script reply, and the codes of those that spell no statement.
 
-use crate::run::{NO_FAULTS, TRY, prints, release, served, wrong_from};
 use ebr_base::{Bytes, NoMemory};
 use ebr_server::{Ask, Entry};
+use ebr_trial::{NO_FAULTS, TRY, prints, release, served, wrong_from};
 use std::alloc::Global;
 use std::test::Fail;
 
@@ -44,12 +44,13 @@ OK
 ä
 OK
 ~\
-other statements, of which each is refused by itself, and a piece without a token~\
+a query, definitions, a piece without a token, and a call of what isn't there~\
 SELECT 1 FROM dual;
 CREATE EDITION v2 AS CHILD OF ora$base;
 DROP EDITION v2;
 ;CALL a(1);~\
-EBR-0001
+1
+1 rows
 OK
 OK
 ORA-00900
@@ -83,11 +84,12 @@ OK
 2
 OK
 ~\
-a statement that is refused, one that is none, and one that never ends~\
+a statement, one that is none, and one that never ends~\
 SELECT 1 FROM dual;
 SELEC 1;
 SELECT /* x~\
-EBR-0001
+1
+1 rows
 ORA-00900
 EBR-0021
 ~\
@@ -123,8 +125,9 @@ SELECT '
 /
 ' FROM dual;BEGIN a('
 /
-CALL a();~\
-EBR-0001
+CALL a();~\n/
+
+1 rows
 EBR-0021
 ORA-06550
 ~\
@@ -194,7 +197,7 @@ fn nests(alloc: Global, depth: usize, replies: &[u8]) -> Result<bool, NoMemory> 
 
 #[test]
 fn parentheses_nest_64_deep(rt: HostRuntime) -> Result<(), Fail> {
-    assert!(rt; nests(rt.alloc(), 64, b"EBR-0001\n")?);
+    assert!(rt; nests(rt.alloc(), 64, b"1\n1 rows\n")?);
     assert!(rt; nests(rt.alloc(), 65, b"EBR-0025\n")?);
     Ok(())
 }

@@ -1,6 +1,6 @@
 //! Units, triggers and blocks that aren't valid in the session's edition.
 
-use crate::run::wrong_from;
+use ebr_trial::wrong_from;
 use std::test::Fail;
 
 /// What a script shows of validity, the script, and its replies.

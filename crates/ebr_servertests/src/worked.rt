@@ -1,10 +1,11 @@
-//! Worked scripts whose replies the definitions alone give: computed, with no code. What the pieces spell is a premise.
+//! Worked scripts whose replies the definitions alone give: computed, with no code. What the pieces spell is a premise, and
+//! that no stored text has more bytes than a script may have.
 
 ghost use Rattle.std.specs.Prelude.{◌≡◌, [], ℕ, List as Sequence};
 ghost use Rattle.ebr_script.specs.Pieces.{pieces_of};
 ghost use Rattle.ebr_servertests.specs.WorkedScripts.{Gives, CallsGive, UpgradeGives};
 
-use crate::run::{FIRST_REPLIES, UPGRADE_REPLIES};
+use crate::scripts::{FIRST_REPLIES, UPGRADE_REPLIES};
 
 fn definitions_alone_give_the_replies()
     ensures nothing { (script : Sequence ℕ) → pieces_of script ≡ [] → Gives script [] }

@@ -7,7 +7,7 @@ CREATE OR REPLACE PROCEDURE a IS BEGIN DBMS_OUTPUT.PUT_LINE('b'); END;
 CALL a();
 ALTER SESSION SET EDITION = ora$base;
 CALL a();
--- what is not run yet, what is no statement, and what has no end
+-- a query, what is no statement, and what has no end
 SELECT 1 FROM dual;
 SELEC 1;
 SELECT /* x

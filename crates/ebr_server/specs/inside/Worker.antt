@@ -11,13 +11,11 @@ use Rattle.ebr_calls.specs.Courses.{AllContinue}
 use Rattle.ebr_session.specs.declared.next.NextAsk.{NextAsk}
 use Rattle.ebr_session.specs.Has.{Advances, Follows, IsPrefix, Progress, answered, answers, ends}
 use Rattle.ebr_session.specs.Sessions.{Printed}
-use Rattle.ebr_server.specs.declared.engine.Engine.{Engine}
 use Rattle.ebr_server.specs.declared.exit.ExitCode.{ExitCode}
 use Rattle.ebr_server.specs.declared.exit.ExitCode.TheVariants as code
-use Rattle.ebr_server.specs.Machine.{the_session, start}
-use Rattle.ebr_server.specs.History.{Mine, Legal}
-use Rattle.ebr_server.specs.Program.{Session, HasRun, Quit, printed_before_last}
-use Rattle.ebr_server.specs.inside.Engine.{Answers, IsOpen, entries}
+use Rattle.ebr_core.specs.History.{Mine, Legal}
+use Rattle.ebr_server.specs.Program.{Session, HasRun, Quit, printed_before_last, start, the_session}
+use Rattle.ebr_server.specs.inside.Engine.{Answers, Engine, IsOpen}
 use Rattle.ebr_server.specs.inside.Work.{Work}
 
 -- The session runs, its exchanges are those of the history, and all that it printed is written.
@@ -26,14 +24,14 @@ pub record Works (w : Work) (e : Engine) : Type 0 where
   pub no_quit : w.session.quit ≡ None
   pub no_ask : w.session.out ≡ None
   pub follows : Follows w.session
-  pub mine : w.session.transcript ≡ Mine (entries e) the_session
+  pub mine : w.session.transcript ≡ Mine e.history the_session
   pub written : w.written ≡ w.session.printed
   pub is_open : IsOpen e
 
 -- what came of it: the session goes on, or it ended with a code
 abbrev pub Came : Option ExitCode → Work → Engine → Type 0
 Came None w e = Works w e
-Came (Some c) w e = HasRun c × Session c w.session.script (entries e) w.written × Legal start (entries e)
+Came (Some c) w e = HasRun c × Session c w.session.script e.history w.written × Legal start e.history
 
 -- What turns do.
 pub record Turned (c : Option ExitCode) (old new : Work) (e : Engine) : Type 0 where
@@ -77,15 +75,15 @@ pub record Asked (q : Ask) (c : Option ExitCode) (old new : Work) (old_engine e 
 pub record MayLeave (s : Progress) (written : List ℕ) (e : Engine) : Type 0 where
   pub goes_on : s.ended ≡ false
   pub went_on : AllContinue (answers s.transcript)
-  pub mine : s.transcript ≡ Mine (entries e) the_session
+  pub mine : s.transcript ≡ Mine e.history the_session
   pub is_open : IsOpen e
   pub most : IsPrefix written (Printed s.script (answers s.transcript))
   pub least : IsPrefix (printed_before_last s.script (answers s.transcript)) written
 
 -- It has quit and left.
 pub record Left (old new : Work) (e : Engine) : Type 0 where
-  pub quit : Quit old.session.script (Mine (entries e) the_session) old.written
-  pub legal : Legal start (entries e)
+  pub quit : Quit old.session.script (Mine e.history the_session) old.written
+  pub legal : Legal start e.history
   pub script : new.session.script ≡ old.session.script
   pub written : new.written ≡ old.written
   pub faults : new.faults ≡ old.faults

@@ -1,4 +1,4 @@
-//! Runs a script over a host in memory.
+//! Runs a script over a host in memory, byte for byte.
 
 use ebr_base::{Bytes, List, NoMemory};
 use ebr_outside::{Fail, MemFile, MemHost, MemSink, MemSource};
@@ -6,26 +6,6 @@ use ebr_server::{ExitCode, Outcome, serve};
 use std::alloc::Global;
 
 pub type MemOutcome = Outcome<MemSource, MemSink>;
-
-/// Makes a procedure, calls it, and calls one that isn't there.
-pub const FIRST_CALLS: &[u8] =
-    b"CREATE PROCEDURE a IS BEGIN DBMS_OUTPUT.PUT_LINE('a'); END;\n/\nCALL a();\nCALL b();\n";
-
-pub const FIRST_REPLIES: &[u8] = b"OK\na\nOK\nORA-06550\n";
-
-/// Replaces a procedure in a child edition, and calls it there and in the first one.
-pub const UPGRADE: &[u8] = b"CREATE PROCEDURE a IS BEGIN DBMS_OUTPUT.PUT_LINE('a'); END;
-/
-CREATE EDITION v2;
-ALTER SESSION SET EDITION = v2;
-CREATE OR REPLACE PROCEDURE a IS BEGIN DBMS_OUTPUT.PUT_LINE('b'); END;
-/
-CALL a();
-ALTER SESSION SET EDITION = ora$base;
-CALL a();
-";
-
-pub const UPGRADE_REPLIES: &[u8] = b"OK\nOK\nOK\nOK\nb\nOK\nOK\na\nOK\n";
 
 /// The words of `try s.sql`.
 pub const TRY: &[&[u8]] = &[b"try", b"s.sql"];
@@ -107,43 +87,4 @@ pub fn prints(alloc: Global, script: &[u8], replies: &[u8]) -> Result<bool, NoMe
     let done = ended(&outcome, ExitCode::Done, replies);
     release(outcome);
     Ok(done)
-}
-
-/// The first row of a table, and the rows behind it. A row is a title, a script and its replies, with `~` behind each.
-fn first_row(table: &'static str) -> Option<(&'static str, &'static str, &'static str)> {
-    let Some((_, rest)) = table.split_once('~') else {
-        return None;
-    };
-    let Some((script, rest)) = rest.split_once('~') else {
-        return None;
-    };
-    let Some((replies, rest)) = rest.split_once('~') else {
-        return None;
-    };
-    Some((script, replies, rest))
-}
-
-/// The rows behind the first one, or none where its replies are others.
-fn next_row(alloc: Global, table: &'static str) -> Result<Option<&'static str>, NoMemory> {
-    let Some((script, replies, rest)) = first_row(table) else {
-        return Ok(None);
-    };
-    if prints(alloc, script.as_bytes(), replies.as_bytes())? {
-        Ok(Some(rest))
-    } else {
-        Ok(None)
-    }
-}
-
-/// A table from the first row on whose replies are others; nothing where there is none. One literal is proved at once,
-/// and an array of texts row by row.
-pub fn wrong_from(alloc: Global, table: &'static str) -> Result<&'static str, NoMemory> {
-    let mut left = table;
-    for _ in 0..table.len() {
-        match next_row(alloc, left)? {
-            Some(rest) => left = rest,
-            None => return Ok(left),
-        }
-    }
-    Ok(left)
 }
