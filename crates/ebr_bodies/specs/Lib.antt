@@ -1,0 +1,4 @@
+pub mod Ready
+pub mod Bodies
+pub mod Rows
+pub mod Statements
