@@ -50,7 +50,7 @@ rows() {
     awk -v count="$1" -v kind="$2" 'BEGIN {
         print "CREATE TABLE t (id NUMBER PRIMARY KEY, v VARCHAR2(30), n NUMBER);"
         if (kind == "statements") {
-            for (i = 1; i <= count; i++) printf "INSERT INTO t VALUES (%d, \047text of a row\047, %d);\nCOMMIT;\n", i, i
+            for (i = 1; i <= count; i++) printf "INSERT INTO t VALUES (%d, \047x\047, %d);\nCOMMIT;\n", i, i
             exit
         }
         printf "BEGIN FOR i IN 1 .. %d LOOP INSERT INTO t VALUES (i, \047text of a row\047, i); END LOOP; COMMIT; END;\n/\n", count
@@ -116,6 +116,6 @@ echo '|---|---|---|'
 kinds '10000 20000' 'block update select loop'
 
 echo
-echo '| Script | 500 rows | 1,000 rows | 2,000 rows |'
+echo '| Script | 5,000 rows | 10,000 rows | 20,000 rows |'
 echo '|---|---|---|---|'
-kinds '500 1000 2000' statements
+kinds '5000 10000 20000' statements

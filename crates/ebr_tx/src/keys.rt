@@ -151,9 +151,30 @@ pub fn last_has(
     }
 }
 
-/// Whether another row than this one, which these changes leave alone, had the key after the first `n` commits. It goes
-/// from one row of the table to the next.
-pub fn had_before(
+/// Whether another row than this one, which these changes leave alone, had the key after the first `n` commits.
+fn had_at(
+    versions: &Versions,
+    n: u32,
+    own: &[Change],
+    table: TableId,
+    this: Option<RowNo>,
+    places: &[u16],
+    key: &[Value],
+) -> bool
+    requires some { 0 < length key.now }
+    requires as_many { length places.now ≡ length key.now }
+    requires places { key_places versions.now.tables table ≡ places.now }
+    ensures { result ≡ committed_has versions.now.commits own.now table this places.now key.now (At versions.now.commits n) }
+{
+    // Where nothing was committed since, the last values are those.
+    if n == versions.count() {
+        return last_has(versions, own, table, this, places, key);
+    }
+    had_before(versions, n, own, table, this, places, key)
+}
+
+/// The same where commits may have come since. It goes from one row of the table to the next.
+fn had_before(
     versions: &Versions,
     n: u32,
     own: &[Change],
@@ -262,7 +283,7 @@ fn began_with(
     ensures { result ≡ committed_has versions.now.commits x.now.changes table this places.now key.now (committed versions.now.commits x.now.begun) }
 {
     match x.begun() {
-        Some(n) => had_before(versions, n, x.changes(), table, this, places, key),
+        Some(n) => had_at(versions, n, x.changes(), table, this, places, key),
         None => last_has(versions, x.changes(), table, this, places, key),
     }
 }

@@ -65,14 +65,15 @@ pub has_change : (places : List ℕ) (key : List Value) (o : Option Change) → 
 has_change places key None e = cc
 has_change places key (Some c) e = (c, refl)
 
--- where no change's row has the key, no row has it
+-- where no row to which a change gives the key has it, no row has it
 pub no_row_has : (commits : List (List Change)) (places : List ℕ) (t : TableId) (key : List Value) → All (HaveOtherKeys commits places t key) commits → (r : RowNo) → key_at commits places (row_in t r) ≢ Some key
 no_row_has commits places t key all r e =
     let last = has_change places key (last_change (row_in t r) (changes_in commits)) e in
     let facts = last_change-of (HasOtherKey commits places t key) (row_in t r) (changes_in commits) last.0 (all_changes (HasOtherKey commits places t key) commits all) last.1 in
     let same : last.0.row ≡ row_in t r = is_row-true last.0.row (row_in t r) facts.1 in
     let inside : is_in t last.0 ≡ true = ap (λ (row : RowId). is_table row.table t) same ∙ is_table-same t in
-    facts.0 inside (ap (key_at commits places) same ∙ e)
+    let gives : option_map (key_of places) last.0.values ≡ Some key = subst (λ (o : Option Change). option_map (key_of places) (values_by o) ≡ Some key) last.1 e in
+    facts.0 inside gives (ap (key_at commits places) same ∙ e)
 
 -- a table that has a row with a key was added
 added_from_key : (commits : List (List Change)) (tables : List Table) (places : List ℕ) (t : TableId) (r : RowNo) (key : List Value) → All (OfAdded tables) commits → key_at commits places (row_in t r) ≡ Some key → is_added tables t ≡ true

@@ -1,6 +1,6 @@
-//! Keys of rows, by comparing values. Plain lists: a key is looked for among all rows.
+//! Keys of rows, by comparing values. Plain lists: a key is looked for among all changes.
 
-ghost use Rattle.std.specs.Prelude.{◌≡◌, ◌≢◌, length, Some, IfSome, IfNone, IsTrue, ◌↔◌};
+ghost use Rattle.std.specs.Prelude.{◌≡◌, ◌≢◌, length, option_map, Some, IfSome, IfNone, IsTrue, ◌↔◌};
 ghost use Rattle.ebr_base.specs.declared.numbers.RowNo.{RowNo};
 ghost use Rattle.ebr_versions.specs.Keys.{value_at, key_of, key_at, row_in};
 ghost use Rattle.ebr_versions.specs.inside.Keys.{HaveOtherKeys};
@@ -40,11 +40,26 @@ fn find_key_in(
     ensures none { IfNone result (HaveOtherKeys commits.now places.now t key.now changes.now) }
 {
     for change in changes {
-        if change.row.table == t && has_key(commits, places, change.row, key) {
+        // Most changes give another key, so the row's last values are looked for where this one gives the key.
+        if change.row.table == t
+            && gives_key(change, places, key)
+            && has_key(commits, places, change.row, key)
+        {
             return Some(change.row.row);
         }
     }
     None
+}
+
+/// Whether a change gives its row this key.
+fn gives_key(change: &Change, places: &[u16], key: &[Value]) -> bool
+    requires { length places.now ≡ length key.now }
+    ensures { IsTrue result ↔ (option_map (key_of places.now) change.now.values ≡ Some key.now) }
+{
+    match &change.values {
+        Some(values) => is_key_of(values.as_slice(), places, key),
+        None => false,
+    }
 }
 
 /// Whether a row has this key, by its last values.
