@@ -1,5 +1,5 @@
 pub mod Undone
-mod Fits
+pub mod Fits
 pub mod Rows
 mod BehindChecks
 mod Room
