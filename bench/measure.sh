@@ -45,7 +45,8 @@ procedures() {
 }
 
 # rows COUNT KIND: a table of three columns with a key; its rows by a block, or each by a statement and a commit; and behind the
-# block an UPDATE or a SELECT of all, or a loop over them
+# block an UPDATE or a SELECT of all, or a loop over them; or the same UPDATE where a trigger changes each row before, or writes a
+# line of a log after it
 rows() {
     awk -v count="$1" -v kind="$2" 'BEGIN {
         print "CREATE TABLE t (id NUMBER PRIMARY KEY, v VARCHAR2(30), n NUMBER);"
@@ -54,7 +55,9 @@ rows() {
             exit
         }
         printf "BEGIN FOR i IN 1 .. %d LOOP INSERT INTO t VALUES (i, \047text of a row\047, i); END LOOP; COMMIT; END;\n/\n", count
-        if (kind == "update") print "UPDATE t SET n = n + 1;\nCOMMIT;"
+        if (kind == "before") print "CREATE TRIGGER b BEFORE UPDATE ON t FOR EACH ROW BEGIN :NEW.n := :NEW.n + 1; END;\n/"
+        if (kind == "after") print "CREATE TABLE log_t (id NUMBER, n NUMBER);\nCREATE TRIGGER a AFTER UPDATE ON t FOR EACH ROW BEGIN INSERT INTO log_t VALUES (:NEW.id, :NEW.n); END;\n/"
+        if (kind == "update" || kind == "before" || kind == "after") print "UPDATE t SET n = n + 1;\nCOMMIT;"
         if (kind == "select") print "SELECT * FROM t;"
         if (kind == "loop") print "DECLARE s NUMBER := 0; BEGIN FOR r IN (SELECT * FROM t) LOOP s := s + r.n; END LOOP; DBMS_OUTPUT.PUT_LINE(s); END;\n/"
     }'
@@ -113,7 +116,7 @@ kinds() {
 echo
 echo '| Script | 10,000 rows | 20,000 rows |'
 echo '|---|---|---|'
-kinds '10000 20000' 'block update select loop'
+kinds '10000 20000' 'block update before after select loop'
 
 echo
 echo '| Script | 5,000 rows | 10,000 rows | 20,000 rows |'

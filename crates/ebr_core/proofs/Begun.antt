@@ -1,6 +1,6 @@
 -- A call begins.
-use Rattle.std.proofs.Common.{◌≡◌, ℕ, List, [], refl, sym, ap, subst, ◌∙◌}
-use Rattle.std.specs.Prelude.{Option, Some, Result}
+use Rattle.std.proofs.Common.{◌≡◌, List, [], sym, ap, subst, ◌∙◌}
+use Rattle.std.specs.Prelude.{Some, Result}
 use Rattle.ebr_base.specs.declared.numbers.EditionNo.{EditionNo}
 use Rattle.ebr_base.specs.declared.numbers.SessionId.{SessionId}
 use Rattle.ebr_ast.specs.declared.view.EditionView.{EditionView}
@@ -8,20 +8,21 @@ use Rattle.ebr_asks.specs.declared.answer.Answer.TheVariants as answer
 use Rattle.ebr_cross.specs.Catalogue.{Lists, IsViewOf, View as seen_in}
 use Rattle.ebr_record.specs.Keeper.{Keeper}
 use Rattle.ebr_database.specs.Shows.{Grew}
-use Rattle.ebr_database.specs.Database.{Session, Database}
+use Rattle.ebr_database.specs.Database.{Session, Database, session_at}
 use Rattle.ebr_database.proofs.Keeping.{grew_same}
 use Rattle.ebr_seats.specs.Ends.{call_opened}
 use Rattle.ebr_seats.specs.Seats.{Holds as Seated}
 use Rattle.ebr_units.specs.Living.{AreCurrent, Gives}
+use Rattle.ebr_levels.proofs.ReplyLemmas.{early_opened}
 use Rattle.ebr_core.specs.declared.current.Current.{Current}
 use Rattle.ebr_core.specs.Machine.{lists_of, reply_begin}
 use Rattle.ebr_core.specs.inside.Held.{Holds, IsReplied}
 
-pub begun : {K : Type 0} (told : K → Keeper) (old new : Current K) (db : Database) (e d : EditionNo) (s : SessionId) (x : Session) (v : EditionView) → Holds told old db → d ≡ e
+pub begun : {K : Type 0} (told : K → Keeper) (old new : Current K) (db : Database) (e d : EditionNo) (s : SessionId) (x : Session) (v : EditionView) → Holds told old db → session_at db.sessions s.0 ≡ Some x → d ≡ e
     → new.world.catalogue ≡ old.world.catalogue → new.world.keeper ≡ old.world.keeper → AreCurrent (lists_of db) new.views → AreCurrent (lists_of db) new.world.book
     → Seated (told old.world.keeper).used new.world.tx.contents new.seats.items (call_opened db s x) → IsViewOf (lists_of db) e v
     → IsReplied told old new (answer.View v) (reply_begin d db s x)
-begun told old new db e d s x v h same catalogue keeper views books seated seen = record {
+begun told old new db e d s x v h there same catalogue keeper views books seated seen = record {
   answer = ap answer.View (seen.is ∙ ap (λ k. seen_in (lists_of db) k) (sym same));
   kept = subst (λ k. Grew (told old.world.keeper) (told k) []) (sym keeper) (grew_same (told old.world.keeper));
   holds = record {
@@ -31,6 +32,7 @@ begun told old new db e d s x v h same catalogue keeper views books seated seen 
     books_are = books;
     seated = subst (λ k. Seated (told k).used new.world.tx.contents new.seats.items (call_opened db s x)) (sym keeper) seated;
     reached = h.reached;
+    early = early_opened db s h.early x there;
   };
 }
 

@@ -37,6 +37,7 @@ use Rattle.ebr_seats.specs.Ends.{own_of}
 use Rattle.ebr_seats.proofs.Seated.{at, at_here}
 use Rattle.ebr_seats.specs.Seats.{IsSeatOf, Sits, Holds as Seated, seat_at}
 use Rattle.ebr_units.specs.Living.{AreCurrent}
+use Rattle.ebr_levels.proofs.ReplyLemmas.{early_records}
 use Rattle.ebr_core.specs.declared.current.Current.{Current}
 use Rattle.ebr_core.specs.Machine.{lists_of, editions_in_use, recorded, defined_by, definition_answer, reply_define, behind, then_reply, answer_in, defined, is_held, table_changed}
 use Rattle.ebr_core.specs.Records.{record_of}
@@ -132,7 +133,7 @@ module _ {K : Type 0} (told : K → Keeper) where
   held_on : (old new : Current K) (db : Database) → Holds told old db → new ≡ with_keeper old new.world.keeper → Grew (told old.world.keeper) (told new.world.keeper) [] → Holds told new db
   held_on old new db h same kept =
       subst (λ c. Holds told c db) (sym same)
-      (holds_on told old (with_keeper old new.world.keeper) db h refl refl refl db refl h.reached (record {
+      (holds_on told old (with_keeper old new.world.keeper) db h refl refl refl db refl h.reached h.early (record {
         data_is = h.seated.data_is;
         used_is = omega (arith, kept.used, h.seated.used_is);
         storable = h.seated.storable;
@@ -186,6 +187,7 @@ module _ {K : Type 0} (told : K → Keeper) where
             seated = subst (λ l. Seated (told new.world.keeper).used new.world.tx.contents l (with_definition_of db r)) (sym seats)
                 (seated_on r db (told old.world.keeper).used (told new.world.keeper).used old.world.tx.contents new.world.tx.contents old.seats.items m h.seated grown.used after);
             reached = m.reached;
+            early = early_records db (record_of r ∷ []) h.early;
           };
         }
 

@@ -16,6 +16,7 @@ use Rattle.ebr_units.specs.Living.{AreCurrent}
 use Rattle.ebr_units.specs.declared.units.Units.{Units}
 use Rattle.ebr_exec.specs.declared.world.World.{World}
 use Rattle.ebr_seats.specs.Tests.{first_tests}
+use Rattle.ebr_levels.proofs.ReplyLemmas.{early_counted}
 use Rattle.ebr_seats.proofs.Seated.{at, at_here, seated, seat_within}
 use Rattle.ebr_core.specs.declared.current.Current.{Current}
 use Rattle.ebr_core.specs.Machine.{lists_of, Reply, counting, counted_in, edition_found, edition_set, reply_define, reply_in, reply_to, reply_while, then_reply, unless_refused}
@@ -96,5 +97,6 @@ module _ {K : Type 0} (told : K → Keeper) (old mid : Current K) (s : SessionId
           books_are = subst (λ (w : World K Units). AreCurrent (lists_of r.database) w.book) (sym world) m.holds.books_are;
           seated = subst (λ (w : World K Units). Seated (told w.keeper).used w.tx.contents new.seats.items (with_session r.database s (counted q a here.session))) (sym world) (seats here.session here.is);
           reached = m.holds.reached;
+          early = early_counted r.database s m.holds.early here.session here.is q a;
         };
       }))

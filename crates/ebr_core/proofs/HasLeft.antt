@@ -12,6 +12,7 @@ use Rattle.ebr_seats.specs.declared.seat.Seat.{Seat}
 use Rattle.ebr_seats.specs.Ends.{reply_leave}
 use Rattle.ebr_seats.specs.Seats.{HasSeat, IsHeld as IsSeatHeld, Holds as Seated, Leaves}
 use Rattle.ebr_seats.proofs.Live.{has_seat}
+use Rattle.ebr_levels.proofs.ReplyLemmas.{early_counted, early_leave}
 use Rattle.ebr_core.specs.declared.current.Current.{Current}
 use Rattle.ebr_core.specs.Machine.{Reply, counted_in, counting, reply_in}
 use Rattle.ebr_core.specs.inside.Held.{Holds, HasSession, IsReplied}
@@ -42,4 +43,5 @@ module _ {K : Type 0} (told : K → Keeper) (old new : Current K) (db : Database
   pub has_left : Seated (told old.world.keeper).used new.world.tx.contents new.seats.items (with_session (reply_leave db s x).database s (counted Leave Done (left x))) → IsReplied told old new Done (Reply db s Leave)
   has_left seated =
       subst (IsReplied told old new Done) (sym reply_is)
-      (leaves_on told old new db h catalogue views books is_counted (sym (append-nil db.records)) keeper Done (record { answer = refl; none = refl; holds = seated }))
+      (leaves_on told old new db h catalogue views books is_counted (sym (append-nil db.records))
+      (early_counted (reply_leave db s x).database s (early_leave db s h.early x there) (left x) (left_there db s x there) Leave Done) keeper Done (record { answer = refl; none = refl; holds = seated }))

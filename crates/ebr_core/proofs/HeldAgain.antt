@@ -20,6 +20,7 @@ use Rattle.ebr_database.specs.Database.{Session, Database, Replied, session_at, 
 use Rattle.ebr_database.proofs.Keeping.{grew_same, stays}
 use Rattle.ebr_seats.specs.Seats.{Finishes, Goes, Leaves, LeavesOr, Holds as Seated, IsHeld as IsSeatHeld}
 use Rattle.ebr_units.specs.Living.{AreCurrent}
+use Rattle.ebr_levels.specs.Beginnings.{HasEarly}
 use Rattle.ebr_core.specs.declared.current.Current.{Current}
 use Rattle.ebr_core.specs.Machine.{lists_of}
 use Rattle.ebr_core.specs.Records.{catalogue_of}
@@ -33,24 +34,25 @@ module _ {K : Type 0} (told : K → Keeper) where
   seat_held now s h = record { used = (told now.world.keeper).used; database = h.database; session = h.session; holds = h.holds.seated; there = h.has.there }
 
   module _ (old new : Current K) (db : Database) (h : Holds told old db) (catalogue : new.world.catalogue ≡ old.world.catalogue) (views : new.views ≡ old.views) (books : new.world.book ≡ old.world.book) where
-    pub holds_on : (db' : Database) → catalogue_of db'.records ≡ catalogue_of db.records → AreReached db'.records
+    pub holds_on : (db' : Database) → catalogue_of db'.records ≡ catalogue_of db.records → AreReached db'.records → HasEarly db'
         → Seated (told new.world.keeper).used new.world.tx.contents new.seats.items db' → Holds told new db'
-    holds_on db' same reached seated = record {
+    holds_on db' same reached early seated = record {
       catalogue_is = catalogue ∙ h.catalogue_is ∙ ap kept (sym same);
       own_keys = subst HaveOwnKeys (sym same) h.own_keys;
       views_are = subst (λ c. AreCurrent c new.views) (sym same) (subst (AreCurrent (lists_of db)) (sym views) h.views_are);
       books_are = subst (λ c. AreCurrent c new.world.book) (sym same) (subst (AreCurrent (lists_of db)) (sym books) h.books_are);
       seated = seated;
       reached = reached;
+      early = early;
     }
 
-    module _ (r : Replied) (grown : r.database.records ≡ db.records ++ r.records) where
+    module _ (r : Replied) (grown : r.database.records ≡ db.records ++ r.records) (early : HasEarly r.database) where
       pub goes_on : AllByRecursion IsCommit r.records → (a : Answer) → Goes (told old.world.keeper) (told new.world.keeper) new.world.tx.contents new.seats.items a r → IsReplied told old new a r
       goes_on commits a g = record {
         answer = g.answer;
         kept = g.kept;
         holds = holds_on r.database (ap catalogue_of grown ∙ same_lists db.records r.records commits)
-            (subst AreReached (sym grown) (reached_commits db.records r.records commits h.reached)) g.holds;
+            (subst AreReached (sym grown) (reached_commits db.records r.records commits h.reached)) early g.holds;
       }
 
       pub leaves_on : new.world.keeper ≡ old.world.keeper → (a : Answer) → Leaves (told old.world.keeper).used new.world.tx.contents new.seats.items a r → IsReplied told old new a r
@@ -59,7 +61,7 @@ module _ {K : Type 0} (told : K → Keeper) where
           record {
             answer = g.answer;
             kept = subst (λ l. Grew (told old.world.keeper) (told new.world.keeper) l) (sym g.none) (subst (λ k. Grew (told old.world.keeper) (told k) []) (sym keeper) (grew_same (told old.world.keeper)));
-            holds = holds_on r.database (ap catalogue_of same) (subst AreReached (sym same) h.reached)
+            holds = holds_on r.database (ap catalogue_of same) (subst AreReached (sym same) h.reached) early
                 (subst (λ k. Seated (told k).used new.world.tx.contents new.seats.items r.database) (sym keeper) g.holds);
           }
 
@@ -96,4 +98,5 @@ module _ {K : Type 0} (told : K → Keeper) where
     books_are = subst (λ w. AreCurrent (lists_of db) w.book) (sym world) h.books_are;
     seated = subst (λ w. Seated (told w.keeper).used w.tx.contents new.seats.items db) (sym world) (subst (λ l. Seated (told old.world.keeper).used old.world.tx.contents l.items db) (sym seats) h.seated);
     reached = h.reached;
+    early = h.early;
   }

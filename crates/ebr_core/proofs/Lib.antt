@@ -11,6 +11,7 @@ mod Spellings
 mod HeldAgain
 mod Begun
 mod Switched
+mod StatementRecords
 mod RunStatements
 mod Placed
 mod Counted

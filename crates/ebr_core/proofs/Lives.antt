@@ -1,9 +1,8 @@
 -- Which sessions live behind a reply, and what answers replies have.
 use Rattle.std.proofs.Common.{◌≡◌, ◌≢◌, ℕ, zero, suc, ◌-◌, ◌+◌, ◌≤◌, Bool, true, false, ◌&&◌, List, [], ◌∷◌, ◌++◌, length, map, refl, sym, ap, subst, ◌∙◌, arith}
-use Rattle.std.specs.Prelude.{Option, Some, None, is_some, IfOk, Result, Ok, Err, if◌then◌else◌, slice_get, slice_set, replicate, not}
+use Rattle.std.specs.Prelude.{Option, Some, None, is_some, IfOk, Result, Ok, Err, slice_get, slice_set, replicate}
 use Rattle.std.proofs.lemmas.Option.{same_Some}
 use Rattle.ebr_base.specs.declared.code.Code.{Code}
-use Rattle.ebr_base.specs.declared.code.Code.TheVariants.{Ora, Ebr}
 use Rattle.ebr_base.specs.declared.numbers.EditionNo.{EditionNo}
 use Rattle.ebr_base.specs.declared.numbers.SessionId.{SessionId}
 use Rattle.ebr_base.specs.declared.row.TxId.{TxId}
@@ -19,27 +18,25 @@ use Rattle.ebr_asks.specs.declared.answer.Answer.{Answer}
 use Rattle.ebr_asks.specs.declared.answer.Answer.TheVariants as answer
 use Rattle.ebr_cross.specs.declared.record.CatalogueRecord.{CatalogueRecord}
 use Rattle.ebr_record.specs.declared.record.Record.{Record}
-use Rattle.ebr_tx.specs.Data.{Data, named_at}
+use Rattle.ebr_tx.specs.Data.{named_at}
 use Rattle.ebr_tx.specs.declared.savepoints.TxMark.{TxMark}
 use Rattle.ebr_sqlcheck.specs.Checked.{must, on}
-use Rattle.ebr_query.specs.Queries.{Answered as Queried}
-use Rattle.ebr_dml.specs.Steps.{Standing}
-use Rattle.ebr_dml.specs.declared.taken.Taken.{Taken}
+use Rattle.ebr_query.specs.Queries.{Answered as Queried, Query}
 use Rattle.ebr_database.specs.Base.{Base}
 use Rattle.ebr_database.specs.Outcome.{Outcome}
 use Rattle.ebr_database.specs.Database.{Session, Database, Replied, session_at, with_session, after_outcome, base_in, data_of, is_done, on_top, own_on_top, at_end, at_back, counted, replied, as_answer, reply_commit}
 use Rattle.ebr_database.specs.Transact.{Done, back_to, commit, pop, push, roll_back, savepoint}
-use Rattle.ebr_exec.specs.Places.{Names, Place, is_under_change, names_of, own_place}
+use Rattle.ebr_exec.specs.Places.{Names, Place, names_of, own_place}
 use Rattle.ebr_database.specs.Carried.{room_for}
-use Rattle.ebr_sqlcheck.specs.Statements.{checked_with}
 use Rattle.ebr_tx.specs.Calls.{after_begin, mark_of}
 use Rattle.ebr_record.specs.Keeper.{used_by}
-use Rattle.ebr_exec.specs.Statements as statement
-use Rattle.ebr_exec.specs.Statements.{Ran, Stmt, max_levels}
+use Rattle.ebr_exec.specs.Statements.{Ran, Statements, carries, ended, max_levels, query_ran, rows_given}
+use Rattle.ebr_bodies.specs.Bodies.{Doing}
+use Rattle.ebr_bodies.specs.Statements.{Stmt, begun, begun_ran, change_ran, checked_ran, finished, first_doing, name_tests, unless_refused as if_tested}
 use Rattle.ebr_seats.proofs.Seated.{at, at_there as at_other}
 use Rattle.ebr_seats.specs.Tests.{first_tests}
 use Rattle.ebr_seats.specs.Ends.{begun_in, own_of}
-use Rattle.ebr_core.specs.Machine.{Reply, answer_in, behind, counted_in, counting, creation_answer, defined, defined_by, editions_in_use, lists_of, recorded, definition_answer, edition_found, edition_set, reply_begin, reply_define, reply_in, reply_to, reply_while, refused, ran, then_reply, unless_refused}
+use Rattle.ebr_core.specs.Machine.{Reply, answer_in, behind, counted_in, counting, creation_answer, defined, editions_in_use, lists_of, recorded, definition_answer, edition_found, edition_set, reply_define, reply_in, reply_to, reply_while, then_reply, unless_refused}
 use Rattle.ebr_core.specs.History.{edition_of}
 use Rattle.ebr_core.specs.inside.Parts.{is_there, lives, live_count, lives_at, lives_in}
 
@@ -164,38 +161,37 @@ on_keeps P f (Err code) h = tt
 abbrev GivesPlain : Ran → Type 0
 GivesPlain r = IsPlain r.answer
 
-query_plain : (p : Place) (room : ℕ) (a : Queried) → IfOk (statement.query_ran p room a) GivesPlain
+query_plain : (p : Place) (room : ℕ) (a : Queried) → IfOk (query_ran p room a) GivesPlain
 query_plain p room a =
-    on_keeps GivesPlain (statement.rows_given p room a.after) a.answer (λ rows.
-    on_keeps GivesPlain (λ u. Ok (record { answer = answer.Rows rows; data_after = a.after })) (must _ (statement.carries p.changing room rows)) (λ u. tt))
+    on_keeps GivesPlain (rows_given p room a.after) a.answer (λ rows.
+    on_keeps GivesPlain (λ u. Ok (record { answer = answer.Rows rows; data_after = a.after })) (must _ (carries p.changing room rows)) (λ u. tt))
 
-written_plain : (s : Standing) (d : Data) → IfOk (statement.all_written s d) GivesPlain
-written_plain s d =
-    on_keeps GivesPlain (λ rows. on (statement.counted (length rows)) (statement.rows_written s.tx s.plan s.binds rows d)) s.rest (λ rows.
-    on_keeps GivesPlain (statement.counted (length rows)) (statement.rows_written s.tx s.plan s.binds rows d) (λ d'. tt))
-
-change_plain : (fires : Bool) (d : Data) (r : Result Standing Code) → IfOk (on (statement.change_ran fires d) r) GivesPlain
-change_plain fires d r =
-    on_keeps GivesPlain (statement.change_ran fires d) r (λ s.
-    on_keeps GivesPlain (λ u. statement.all_written s d) (must (Ebr 1) (not fires)) (λ u. written_plain s d))
-
-begun_plain : (v : EditionView) (p : Place) (fires : Bool) (s : SqlTree) (binds : List Value) (room : ℕ) (d : Data) → IfOk (statement.begun_ran v p fires s binds room d) GivesPlain
-begun_plain v p fires (sql.Query q) binds room d = query_plain p room _
-begun_plain v p fires (sql.Apply name) binds room d = tt
-begun_plain v p fires s binds room d = change_plain fires d _
-
-statement_plain : (v : EditionView) (p : Place) (fires : Bool) (s : SqlTree) (binds : List Value) (room : ℕ) (d : Data) → IfOk (statement.statement_ran v p fires s binds room d) GivesPlain
-statement_plain v p fires s binds room d =
-    on_keeps GivesPlain (λ u. on (λ u'. statement.begun_ran v p fires s binds room (after_begin d p.tx)) (must (Ora 4091) (not (is_under_change v p s)))) (checked_with v binds s) (λ u.
-    on_keeps GivesPlain (λ u'. statement.begun_ran v p fires s binds room (after_begin d p.tx)) (must (Ora 4091) (not (is_under_change v p s))) (λ u'. begun_plain v p fires s binds room (after_begin d p.tx)))
-
-ended_plain : (b : Base) (r : Result Ran Code) → IfOk r GivesPlain → IsPlain (statement.ended b r).value
+ended_plain : (b : Base) (r : Result Ran Code) → IfOk r GivesPlain → IsPlain (ended b r).value
 ended_plain b (Ok r) h = h
 ended_plain b (Err code) h = tt
 
+finished_plain : (t : TxId) (before : Base) (r : Result ℕ Code) (σ : Doing) → IsPlain (finished t before r σ).value
+finished_plain t before (Ok n) σ = tt
+finished_plain t before (Err code) σ = tt
+
+module _ (deeper : Statements) (names : Names) (p : Place) (binds : List Value) (left room : ℕ) (b : Base) where
+  change_plain : (s : SqlTree) → IsPlain (change_ran deeper names p s binds left room b).value
+  change_plain s =
+      let o : Outcome Doing (Result ℕ Code) = begun_ran deeper names p s binds left (first_doing (begun p b) room) in
+      finished_plain p.tx b o.value o.state
+
+  checked_plain : (s : SqlTree) → IsPlain (checked_ran deeper names p s binds left room b).value
+  checked_plain (sql.Query q) = ended_plain b _ (query_plain p room (Query q (after_begin b.data_now p.tx) p.tx (names.view p.edition) binds))
+  checked_plain s = change_plain s
+
+tested_plain : (r : Result (Unit {0}) Code) (b : Base) (o : Outcome Base Answer) → IsPlain o.value → IsPlain (if_tested r b o).value
+tested_plain (Ok u) b o h = h
+tested_plain (Err code) b o h = tt
+
 stmt_plain : (names : Names) (n : ℕ) (p : Place) (s : SqlTree) (binds : List Value) (left room : ℕ) (b : Base) → IsPlain (Stmt names n p s binds left room b).value
 stmt_plain names zero p s binds left room b = tt
-stmt_plain names (suc n) p s binds left room b = ended_plain b _ (statement_plain _ p _ s binds room b.data_now)
+stmt_plain names (suc n) p s binds left room b =
+    tested_plain (name_tests names p s binds) b (checked_ran (Stmt names n) names p s binds left room b) (checked_plain (Stmt names n) names p binds left room b s)
 
 done_plain : (d : Done) → IsPlain (as_answer d)
 done_plain (Ok u) = tt

@@ -1,20 +1,15 @@
 -- What records that are made leave: commits leave the catalogue and its tables, and a definition leaves what is read off its record.
 use Rattle.std.proofs.Common.{◌≡◌, ℕ, zero, suc, ◌+◌, ◌≤◌, Bool, true, false, List, [], ◌∷◌, ◌++◌, length, refl, ap, ◌∙◌, arith}
-use Rattle.std.specs.Prelude.{fold, nat_le, Some, Result, Ok, Err}
+use Rattle.std.specs.Prelude.{fold, nat_le, Some, Ok}
 use Rattle.std.specs.List.{AllByRecursion}
 use Rattle.std.proofs.lemmas.Grind.{fold-append}
 use Rattle.std.proofs.lemmas.List.Sums.{sum_by-append}
 use Rattle.ebr_base.specs.declared.row.Change.{Change}
 use Rattle.ebr_base.specs.declared.row.TxId.{TxId}
 use Rattle.ebr_tx.specs.Data.{Data, own}
-use Rattle.ebr_base.specs.declared.code.Code.{Code}
 use Rattle.ebr_base.specs.declared.numbers.EditionNo.{EditionNo}
-use Rattle.ebr_base.specs.declared.value.Value.{Value}
 use Rattle.ebr_ast.specs.declared.definition.Definition.{Definition}
-use Rattle.ebr_ast.specs.declared.sql.SqlTree.{SqlTree}
 use Rattle.ebr_script.specs.Pieces.{CreatesObject, stored_definition}
-use Rattle.ebr_exec.specs.Places.{Names, Place}
-use Rattle.ebr_exec.specs.Statements.{Ran, Stmt, ended}
 use Rattle.ebr_cross.specs.declared.record.CatalogueRecord.{CatalogueRecord}
 use Rattle.ebr_cross.specs.declared.record.CatalogueRecord.TheVariants as made
 use Rattle.ebr_cross.specs.Definitions.{outcome}
@@ -97,15 +92,3 @@ defines db e sessions what text r spells short is reached =
           ∙ ap (λ used. record { data_now = with_table_of (data_of db) r; used = used }) (used_more db.records (record_of r));
       reached = reached_more db.records e sessions what text r spells short is reached;
     }
-
--- ---- statements
-
-ended_makes : (b : Base) (r : Result Ran Code) → ((ended b r).made ≡ []) × ((ended b r).state.used ≡ b.used)
-ended_makes b (Ok r) = (refl, refl)
-ended_makes b (Err code) = (refl, refl)
-
--- a statement makes no record
-pub statement_makes : (names : Names) (n : ℕ) (p : Place) (s : SqlTree) (binds : List Value) (left room : ℕ) (b : Base)
-    → ((Stmt names n p s binds left room b).made ≡ []) × ((Stmt names n p s binds left room b).state.used ≡ b.used)
-statement_makes names zero p s binds left room b = (refl, refl)
-statement_makes names (suc n) p s binds left room b = ended_makes b _

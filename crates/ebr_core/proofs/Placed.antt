@@ -68,7 +68,7 @@ module _ {K : Type 0} (told : K → Keeper) (now : Current K) (s : SessionId) wh
   pub refused_here : (db : Database) → Holds told now db → (code : Code) (a : Answer) → a ≡ answer.Refused code 0 [] → IsReplied told now now a (refused db code)
   refused_here db h code a is =
       subst (λ b. IsReplied told now now b (refused db code)) (sym is)
-      (leaves_on told now now db h refl refl refl (refused db code) (sym (append-nil db.records)) refl (answer.Refused code 0 []) (record { answer = refl; none = refl; holds = h.seated }))
+      (leaves_on told now now db h refl refl refl (refused db code) (sym (append-nil db.records)) h.early refl (answer.Refused code 0 []) (record { answer = refl; none = refl; holds = h.seated }))
 
 last_test : (a b c : Bool) → some_code (if a then Some (Ebr 10) else (if b then Some (Ebr 11) else (if c then Some (Ebr 15) else None))) ≡ None → c ≡ false
 last_test true b c e = cc

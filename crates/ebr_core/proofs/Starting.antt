@@ -8,6 +8,7 @@ use Rattle.ebr_tx.specs.Calls.{first_data}
 use Rattle.ebr_database.specs.Database.{data_of}
 use Rattle.ebr_seats.specs.Seats.{Begin, Holds as Seated}
 use Rattle.ebr_units.specs.Living.{AreCurrent}
+use Rattle.ebr_levels.proofs.ReplyLemmas.{early_first}
 use Rattle.ebr_core.specs.declared.current.Current.{Current}
 use Rattle.ebr_ast.specs.declared.view.EditionView.{EditionView}
 use Rattle.ebr_asks.specs.declared.entry.Entry.{Entry}
@@ -16,6 +17,7 @@ use Rattle.ebr_core.specs.declared.parts.Parts.{Parts}
 use Rattle.ebr_core.specs.History.{After, Legal}
 use Rattle.ebr_core.specs.Engine.{IsEmpty, has_given_up, no_books}
 use Rattle.ebr_core.specs.Machine.{Build}
+use Rattle.ebr_core.specs.Records.{catalogue_of}
 use Rattle.ebr_core.specs.inside.Held.{Holds}
 use Rattle.ebr_core.specs.inside.Parts.{IsSound, Runs, Stands, database, first, live_count, lives}
 use Rattle.ebr_core.proofs.Lives.{all_there, count_most}
@@ -34,6 +36,7 @@ first_holds told now n catalogue views books contents begin empty = record {
       subst (λ used. Seated used now.world.tx.contents now.seats.items (Build [] n)) (sym empty.used)
       (subst (λ d. Seated (used_by []) d now.seats.items (Build [] n)) (sym contents) (begin (Build [] n) refl refl));
   reached = none_reached;
+  early = early_first (Build [] n) n (catalogue_of []).editions.default refl refl;
 }
 
 length_of : {X : Type 0} (n : ℕ) (x : X) → length (replicate n x) ≡ n

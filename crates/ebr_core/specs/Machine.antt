@@ -36,7 +36,8 @@ use Rattle.ebr_database.specs.Database.{Session, Database, Replied, data_of, bas
 use Rattle.ebr_seats.specs.Tests.{first_tests}
 use Rattle.ebr_seats.specs.Ends.{begun_in, own_of, unchanged, call_opened, reply_end, reply_leave}
 use Rattle.ebr_exec.specs.Places.{names_of, own_place}
-use Rattle.ebr_exec.specs.Statements.{Stmt, max_levels}
+use Rattle.ebr_exec.specs.Statements.{max_levels}
+use Rattle.ebr_bodies.specs.Statements.{Stmt}
 use Rattle.ebr_core.specs.Records.{record_of, catalogue_of}
 
 -- ---- databases
@@ -67,7 +68,8 @@ refused db code = unchanged db (Refused code 0 [])
 abbrev pub reply_begin : EditionNo → Database → SessionId → Session → Replied
 reply_begin e db s x = unchanged (call_opened db s x) (View (catalogue.View (lists_of db) e))
 
--- A statement, in the transaction on top of the session's stack.
+-- A statement with the bodies of its triggers, in the transaction on top of the session's stack. The records are those that the
+-- autonomous transactions in these bodies commit.
 abbrev pub ran : Database → Outcome Base Answer → Replied
 ran db o = record { database = after_outcome db o; answer = o.value; records = o.made; questions = o.asked }
 

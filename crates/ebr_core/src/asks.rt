@@ -14,13 +14,13 @@ use crate::current::{Current, Given};
 use ebr_asks::{Answer, Ask};
 use ebr_ast::SqlTree;
 use ebr_base::{Code, EditionNo, Name, NoMemory, SessionId, Stop, Value};
-use ebr_database::{Failure, Halt};
-use ebr_exec::run_seen;
+use ebr_database::{Failure, Halt, asks_are_read_back};
 use ebr_record::Keep;
 use ebr_seats::{
     back_to_top, commit_top, end_call, open_call, own_of, pop_top, push_top, roll_back_top,
     savepoint_top, seat_of, set_edition, top_of,
 };
+use ebr_statements::run_sql;
 use std::alloc::Global;
 
 /// A call begins: all that the session's edition sees, with its book, which serves the call to its end.
@@ -40,7 +40,7 @@ pub fn begin<K: Keep>(
     Ok((Answer::View(view), Some(book)))
 }
 
-/// A statement, in the transaction on top of the session's stack.
+/// A statement with the bodies of its triggers, in the transaction on top of the session's stack.
 pub fn sql<K: Keep>(
     alloc: Global,
     current: &mut Current<K>,
@@ -58,7 +58,7 @@ pub fn sql<K: Keep>(
     let t = top_of(current.seats.as_slice(), s);
     let room = seat_of(current.seats.as_slice(), s).room_for(ask);
     let view = current.views.of(alloc, &current.world.catalogue, e)?;
-    run_seen(
+    run_sql(
         alloc,
         &mut current.world,
         t,
@@ -102,6 +102,7 @@ pub fn commit<K: Keep>(alloc: Global, current: &mut Current<K>, s: SessionId) ->
     requires { IsHeld K.told current.old s }
     ensures { ForSession K.told current.old s (λ db e x. Replies K.told current.old current.new (answered result) (reply_commit db s x)) }
 {
+    asks_are_read_back();
     commit_top(
         alloc,
         &mut current.world.tx,
@@ -115,6 +116,7 @@ fn roll_back<K: Keep>(alloc: Global, current: &mut Current<K>, s: SessionId)
     requires { IsHeld K.told current.old s }
     ensures { ForSession K.told current.old s (λ db e x. IsReplied K.told current.old current.new Done (reply_rollback db s x)) }
 {
+    asks_are_read_back();
     roll_back_top(alloc, &mut current.world.tx, &mut current.seats, s);
 }
 
@@ -127,6 +129,7 @@ fn savepoint<K: Keep>(
     requires { IsHeld K.told current.old s }
     ensures { ForSession K.told current.old s (λ db e x. Replies K.told current.old current.new (answered result) (reply_savepoint db s x name.now)) }
 {
+    asks_are_read_back();
     savepoint_top(
         alloc,
         &mut current.world.tx,
@@ -141,6 +144,7 @@ fn back_to<K: Keep>(current: &mut Current<K>, s: SessionId, name: &Name) -> Resu
     requires { IsHeld K.told current.old s }
     ensures { ForSession K.told current.old s (λ db e x. Replies K.told current.old current.new (answered result) (reply_back_to db s x name.now)) }
 {
+    asks_are_read_back();
     failed(back_to_top(&mut current.world.tx, &mut current.seats, s, name))
 }
 
@@ -148,6 +152,7 @@ fn push<K: Keep>(current: &mut Current<K>, s: SessionId) -> Result<(), Failure>
     requires { IsHeld K.told current.old s }
     ensures { ForSession K.told current.old s (λ db e x. is_some x.call ≡ true → Replies K.told current.old current.new (answered result) (reply_push db s x)) }
 {
+    asks_are_read_back();
     failed(push_top(&mut current.world.tx, &mut current.seats, s))
 }
 
@@ -156,6 +161,7 @@ fn pop<K: Keep>(current: &mut Current<K>, s: SessionId, failed: bool) -> Result<
     requires level { (seat : Held) → seat_at current.old.seats.items s.0 ≡ Some seat → 0 < seat.levels }
     ensures { ForSession K.told current.old s (λ db e x. Replies K.told current.old current.new (answered result) (reply_pop db s x failed)) }
 {
+    asks_are_read_back();
     refused_by(pop_top(&mut current.world.tx, &mut current.seats, s, failed))
 }
 

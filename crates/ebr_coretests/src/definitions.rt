@@ -3,7 +3,7 @@
 use crate::script::fault_in;
 use std::test::Fail;
 
-/// A statement that would fire a trigger is EBR-0001, since the bodies of triggers don't run yet.
+/// What sessions are answered one after the other, and the records that are kept.
 static DEFINITIONS: &str = "\
 a definition commits first, also where it is refused then~0~\
 1 UPDATE t SET n = 11 WHERE id = 1 => rows 1
@@ -132,19 +132,23 @@ commit 1
 object 2
 drop edition 2
 ~\
-a trigger of a later edition would fire for the sessions before it, where it is enabled~0~\
+a trigger of a later edition fires for the sessions before it, where it is enabled~0~\
 1 CREATE EDITION v2
 1 ALTER SESSION SET EDITION = v2
 1 CREATE TRIGGER f BEFORE UPDATE ON t FOR EACH ROW FORWARD CROSSEDITION BEGIN :NEW.n := :NEW.n * 2; END;
-2 UPDATE t SET n = 12 WHERE id = 1 => EBR-0001
-2 UPDATE t SET n = 12 WHERE id = 9 => EBR-0001
+2 UPDATE t SET n = 12 WHERE id = 1 => rows 1
+2 UPDATE t SET n = 12 WHERE id = 9 => rows 0
+2 SELECT n FROM t => (24) (20)
+2 ROLLBACK
 2 DELETE FROM t WHERE id = 9 => rows 0
 1 UPDATE t SET n = 21 WHERE id = 2 => rows 1
 1 ALTER TRIGGER f DISABLE
 2 UPDATE t SET n = 12 WHERE id = 1 => rows 1
 2 COMMIT
 1 ALTER TRIGGER f ENABLE
-2 UPDATE t SET n = 13 WHERE id = 1 => EBR-0001
+2 UPDATE t SET n = 13 WHERE id = 1 => rows 1
+2 SELECT n FROM t => (26) (21)
+2 ROLLBACK
 1 DROP TRIGGER f
 2 UPDATE t SET n = 13 WHERE id = 1 => rows 1
 2 COMMIT

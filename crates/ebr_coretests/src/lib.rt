@@ -15,3 +15,5 @@ mod ends;
 mod printing;
 #[cfg(test)]
 mod script;
+#[cfg(test)]
+mod triggers;

@@ -1,6 +1,5 @@
 pub mod Places
 pub mod Narrow
 pub mod Statements
-pub mod Grown
 pub mod Shows
 pub mod inside

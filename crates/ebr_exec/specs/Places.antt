@@ -1,5 +1,5 @@
 -- Where a statement stands, and what it reads of the catalogue.
-use Rattle.std.specs.Prelude.{ℕ, Bool, ◌&&◌, ◌==◌, List, [], ◌∷◌, ◌++◌, Option, Some, None, option_map}
+use Rattle.std.specs.Prelude.{ℕ, Bool, ◌&&◌, ◌==◌, List, [], ◌∷◌, Option, Some, None, option_map}
 use Rattle.std.specs.List.{list_any, filter_map}
 use Rattle.ebr_base.specs.declared.numbers.EditionNo.{EditionNo}
 use Rattle.ebr_base.specs.declared.numbers.TableId.{TableId}
@@ -79,10 +79,6 @@ is_table a b = a.0 == b.0
 abbrev pub is_changing : TxId → List TableId → Under → Bool
 is_changing t tables u = same_tx u.tx t && list_any (is_table u.table) tables
 
--- A statement of the same transaction is changing a table that this one reads or writes.
-abbrev pub is_under_change : EditionView → Place → SqlTree → Bool
-is_under_change v p s = list_any (is_changing p.tx (touched v s)) p.changing
-
 -- ---- the triggers of a statement
 
 -- what a statement fires: the name that it gives, and its operation
@@ -96,8 +92,3 @@ target (sql.Apply name) = None
 abbrev pub questions_on : Place → Option (List ℕ × Op) → List Question
 questions_on p None = []
 questions_on p (Some on) = Fires p.edition on.0 on.1 timing.Before p.origin ∷ Fires p.edition on.0 on.1 timing.After p.origin ∷ []
-
--- which triggers fire, of either timing
-abbrev pub firings_on : Names → Place → Option (List ℕ × Op) → List Firing
-firings_on names p None = []
-firings_on names p (Some on) = names.fires p.edition on.0 on.1 timing.Before p.origin ++ names.fires p.edition on.0 on.1 timing.After p.origin

@@ -1,4 +1,1 @@
-pub mod Given
-pub mod Rest
 pub mod Over
-pub mod Changes

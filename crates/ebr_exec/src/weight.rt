@@ -1,9 +1,9 @@
-//! How much the values and lines weigh that a session carries.
+//! How much the values weigh that a session carries.
 
 ghost use Rattle.std.specs.Prelude.{◌≡◌, ◌+◌, min, sum_by, length, nat_lt, not};
-ghost use Rattle.ebr_database.specs.Carried.{value_weight, row_weight, line_weight};
+ghost use Rattle.ebr_database.specs.Carried.{row_weight, value_weight};
 
-use ebr_base::{Bytes, List, Value};
+use ebr_base::{List, Value};
 
 /// Where a weight isn't counted further, since no room is so large.
 const TOO_MUCH: u64 = 4294967296;
@@ -16,7 +16,7 @@ pub fn has_room(rows: &[List<Value>], room: u32) -> bool
 }
 
 /// The weight of rows, counted up to 4,294,967,296.
-pub fn rows_weight(rows: &[List<Value>]) -> u64
+fn rows_weight(rows: &[List<Value>]) -> u64
     ensures { result ≡ min 4294967296 (sum_by row_weight rows.now) }
 {
     let mut weight = 0;
@@ -26,24 +26,13 @@ pub fn rows_weight(rows: &[List<Value>]) -> u64
     weight
 }
 
-/// The weight of a row, or of binds, counted up to 4,294,967,296.
-pub fn row_weight(values: &[Value]) -> u64
+/// The weight of a row, counted up to 4,294,967,296.
+fn row_weight(values: &[Value]) -> u64
     ensures { result ≡ min 4294967296 (row_weight values.now) }
 {
     let mut weight = 0;
     for value in values {
         weight = (weight + value_weight(value)).min(TOO_MUCH);
-    }
-    weight
-}
-
-/// The weight of lines that triggers printed, counted up to 4,294,967,296.
-pub fn lines_weight(lines: &[Bytes]) -> u64
-    ensures { result ≡ min 4294967296 (sum_by line_weight lines.now) }
-{
-    let mut weight = 0;
-    for line in lines {
-        weight = (weight + text_weight(line.as_slice())).min(TOO_MUCH);
     }
     weight
 }

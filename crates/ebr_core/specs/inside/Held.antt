@@ -22,6 +22,7 @@ use Rattle.ebr_database.specs.Shows.{Grew, GaveUp}
 use Rattle.ebr_database.specs.Database.{Session, Database, Replied, session_at}
 use Rattle.ebr_seats.specs.Seats.{Holds as Seated}
 use Rattle.ebr_units.specs.Living.{AreCurrent}
+use Rattle.ebr_levels.specs.Beginnings.{HasEarly}
 use Rattle.ebr_core.specs.declared.current.Current.{Current}
 pub use Rattle.ebr_core.specs.Asked.{max_text, IsTextOf, IsFit}
 use Rattle.ebr_core.specs.Machine.{lists_of}
@@ -74,8 +75,8 @@ ComesWith ask answer book = book ≡ None
 
 module _ {K : Type 0} (told : K → Keeper) where
   -- The catalogue is kept of the lists of the database, in which objects stand under their own keys; the views and the books are of
-  -- what their editions see; the transactions, the seats and the keeper are those of the database; and its records are such as the
-  -- machine makes.
+  -- what their editions see; the transactions, the seats and the keeper are those of the database; its records are such as the
+  -- machine makes; and none of its transactions began later than now.
   pub record Holds (now : Current K) (db : Database) : Type 0 where
     pub catalogue_is : now.world.catalogue ≡ kept (lists_of db)
     pub own_keys : HaveOwnKeys (lists_of db)
@@ -83,6 +84,7 @@ module _ {K : Type 0} (told : K → Keeper) where
     pub books_are : AreCurrent (lists_of db) now.world.book
     pub seated : Seated (told now.world.keeper).used now.world.tx.contents now.seats.items db
     pub reached : AreReached db.records
+    pub early : HasEarly db
 
   -- the keeper at a moment
   abbrev pub keeper_of : Current K → Keeper

@@ -27,7 +27,7 @@ returns-in-Err g c = λ db e x h has.
 
 pub returns-in-Ok : goal.returns-in-Ok
 returns-in-Ok g c = λ db e x h has.
-    is_set g.K.Keep.told c.args.current.now db h c.args.s x c.args.name.now _ c.in-Ok.e refl refl refl refl
+    is_set g.K.Keep.told c.args.current.now db h c.args.s x c.args.name.now _ c.in-Ok.e has.there refl refl refl refl
     (sym c.if-begun.false ∙ c.begun.ensures ∙ ap (λ t. is_some (own c.args.current.now.world.tx.contents t).begun) c.own_of.ensures)
     (sym c.in-Ok.is ∙ c.edition_named.ensures)
     (c.set_edition.ensures c.args.current.now.world.tx.contents (g.K.Keep.told c.args.current.now.world.keeper).used db x h.seated has.there)

@@ -1,0 +1,242 @@
+//! APPLY TRIGGER.
+
+use ebr_trial::{Setup, wrong_behind};
+use std::test::Fail;
+
+/// A table with three rows, and an ordinary trigger on it.
+const ROWS: Setup = Setup {
+    script: "\
+CREATE TABLE t (id NUMBER(9) PRIMARY KEY, a NUMBER(9), b NUMBER(9));
+INSERT INTO t VALUES (1, 10, NULL);
+INSERT INTO t VALUES (2, 20, NULL);
+INSERT INTO t VALUES (3, 30, NULL);
+COMMIT;
+CREATE TRIGGER o BEFORE UPDATE ON t FOR EACH ROW BEGIN DBMS_OUTPUT.PUT_LINE('ordinary'); END;
+/
+",
+    replies: "OK\n1 rows\n1 rows\n1 rows\nOK\nOK\n",
+};
+
+/// What a script shows of what may be applied, the script, and its replies.
+static REFUSALS: &str = "\
+a forward trigger for UPDATE that the edition sees, and no other (ORA-04043)~\
+APPLY TRIGGER nope;
+APPLY TRIGGER o;
+APPLY TRIGGER t;
+CREATE TRIGGER r BEFORE UPDATE ON t FOR EACH ROW REVERSE CROSSEDITION BEGIN NULL; END;
+/
+APPLY TRIGGER r;
+CREATE TRIGGER i BEFORE INSERT OR DELETE ON t FOR EACH ROW FORWARD CROSSEDITION BEGIN NULL; END;
+/
+APPLY TRIGGER i;
+CREATE EDITION v2;
+ALTER SESSION SET EDITION = v2;
+CREATE TRIGGER f BEFORE INSERT OR UPDATE ON t FOR EACH ROW FORWARD CROSSEDITION BEGIN :NEW.b := :NEW.a * 2; END;
+/
+APPLY TRIGGER f;
+COMMIT;
+ALTER SESSION SET EDITION = ora$base;
+APPLY TRIGGER f;
+SELECT * FROM t;
+~\
+ORA-04043
+ORA-04043
+ORA-04043
+OK
+ORA-04043
+OK
+ORA-04043
+OK
+OK
+OK
+3 rows
+OK
+OK
+ORA-04043
+1|10|20
+2|20|40
+3|30|60
+3 rows
+~\
+an invalid one is ORA-04098, also over no rows, and so is one whose table is gone~\
+CREATE TRIGGER f BEFORE UPDATE ON t FOR EACH ROW FORWARD CROSSEDITION BEGIN nope(); END;
+/
+APPLY TRIGGER f;
+DELETE FROM t;
+APPLY TRIGGER f;
+CREATE OR REPLACE TRIGGER f BEFORE UPDATE ON t FOR EACH ROW FORWARD CROSSEDITION BEGIN NULL; END;
+/
+APPLY TRIGGER f;
+INSERT INTO t VALUES (4, 40, NULL);
+APPLY TRIGGER f;
+DROP TABLE t;
+APPLY TRIGGER f;
+DROP TRIGGER f;
+APPLY TRIGGER f;
+~\
+INVALID
+ORA-04098
+3 rows
+ORA-04098
+OK
+0 rows
+1 rows
+1 rows
+OK
+ORA-04098
+OK
+ORA-04043
+~\
+";
+
+#[test]
+fn what_may_be_applied(rt: HostRuntime) -> Result<(), Fail> {
+    assert_eq!(rt; wrong_behind(rt.alloc(), ROWS, REFUSALS)?, "");
+    Ok(())
+}
+
+/// What a script shows of the rows of APPLY TRIGGER, the script, and its replies.
+static APPLIED: &str = "\
+it alone fires, also where it is disabled, with the row's own values~\
+CREATE TRIGGER g BEFORE UPDATE ON t FOR EACH ROW FORWARD CROSSEDITION BEGIN DBMS_OUTPUT.PUT_LINE('g'); END;
+/
+CREATE TRIGGER f BEFORE UPDATE ON t FOR EACH ROW FORWARD CROSSEDITION DISABLE
+BEGIN
+  IF UPDATING THEN DBMS_OUTPUT.PUT_LINE(:OLD.id || ' ' || :OLD.a || ' ' || :NEW.a); END IF;
+  :NEW.b := :NEW.a + 1;
+END;
+/
+APPLY TRIGGER f;
+SELECT * FROM t;
+ROLLBACK;
+SELECT * FROM t WHERE id = 1;
+~\
+OK
+OK
+1 10 10
+2 20 20
+3 30 30
+3 rows
+1|10|11
+2|20|21
+3|30|31
+3 rows
+OK
+1|10|
+1 rows
+~\
+one for after the row sees what it is, and own changes of the transaction are rows too~\
+CREATE TRIGGER f AFTER UPDATE ON t FOR EACH ROW FORWARD CROSSEDITION BEGIN DBMS_OUTPUT.PUT_LINE(:OLD.a || ' ' || :NEW.a); END;
+/
+INSERT INTO t VALUES (4, 40, NULL);
+DELETE FROM t WHERE id = 2;
+APPLY TRIGGER f;
+~\
+OK
+1 rows
+1 rows
+10 10
+30 30
+40 40
+3 rows
+~\
+its body runs in the edition in which it is actual, and fires forward ones further down~\
+CREATE TABLE u (n NUMBER(9));
+CREATE PROCEDURE name_it IS BEGIN DBMS_OUTPUT.PUT_LINE('base'); END;
+/
+CREATE EDITION v2;
+CREATE EDITION v3;
+ALTER SESSION SET EDITION = v2;
+CREATE OR REPLACE PROCEDURE name_it IS BEGIN DBMS_OUTPUT.PUT_LINE('v2'); END;
+/
+CREATE TRIGGER f BEFORE UPDATE ON t FOR EACH ROW FORWARD CROSSEDITION BEGIN name_it(); INSERT INTO u VALUES (:NEW.id); :NEW.b := 0; END;
+/
+CREATE TRIGGER uf2 BEFORE INSERT ON u FOR EACH ROW FORWARD CROSSEDITION BEGIN DBMS_OUTPUT.PUT_LINE('uf2'); END;
+/
+CREATE TRIGGER uo BEFORE INSERT ON u FOR EACH ROW BEGIN DBMS_OUTPUT.PUT_LINE('uo'); END;
+/
+ALTER SESSION SET EDITION = v3;
+CREATE OR REPLACE PROCEDURE name_it IS BEGIN DBMS_OUTPUT.PUT_LINE('v3'); END;
+/
+CREATE TRIGGER uf3 BEFORE INSERT ON u FOR EACH ROW FORWARD CROSSEDITION BEGIN DBMS_OUTPUT.PUT_LINE('uf3 ' || :NEW.n); name_it(); END;
+/
+CREATE TRIGGER f3 BEFORE UPDATE ON t FOR EACH ROW FORWARD CROSSEDITION BEGIN DBMS_OUTPUT.PUT_LINE('f3'); END;
+/
+DELETE FROM t WHERE id > 2;
+APPLY TRIGGER f;
+SELECT * FROM t;
+SELECT * FROM u;
+~\
+OK
+OK
+OK
+OK
+OK
+OK
+OK
+OK
+OK
+OK
+OK
+OK
+OK
+1 rows
+v2
+uf3 1
+v3
+v2
+uf3 2
+v3
+2 rows
+1|10|0
+2|20|0
+2 rows
+1
+2
+2 rows
+~\
+a code from a row undoes them all, and what its autonomous transactions committed stays~\
+CREATE TABLE log_t (msg VARCHAR2(40));
+CREATE PROCEDURE log_it(m VARCHAR2) IS PRAGMA AUTONOMOUS_TRANSACTION; BEGIN INSERT INTO log_t VALUES (m); COMMIT; END;
+/
+CREATE TRIGGER f BEFORE UPDATE ON t FOR EACH ROW FORWARD CROSSEDITION BEGIN log_it('row ' || :NEW.id); :NEW.b := TRUNC(1 / (:NEW.a - 30)); END;
+/
+APPLY TRIGGER f;
+SELECT * FROM t;
+SELECT msg FROM log_t;
+CREATE OR REPLACE TRIGGER f BEFORE UPDATE ON t FOR EACH ROW FORWARD CROSSEDITION BEGIN :NEW.id := NULL; END;
+/
+APPLY TRIGGER f;
+CREATE OR REPLACE TRIGGER f BEFORE UPDATE ON t FOR EACH ROW FORWARD CROSSEDITION BEGIN :NEW.id := 3; END;
+/
+APPLY TRIGGER f;
+CREATE OR REPLACE TRIGGER f BEFORE UPDATE ON t FOR EACH ROW FORWARD CROSSEDITION DECLARE k NUMBER; BEGIN SELECT COUNT(*) INTO k FROM t; END;
+/
+APPLY TRIGGER f;
+~\
+OK
+OK
+OK
+ORA-01476
+1|10|
+2|20|
+3|30|
+3 rows
+row 1
+row 2
+row 3
+3 rows
+OK
+ORA-01407
+OK
+ORA-00001
+OK
+ORA-04091
+~\
+";
+
+#[test]
+fn each_row_is_changed_by_it_alone(rt: HostRuntime) -> Result<(), Fail> {
+    assert_eq!(rt; wrong_behind(rt.alloc(), ROWS, APPLIED)?, "");
+    Ok(())
+}

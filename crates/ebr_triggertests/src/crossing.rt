@@ -1,0 +1,515 @@
+//! Crossedition triggers: which fire, in which edition their bodies run, and what these fire.
+
+use ebr_trial::{Setup, wrong_behind, wrong_from};
+use std::test::Fail;
+
+/// What a script shows of forward triggers of two editions, the script, and its replies.
+static FORWARD: &str = "\
+from the edition above all those below, the nearest first, each with what the one before left~\
+CREATE TABLE c_t (id NUMBER(9) PRIMARY KEY, a NUMBER(9), b NUMBER(9), c NUMBER(9));
+CREATE EDITION v2;
+CREATE EDITION v3;
+ALTER SESSION SET EDITION = v3;
+CREATE TRIGGER f3 BEFORE INSERT ON c_t FOR EACH ROW FORWARD CROSSEDITION BEGIN :NEW.c := :NEW.b + 1; END;
+/
+ALTER SESSION SET EDITION = v2;
+CREATE TRIGGER f2 BEFORE INSERT ON c_t FOR EACH ROW FORWARD CROSSEDITION BEGIN :NEW.b := :NEW.a + 1; END;
+/
+ALTER SESSION SET EDITION = ora$base;
+INSERT INTO c_t VALUES (1, 1, NULL, NULL);
+COMMIT;
+ALTER SESSION SET EDITION = v2;
+INSERT INTO c_t VALUES (2, 1, 7, NULL);
+SELECT * FROM c_t ORDER BY id;
+COMMIT;
+ALTER SESSION SET EDITION = v3;
+INSERT INTO c_t VALUES (3, 1, 7, 9);
+SELECT * FROM c_t WHERE id = 3;
+~\
+OK
+OK
+OK
+OK
+OK
+OK
+OK
+OK
+1 rows
+OK
+OK
+1 rows
+1|1|2|3
+2|1|7|8
+2 rows
+OK
+OK
+1 rows
+3|1|7|9
+1 rows
+~\
+";
+
+#[test]
+fn forward_triggers_fire_from_above(rt: HostRuntime) -> Result<(), Fail> {
+    assert_eq!(rt; wrong_from(rt.alloc(), FORWARD)?, "");
+    Ok(())
+}
+
+/// Two tables, three editions, and in each a procedure that prints its name.
+const THREE_EDITIONS: Setup = Setup {
+    script: "\
+CREATE TABLE t (id NUMBER(9) PRIMARY KEY, a NUMBER(9));
+CREATE TABLE u (n NUMBER(9));
+CREATE PROCEDURE name_it IS BEGIN DBMS_OUTPUT.PUT_LINE('base'); END;
+/
+CREATE EDITION v2;
+CREATE EDITION v3;
+ALTER SESSION SET EDITION = v2;
+CREATE OR REPLACE PROCEDURE name_it IS BEGIN DBMS_OUTPUT.PUT_LINE('v2'); END;
+/
+ALTER SESSION SET EDITION = v3;
+CREATE OR REPLACE PROCEDURE name_it IS BEGIN DBMS_OUTPUT.PUT_LINE('v3'); END;
+/
+ALTER SESSION SET EDITION = v2;
+",
+    replies: "OK\nOK\nOK\nOK\nOK\nOK\nOK\nOK\nOK\nOK\n",
+};
+
+/// What a script shows of which triggers fire, the script, and its replies.
+static FIRING: &str = "\
+ordinary ones run in the edition of the statement, crossedition ones in their own, group after group~\
+CREATE TRIGGER f2 BEFORE INSERT ON t FOR EACH ROW FORWARD CROSSEDITION BEGIN DBMS_OUTPUT.PUT_LINE('forward 2'); name_it(); END;
+/
+CREATE TRIGGER r2 BEFORE INSERT ON t FOR EACH ROW REVERSE CROSSEDITION BEGIN DBMS_OUTPUT.PUT_LINE('reverse 2'); name_it(); END;
+/
+CREATE TRIGGER o2 BEFORE INSERT ON t FOR EACH ROW BEGIN DBMS_OUTPUT.PUT_LINE('ordinary 2'); name_it(); END;
+/
+ALTER SESSION SET EDITION = v3;
+CREATE TRIGGER f3 BEFORE INSERT ON t FOR EACH ROW FORWARD CROSSEDITION BEGIN DBMS_OUTPUT.PUT_LINE('forward 3'); name_it(); END;
+/
+INSERT INTO t VALUES (3, 0);
+COMMIT;
+ALTER SESSION SET EDITION = v2;
+INSERT INTO t VALUES (2, 0);
+COMMIT;
+ALTER SESSION SET EDITION = ora$base;
+INSERT INTO t VALUES (1, 0);
+~\
+OK
+OK
+OK
+OK
+OK
+ordinary 2
+v3
+reverse 2
+v2
+1 rows
+OK
+OK
+ordinary 2
+v2
+reverse 2
+v2
+forward 3
+v3
+1 rows
+OK
+OK
+forward 2
+v2
+forward 3
+v3
+1 rows
+~\
+reverse ones of two editions, by their editions~\
+ALTER SESSION SET EDITION = v3;
+CREATE TRIGGER r3 BEFORE UPDATE ON t FOR EACH ROW REVERSE CROSSEDITION BEGIN DBMS_OUTPUT.PUT_LINE('r3 ' || :NEW.a); :NEW.a := :NEW.a + 1; name_it(); END;
+/
+ALTER SESSION SET EDITION = v2;
+CREATE TRIGGER r2 BEFORE UPDATE ON t FOR EACH ROW REVERSE CROSSEDITION BEGIN DBMS_OUTPUT.PUT_LINE('r2 ' || :NEW.a); :NEW.a := :NEW.a * 10; name_it(); END;
+/
+INSERT INTO t VALUES (1, 0);
+UPDATE t SET a = 1;
+COMMIT;
+ALTER SESSION SET EDITION = v3;
+UPDATE t SET a = 2;
+COMMIT;
+ALTER SESSION SET EDITION = ora$base;
+UPDATE t SET a = a + 1;
+SELECT a FROM t;
+~\
+OK
+OK
+OK
+OK
+1 rows
+r2 1
+v2
+1 rows
+OK
+OK
+r2 2
+v2
+r3 20
+v3
+1 rows
+OK
+OK
+1 rows
+22
+1 rows
+~\
+a disabled one isn't fired from anywhere~\
+CREATE TRIGGER f2 BEFORE INSERT ON t FOR EACH ROW FORWARD CROSSEDITION DISABLE BEGIN DBMS_OUTPUT.PUT_LINE('f2'); END;
+/
+CREATE TRIGGER r2 BEFORE INSERT ON t FOR EACH ROW REVERSE CROSSEDITION DISABLE BEGIN DBMS_OUTPUT.PUT_LINE('r2'); END;
+/
+INSERT INTO t VALUES (1, 0);
+ALTER TRIGGER r2 ENABLE;
+INSERT INTO t VALUES (2, 0);
+COMMIT;
+ALTER SESSION SET EDITION = ora$base;
+INSERT INTO t VALUES (3, 0);
+COMMIT;
+ALTER SESSION SET EDITION = v2;
+ALTER TRIGGER f2 ENABLE;
+ALTER SESSION SET EDITION = ora$base;
+INSERT INTO t VALUES (4, 0);
+~\
+OK
+OK
+1 rows
+OK
+r2
+1 rows
+OK
+OK
+1 rows
+OK
+OK
+OK
+OK
+f2
+1 rows
+~\
+one that is dropped in a child goes on in its own edition~\
+CREATE TRIGGER f2 BEFORE INSERT ON t FOR EACH ROW FORWARD CROSSEDITION BEGIN DBMS_OUTPUT.PUT_LINE('f2'); END;
+/
+CREATE TRIGGER r2 BEFORE INSERT ON t FOR EACH ROW REVERSE CROSSEDITION BEGIN DBMS_OUTPUT.PUT_LINE('r2'); END;
+/
+ALTER SESSION SET EDITION = v3;
+DROP TRIGGER f2;
+DROP TRIGGER r2;
+INSERT INTO t VALUES (3, 0);
+COMMIT;
+ALTER SESSION SET EDITION = v2;
+INSERT INTO t VALUES (2, 0);
+COMMIT;
+ALTER SESSION SET EDITION = ora$base;
+INSERT INTO t VALUES (1, 0);
+~\
+OK
+OK
+OK
+OK
+OK
+1 rows
+OK
+OK
+r2
+1 rows
+OK
+OK
+f2
+1 rows
+~\
+one that is replaced in a child stands in both editions~\
+CREATE TRIGGER f BEFORE INSERT ON t FOR EACH ROW FORWARD CROSSEDITION BEGIN DBMS_OUTPUT.PUT_LINE('f of v2'); END;
+/
+CREATE TRIGGER r BEFORE INSERT ON t FOR EACH ROW REVERSE CROSSEDITION BEGIN DBMS_OUTPUT.PUT_LINE('r of v2'); END;
+/
+ALTER SESSION SET EDITION = v3;
+CREATE OR REPLACE TRIGGER f BEFORE INSERT ON t FOR EACH ROW FORWARD CROSSEDITION BEGIN DBMS_OUTPUT.PUT_LINE('f of v3'); END;
+/
+CREATE OR REPLACE TRIGGER r BEFORE INSERT ON t FOR EACH ROW REVERSE CROSSEDITION BEGIN DBMS_OUTPUT.PUT_LINE('r of v3'); END;
+/
+INSERT INTO t VALUES (3, 0);
+COMMIT;
+ALTER SESSION SET EDITION = v2;
+INSERT INTO t VALUES (2, 0);
+COMMIT;
+ALTER SESSION SET EDITION = ora$base;
+INSERT INTO t VALUES (1, 0);
+~\
+OK
+OK
+OK
+OK
+OK
+r of v3
+1 rows
+OK
+OK
+r of v2
+f of v3
+1 rows
+OK
+OK
+f of v2
+f of v3
+1 rows
+~\
+";
+
+#[test]
+fn crossedition_triggers_fire_by_editions(rt: HostRuntime) -> Result<(), Fail> {
+    assert_eq!(rt; wrong_behind(rt.alloc(), THREE_EDITIONS, FIRING)?, "");
+    Ok(())
+}
+
+/// What a script shows of the statements of crossedition bodies, the script, and its replies.
+static ORIGINS: &str = "\
+a change of a forward body fires forward ones further down, and nothing else~\
+CREATE TRIGGER f2 BEFORE INSERT ON t FOR EACH ROW FORWARD CROSSEDITION BEGIN DBMS_OUTPUT.PUT_LINE('f2'); INSERT INTO u VALUES (:NEW.id); END;
+/
+CREATE TRIGGER uf2 BEFORE INSERT ON u FOR EACH ROW FORWARD CROSSEDITION BEGIN DBMS_OUTPUT.PUT_LINE('uf2'); END;
+/
+CREATE TRIGGER ur2 BEFORE INSERT ON u FOR EACH ROW REVERSE CROSSEDITION BEGIN DBMS_OUTPUT.PUT_LINE('ur2'); END;
+/
+ALTER SESSION SET EDITION = v3;
+CREATE TRIGGER uf3 BEFORE INSERT ON u FOR EACH ROW FORWARD CROSSEDITION BEGIN DBMS_OUTPUT.PUT_LINE('uf3 ' || :NEW.n); name_it(); END;
+/
+ALTER SESSION SET EDITION = ora$base;
+CREATE TRIGGER uo BEFORE INSERT ON u FOR EACH ROW BEGIN DBMS_OUTPUT.PUT_LINE('ordinary'); END;
+/
+INSERT INTO t VALUES (1, 0);
+INSERT INTO u VALUES (5);
+COMMIT;
+ALTER SESSION SET EDITION = v2;
+INSERT INTO t VALUES (2, 0);
+INSERT INTO u VALUES (6);
+~\
+OK
+OK
+OK
+OK
+OK
+OK
+OK
+f2
+uf3 1
+v3
+1 rows
+ordinary
+uf2
+uf3 5
+v3
+1 rows
+OK
+OK
+1 rows
+ordinary
+ur2
+uf3 6
+v3
+1 rows
+~\
+a change of a reverse body fires reverse ones further up, and nothing else~\
+CREATE TRIGGER ur2 BEFORE INSERT ON u FOR EACH ROW REVERSE CROSSEDITION BEGIN DBMS_OUTPUT.PUT_LINE('ur2'); name_it(); END;
+/
+ALTER SESSION SET EDITION = v3;
+CREATE TRIGGER ur3 BEFORE INSERT ON u FOR EACH ROW REVERSE CROSSEDITION BEGIN DBMS_OUTPUT.PUT_LINE('ur3'); name_it(); END;
+/
+CREATE TRIGGER r3 BEFORE INSERT ON t FOR EACH ROW REVERSE CROSSEDITION BEGIN DBMS_OUTPUT.PUT_LINE('r3'); INSERT INTO u VALUES (:NEW.id); END;
+/
+ALTER SESSION SET EDITION = ora$base;
+CREATE TRIGGER uo BEFORE INSERT ON u FOR EACH ROW BEGIN DBMS_OUTPUT.PUT_LINE('ordinary'); END;
+/
+CREATE TRIGGER ur1 BEFORE INSERT ON u FOR EACH ROW REVERSE CROSSEDITION BEGIN DBMS_OUTPUT.PUT_LINE('ur1'); name_it(); END;
+/
+ALTER SESSION SET EDITION = v3;
+INSERT INTO t VALUES (3, 0);
+INSERT INTO u VALUES (4);
+~\
+OK
+OK
+OK
+OK
+OK
+OK
+OK
+OK
+r3
+ur1
+base
+ur2
+v2
+1 rows
+ordinary
+ur1
+base
+ur2
+v2
+ur3
+v3
+1 rows
+~\
+what a body calls keeps its edition and what it fires, in an autonomous transaction too~\
+CREATE TRIGGER uo BEFORE INSERT ON u FOR EACH ROW BEGIN DBMS_OUTPUT.PUT_LINE('ordinary'); END;
+/
+CREATE PROCEDURE put_u(k NUMBER) IS PRAGMA AUTONOMOUS_TRANSACTION; BEGIN name_it(); INSERT INTO u VALUES (k); COMMIT; END;
+/
+CREATE TRIGGER f2 BEFORE INSERT ON t FOR EACH ROW FORWARD CROSSEDITION BEGIN put_u(:NEW.id); END;
+/
+CREATE TRIGGER o2 BEFORE UPDATE ON t FOR EACH ROW BEGIN put_u(:NEW.a); END;
+/
+ALTER SESSION SET EDITION = v3;
+CREATE TRIGGER uf3 BEFORE INSERT ON u FOR EACH ROW FORWARD CROSSEDITION BEGIN DBMS_OUTPUT.PUT_LINE('uf3'); END;
+/
+ALTER SESSION SET EDITION = ora$base;
+INSERT INTO t VALUES (9, 0);
+ROLLBACK;
+SELECT n FROM u;
+COMMIT;
+ALTER SESSION SET EDITION = v2;
+INSERT INTO t VALUES (8, 0);
+UPDATE t SET a = 7;
+SELECT COUNT(*) FROM u;
+ROLLBACK;
+SELECT n FROM u;
+~\
+OK
+OK
+OK
+OK
+OK
+OK
+OK
+v2
+uf3
+1 rows
+OK
+9
+1 rows
+OK
+OK
+1 rows
+v2
+ordinary
+uf3
+1 rows
+1
+1 rows
+OK
+9
+7
+2 rows
+~\
+a body may not touch its table, and commits nothing~\
+CREATE TRIGGER f2 BEFORE INSERT ON t FOR EACH ROW FORWARD CROSSEDITION BEGIN UPDATE t SET a = 1; END;
+/
+CREATE TRIGGER f2u BEFORE UPDATE ON t FOR EACH ROW FORWARD CROSSEDITION BEGIN COMMIT; END;
+/
+INSERT INTO t VALUES (1, 0);
+COMMIT;
+ALTER SESSION SET EDITION = ora$base;
+INSERT INTO t VALUES (2, 0);
+UPDATE t SET a = 1;
+SELECT * FROM t;
+~\
+OK
+OK
+1 rows
+OK
+OK
+ORA-04091
+ORA-04092
+1|0
+1 rows
+~\
+";
+
+#[test]
+fn statements_of_crossedition_bodies_fire_their_own_direction(rt: HostRuntime) -> Result<(), Fail> {
+    assert_eq!(rt; wrong_behind(rt.alloc(), THREE_EDITIONS, ORIGINS)?, "");
+    Ok(())
+}
+
+/// What a script shows of triggers that are invalid in one edition, the script, and its replies.
+static INVALID: &str = "\
+whether a trigger is valid is told in the edition in which its body would run~\
+CREATE PROCEDURE helper IS BEGIN DBMS_OUTPUT.PUT_LINE('helped'); END;
+/
+CREATE TRIGGER f2 BEFORE INSERT ON t FOR EACH ROW FORWARD CROSSEDITION BEGIN helper(); END;
+/
+CREATE TRIGGER r2 BEFORE DELETE ON t FOR EACH ROW REVERSE CROSSEDITION BEGIN helper(); END;
+/
+CREATE TRIGGER o2 BEFORE UPDATE ON t FOR EACH ROW BEGIN helper(); END;
+/
+ALTER SESSION SET EDITION = v3;
+DROP PROCEDURE helper;
+UPDATE t SET a = 1 WHERE id = 77;
+INSERT INTO t VALUES (1, 0);
+DELETE FROM t;
+ROLLBACK;
+ALTER SESSION SET EDITION = v2;
+INSERT INTO t VALUES (2, 0);
+UPDATE t SET a = 1;
+COMMIT;
+ALTER SESSION SET EDITION = ora$base;
+INSERT INTO t VALUES (3, 0);
+COMMIT;
+ALTER SESSION SET EDITION = v2;
+DROP PROCEDURE helper;
+INSERT INTO t VALUES (4, 0);
+UPDATE t SET a = 2 WHERE id = 77;
+COMMIT;
+ALTER SESSION SET EDITION = ora$base;
+INSERT INTO t VALUES (5, 0);
+UPDATE t SET a = 3;
+DELETE FROM t;
+COMMIT;
+ALTER SESSION SET EDITION = v3;
+DELETE FROM t;
+~\
+OK
+OK
+OK
+OK
+OK
+OK
+ORA-04098
+1 rows
+helped
+1 rows
+OK
+OK
+1 rows
+helped
+1 rows
+OK
+OK
+helped
+1 rows
+OK
+OK
+OK
+1 rows
+ORA-04098
+OK
+OK
+ORA-04098
+3 rows
+3 rows
+OK
+OK
+ORA-04098
+~\
+";
+
+#[test]
+fn triggers_are_valid_where_they_run(rt: HostRuntime) -> Result<(), Fail> {
+    assert_eq!(rt; wrong_behind(rt.alloc(), THREE_EDITIONS, INVALID)?, "");
+    Ok(())
+}
