@@ -16,6 +16,8 @@ mod nested;
 #[cfg(test)]
 mod order;
 #[cfg(test)]
+mod orders;
+#[cfg(test)]
 mod person;
 #[cfg(test)]
 mod refusals;
