@@ -1,5 +1,5 @@
 -- The tables that the data has, and the living ones of the catalogue: both are read off the records.
-use Rattle.std.proofs.Common.{◌≡◌, ◌==◌, ℕ, suc, ◌≤◌, Bool, true, false, cond, ◌||◌, not, List, [], ◌∷◌, ◌++◌, refl, sym, ap, ◌∙◌, subst, arith}
+use Rattle.std.proofs.Common.{◌≡◌, ◌==◌, ℕ, suc, ◌≤◌, ◌+◌, length, Bool, true, false, cond, ◌||◌, not, List, [], ◌∷◌, ◌++◌, refl, sym, ap, ◌∙◌, subst, arith}
 use Rattle.std.specs.Prelude.{Option, Some, None, option_map, unwrap_or, fold, find, All, if◌then◌else◌}
 use Rattle.std.specs.Option.{option_or}
 use Rattle.std.specs.List.{list_any, filter_map}
@@ -185,6 +185,24 @@ folded (r ∷ records) c added h =
 
 has_living : (records : List Record) → HasLiving (tables_from 0 records) (catalogue_of records).tables
 has_living records = folded records first_lists [] (record { numbers = All-nil (λ (x : Added). x.id.0 ≤ 0); each = All-nil (IsAddedWithKey []) })
+
+-- ---- how many were ever made
+
+made_from : (records : List Record) (c : Lists) → (fold after_record c records).tables.made ≡ c.tables.made + length (tables_from c.tables.made records)
+made_from [] c = omega arith
+made_from (left.Table name columns key ∷ records) c =
+    let with_one : Lists = after_record c (left.Table name columns key) in
+    let rest : (fold after_record with_one records).tables.made ≡ suc c.tables.made + length (tables_from (suc c.tables.made) records) = made_from records with_one in
+    omega (arith, rest)
+made_from (left.Object e enabled text ∷ records) c =
+    made_from records (after_record c (left.Object e enabled text)) ∙ ap (λ (s : AllTables). s.made + length (tables_from s.made records)) (stored_same c e enabled text (stored_definition text))
+made_from (left.Gone e k name ∷ records) c =
+    made_from records (after_record c (left.Gone e k name)) ∙ ap (λ (s : AllTables). s.made + length (tables_from s.made records)) (gone_same c e k name)
+made_from (r ∷ records) c = made_from records (after_record c r)
+
+-- The catalogue counts the tables that the data has.
+pub made_is : (records : List Record) → (catalogue_of records).tables.made ≡ length (tables_from 0 records)
+made_is records = let all : (catalogue_of records).tables.made ≡ 0 + length (tables_from 0 records) = made_from records first_lists in omega (arith, all)
 
 -- ---- what the data knows
 

@@ -22,3 +22,8 @@ mod Histories
 mod Answering
 mod HasLeft
 mod Starting
+mod SeenAlike
+mod DefinedAlike
+mod ReplyApart
+mod AnswerApart
+mod ApartExamples

@@ -4,4 +4,5 @@ pub mod History
 pub mod ReadBack
 pub mod Asked
 pub mod Engine
+pub mod Apart
 pub mod inside

@@ -1,6 +1,7 @@
 //! The engine, with the history of all asks.
 
 ghost use Rattle.std.specs.Prelude.{◌≡◌, ◌↔◌, [], IsTrue, IfOk, None};
+ghost use Rattle.ebr_core.specs.Apart.{IsApart};
 ghost use Rattle.ebr_core.specs.Asked.{IsFit};
 ghost use Rattle.ebr_core.specs.Engine.{Answers, HasLegalHistory, IsEmpty, book_at, database_of, no_books, with_book};
 ghost use Rattle.ebr_core.specs.History.{IsLive};
@@ -51,10 +52,18 @@ impl<K: Keep> Engine<K> {
     /// Answers one ask of a live session. Where the answer is a view, the book of it is set aside for `take_book`.
     ///
     /// Once an answer was DiskFault or NoMemory, every ask is answered Stopped, and the session has left.
+    ///
+    /// Editions are apart: in every second database that differs from this one in its catalogue alone, and whose catalogue agrees with
+    /// this one for the ask, the answer would be the same, and so would the records made; what is left would differ in its catalogue
+    /// alone, and the session's edition would see the same in it. The second catalogue agrees where the session's edition sees the same
+    /// in both; where the ask makes an object or alters a trigger, as many objects must have been defined and dropped in that edition;
+    /// and where it is a statement, the triggers that it fires must agree, as `ebr_statements::run_sql` has it. Nothing is said of the
+    /// choice of an edition and of definitions of editions, nor where EBR-0042 arises in one of the two.
     pub fn answer(&mut self, s: SessionId, ask: Ask) -> Answer
         requires live { IsLive (database_of self.old) s }
         requires fit { IsFit ask }
-        ensures { Answers K.told self.old self.new s ask result }
+        ensures answers { Answers K.told self.old self.new s ask result }
+        ensures apart { IsApart (database_of self.old) s ask result (database_of self.new) }
     {
         self.parts.answer(s, ask)
     }

@@ -5,4 +5,4 @@ pub answer-answer-requires-clause-fit : goal.answer-answer-requires-clause-fit
 answer-answer-requires-clause-fit c = fit_ask _ c.requires.fit
 
 pub returns : goal.returns
-returns c = answers _ _ _ _ c.requires.open c.answer-answer.ensures _ _ c.take_book-book.ensures.taken c.take_book-book.ensures.book
+returns c = answers _ _ _ _ c.requires.open c.answer-answer.ensures.answers _ _ c.take_book-book.ensures.taken c.take_book-book.ensures.book

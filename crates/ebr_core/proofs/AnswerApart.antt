@@ -1,0 +1,42 @@
+-- The promise of an answer that editions are apart, from what it leaves.
+use Rattle.std.proofs.Common.{◌≡◌, Bool, true, false, [], ◌∷◌, ◌++◌, refl, sym, ap, subst, ◌∙◌}
+use Rattle.std.specs.Prelude.{Option, Some, None}
+use Rattle.ebr_base.specs.declared.numbers.SessionId.{SessionId}
+use Rattle.ebr_asks.specs.declared.ask.Ask.{Ask}
+use Rattle.ebr_asks.specs.declared.answer.Answer.{Answer}
+use Rattle.ebr_asks.specs.declared.answer.Answer.TheVariants as answer
+use Rattle.ebr_asks.specs.declared.entry.Entry.{Entry}
+use Rattle.ebr_record.specs.Keeper.{Keeper}
+use Rattle.ebr_database.specs.Database.{Session, Database, session_at}
+use Rattle.ebr_core.specs.Apart.{EndsAlike, IsAnsweredApart, IsApart}
+use Rattle.ebr_core.specs.Engine.{Answers, EngineState, Gives, database_of, entry_of, first_of, has_given_up}
+use Rattle.ebr_core.specs.History.{After, edition_of, next}
+use Rattle.ebr_core.specs.Machine.{Build, Reply}
+use Rattle.ebr_core.proofs.Histories.{After-append}
+use Rattle.ebr_core.proofs.ReplyApart.{reply_alike}
+
+-- where it is the reply, and leaves the database that the reply leaves
+replied_apart : (db : Database) (s : SessionId) (q : Ask) (a : Answer) (now : Database) → a ≡ (Reply db s q).answer → now ≡ (Reply db s q).database → IsAnsweredApart db s q a now
+replied_apart db s q a now answer left e other edition differ agree never never' =
+    subst (λ y. EndsAlike e y (Reply db s q).records now (Reply other s q)) (sym answer)
+    (subst (λ d. EndsAlike e (Reply db s q).answer (Reply db s q).records d (Reply other s q)) (sym left) (by (session_at db.sessions s.0) refl edition))
+  where
+    by : (o : Option Session) → session_at db.sessions s.0 ≡ o → edition_of o ≡ Some e → EndsAlike e (Reply db s q).answer (Reply db s q).records (Reply db s q).database (Reply other s q)
+    by None is here = cc
+    by (Some x) is here = reply_alike db other differ s x e is here q agree never never'
+
+module _ {K : Type 0} (told : K → Keeper) (old new : EngineState K) (s : SessionId) (q : Ask) where
+  -- the database behind one more entry
+  behind : (x : Entry) → new.history ≡ old.history ++ x ∷ [] → new.sessions ≡ old.sessions → database_of new ≡ next (database_of old) x
+  behind x entry sessions = ap (λ n. After (Build [] n) new.history) sessions ∙ ap (After (first_of old)) entry ∙ After-append (first_of old) old.history x
+
+  by_answer : (given_up : Bool) (a : Answer) → new.history ≡ old.history ++ entry_of s q a ∷ [] → new.sessions ≡ old.sessions → Gives told given_up old.keeper new.keeper a (Reply (database_of old) s q)
+      → IsApart (database_of old) s q a (database_of new)
+  by_answer true a entry sessions g = subst (λ y. IsApart (database_of old) s q y (database_of new)) (sym g.0) tt
+  by_answer false answer.DiskFault entry sessions g = tt
+  by_answer false answer.NoMemory entry sessions g = tt
+  by_answer false answer.Stopped entry sessions g = absurd g
+  by_answer false a entry sessions g = replied_apart (database_of old) s q a (database_of new) g.0 (behind (entry_of s q a) entry sessions)
+
+  pub answer_apart : (a : Answer) → Answers told old new s q a → IsApart (database_of old) s q a (database_of new)
+  answer_apart a h = by_answer (has_given_up old.history) a h.entry h.sessions h.gives

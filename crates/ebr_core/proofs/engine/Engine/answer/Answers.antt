@@ -1,0 +1,11 @@
+use Rattle.std.proofs.Common.{subst}
+use Rattle.ebr_core.specs.Apart.{IsApart}
+use Rattle.ebr_core.specs.Engine.{database_of}
+use Rattle.ebr_core.specs.inside.Parts.{database, state_of}
+use Rattle.ebr_core.proofs.AnswerApart.{answer_apart}
+use Rattle.ebr_core.proofs.engine.Engine.answer.Goals as goal
+
+pub returns-clause-apart : goal.returns-clause-apart
+returns-clause-apart g c =
+    subst (λ v. IsApart (database_of v) c.args.s c.args.ask c.answer.result (database g.K.Keep.told c.answer.new.self)) c.self.view_is
+    (answer_apart g.K.Keep.told (state_of g.K.Keep.told c.self.inside.parts) (state_of g.K.Keep.told c.answer.new.self) c.args.s c.args.ask c.answer.result c.answer.ensures.answers)
