@@ -1,6 +1,6 @@
 -- The names that the validity of a unit and its meaning may depend on: the dependencies of a stored unit.
 -- Oracle Database Development Guide 19c, Schema Object Dependency; that a dependency is a name is own.
-use Rattle.std.specs.Prelude.{ℕ, List, [], ◌∷◌, ◌++◌, map, flat_map, filter_map, Option, Some, None}
+use Rattle.std.specs.Prelude.{List, [], ◌∷◌, ◌++◌, flat_map, Option, Some, None}
 use Rattle.ebr_exprtree.specs.declared.expression.Path.{Path}
 use Rattle.ebr_exprtree.specs.declared.expression.Expr.{Expr}
 use Rattle.ebr_exprtree.specs.declared.expression.Expr.TheOpen.{Expr-F, Addend-F}
@@ -33,7 +33,6 @@ use Rattle.ebr_ast.specs.declared.statement.Decl.TheVariants as decl
 use Rattle.ebr_ast.specs.declared.statement.DeclaredType.{DeclaredType}
 use Rattle.ebr_ast.specs.declared.statement.DeclaredType.TheVariants as declared
 use Rattle.ebr_ast.specs.declared.statement.Handler.{Handler}
-use Rattle.ebr_ast.specs.declared.statement.Rows.{Rows}
 use Rattle.ebr_ast.specs.declared.statement.RowsFrom.{RowsFrom}
 use Rattle.ebr_ast.specs.declared.statement.RowsFrom.TheVariants as from
 use Rattle.ebr_ast.specs.declared.statement.SqlStmt.{SqlStmt}

@@ -1,6 +1,6 @@
 -- The places in declarations, statements and blocks in code. One line for each kind, with the places of its parts.
 -- Oracle Database PL/SQL Language Reference 19c, Block, and the statements by their names.
-use Rattle.std.specs.Prelude.{ℕ, Bool, true, false, if◌then◌else◌, List, [], ◌∷◌, ◌++◌, map, filter_map, length, drop, Option, Some, None, option_map}
+use Rattle.std.specs.Prelude.{Bool, true, false, List, [], ◌∷◌, ◌++◌, map, filter_map, length, Option, Some, None, option_map}
 use Rattle.std.specs.Option.{is_some}
 use Rattle.ebr_exprtree.specs.declared.expression.Path.{Path}
 use Rattle.ebr_exprtree.specs.declared.expression.Expr.{Expr}
@@ -26,20 +26,18 @@ use Rattle.ebr_ast.specs.declared.statement.Stmt.{Stmt}
 use Rattle.ebr_ast.specs.declared.statement.Stmt.TheOpen.{Stmt-F, Block-F, Branch-F, Handler-F}
 use Rattle.ebr_ast.specs.declared.statement.Stmt.TheOpen as stmt
 use Rattle.ebr_ast.specs.declared.statement.Stmt.TheFolds.{fold-Stmt, fold-Block, fold-Branch, fold-Handler}
-use Rattle.ebr_ast.specs.declared.statement.Target.{Target}
 use Rattle.ebr_ast.specs.declared.statement.Target.TheVariants as target
 use Rattle.ebr_ast.specs.declared.unit.Head.{Head}
 use Rattle.ebr_value.specs.declared.form.Builtin.{Builtin}
 use Rattle.ebr_expr.specs.Operators.{builtin_at}
 use Rattle.ebr_sqlcheck.specs.declared.value_type.ValueType.TheVariants as type
 use Rattle.ebr_sqlcheck.specs.Types.{Known, type_in}
-use Rattle.ebr_scope.specs.declared.field.Field.{Field}
-use Rattle.ebr_scope.specs.Meanings.{Word, Meaning, Constant, Exception, Cursor, Record, Subprogram, Entry, Fields, Scope, entry, with_fields, innermost}
+use Rattle.ebr_scope.specs.Meanings.{Word, Constant, Exception, Cursor, Record, Subprogram, Fields, Scope, entry, with_fields, innermost}
 use Rattle.ebr_scope.specs.Declarations.{column_type_of, declared_type, decl_name, variable}
-use Rattle.ebr_scope.specs.Names.{entry_fields, meant, meant_at, called, applied, raised}
-use Rattle.ebr_scope.specs.Around.{Env, knowing, within_block, within_loop, within_handler, image_type, variable_type}
+use Rattle.ebr_scope.specs.Names.{entry_fields, meant_at, called, applied, raised}
+use Rattle.ebr_scope.specs.Around.{Env, knowing, within_block, within_loop, within_handler}
 use Rattle.ebr_rules.specs.Columns.{fields_of}
-use Rattle.ebr_rules.specs.Sites.{Site, Calls, Raises, Cursors, Assigns, Fits, Prints, RaisesNumber, SetsNew, Unset, Gives, Leaves, Reraises, Handles, Counts, Loops, Declares, Sized, OfColumn, Pragmas, Images}
+use Rattle.ebr_rules.specs.Sites.{Calls, Raises, Cursors, Fits, Prints, RaisesNumber, Unset, Gives, Leaves, Reraises, Handles, Loops, Declares, Sized, OfColumn, Pragmas}
 use Rattle.ebr_rules.specs.Expressions.{reading_of, sites_of, type_of, wanted, arguments, parameters_of}
 use Rattle.ebr_rules.specs.Targets.{In, target_sites, into}
 use Rattle.ebr_rules.specs.Embedded.{query_sites, insert_sites, update_sites, delete_sites}

@@ -1,7 +1,7 @@
 -- The places in a unit.
 -- Oracle Database PL/SQL Language Reference 19c, CREATE PROCEDURE, CREATE FUNCTION, CREATE PACKAGE, CREATE PACKAGE BODY,
 -- CREATE TRIGGER, and Block.
-use Rattle.std.specs.Prelude.{ℕ, Bool, true, false, List, [], ◌∷◌, ◌++◌, map, filter_map, Option, Some, None, option_map, Result, Ok, Err}
+use Rattle.std.specs.Prelude.{Bool, true, false, List, [], ◌∷◌, ◌++◌, map, filter_map, Option, Some, None, option_map, Result, Ok, Err}
 use Rattle.ebr_base.specs.declared.code.Code.{Code}
 use Rattle.ebr_base.specs.Keys.{table_named}
 use Rattle.ebr_ast.specs.declared.statement.Decl.{Decl}

@@ -1,9 +1,8 @@
 -- Whether a unit is valid, and which rule it breaks first.
-use Rattle.std.specs.Prelude.{ℕ, Bool, true, false, if◌then◌else◌, min, List, [], ◌∷◌, Option, Some, None}
+use Rattle.std.specs.Prelude.{ℕ, Bool, Option}
 use Rattle.std.specs.List.{list_all}
 use Rattle.ebr_ast.specs.declared.unit.UnitTree.{UnitTree}
 use Rattle.ebr_ast.specs.declared.view.EditionView.{EditionView}
-use Rattle.ebr_rules.specs.Sites.{Site}
 use Rattle.ebr_check.specs.Units.{sites_in}
 use Rattle.ebr_rules.specs.Rules.{Rule, rules, holds, first_broken}
 

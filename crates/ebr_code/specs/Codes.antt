@@ -1,9 +1,8 @@
 -- The slot code of expressions, statements and blocks: one line for each kind, with the code of its parts.
-use Rattle.std.specs.Prelude.{ℕ, zero, suc, pos, Bool, true, false, List, [], ◌∷◌, ◌++◌, map, filter_map, length, Option, Some, None, Result, Ok, Err}
+use Rattle.std.specs.Prelude.{ℕ, zero, suc, pos, Bool, true, false, List, [], ◌∷◌, ◌++◌, map, filter_map, length, Option, Some, None, Ok, Err}
 use Rattle.ebr_base.specs.declared.object.Class.{Class}
 use Rattle.ebr_base.specs.declared.object.Class.TheVariants as class
 use Rattle.ebr_base.specs.declared.object.ObjectKey.{ObjectKey}
-use Rattle.ebr_base.specs.declared.code.Code.TheVariants.{Ora}
 use Rattle.ebr_base.specs.declared.value.Value.TheVariants as value
 use Rattle.ebr_base.specs.Values.{text_value}
 use Rattle.ebr_exprtree.specs.declared.expression.Attribute.{Attribute as Asked}
@@ -33,7 +32,7 @@ use Rattle.ebr_ast.specs.declared.statement.SqlStmt.TheVariants as sql
 use Rattle.ebr_ast.specs.declared.statement.Stmt.{Stmt}
 use Rattle.ebr_ast.specs.declared.statement.Stmt.TheOpen.{Stmt-F, Block-F, Branch-F, Handler-F}
 use Rattle.ebr_ast.specs.declared.statement.Stmt.TheOpen as stmt
-use Rattle.ebr_ast.specs.declared.statement.Stmt.TheFolds.{fold-Stmt, fold-Block, fold-Branch, fold-Handler}
+use Rattle.ebr_ast.specs.declared.statement.Stmt.TheFolds.{fold-Stmt, fold-Block, fold-Handler}
 use Rattle.ebr_ast.specs.declared.unit.Mode.{Mode}
 use Rattle.ebr_ast.specs.declared.unit.Mode.TheVariants as mode
 use Rattle.ebr_ast.specs.declared.unit.Parameter.{Parameter}
@@ -63,7 +62,6 @@ use Rattle.ebr_code.specs.declared.instruction.Handler as coded
 use Rattle.ebr_code.specs.declared.instruction.Instruction.TheViews.{roll-Handler}
 use Rattle.ebr_code.specs.declared.instruction.Lookup.{Lookup}
 use Rattle.ebr_code.specs.declared.instruction.Lookup.TheVariants as lookup
-use Rattle.ebr_code.specs.declared.instruction.Operation.{Operation}
 use Rattle.ebr_code.specs.declared.instruction.Operation.TheVariants as does
 use Rattle.ebr_code.specs.declared.instruction.Instruction.{Instruction, Do, Decide, If, Loop, Numbers, Guard, Closing}
 

@@ -1,5 +1,5 @@
 -- The slot code of units.
-use Rattle.std.specs.Prelude.{ℕ, suc, ◌≡◌, Bool, false, ◌||◌, List, [], ◌∷◌, ◌++◌, map, Option, Some, None}
+use Rattle.std.specs.Prelude.{ℕ, suc, ◌≡◌, false, ◌||◌, List, [], ◌∷◌, ◌++◌, map, Some, None}
 use Rattle.std.specs.List.{filter_map}
 use Rattle.ebr_ast.specs.declared.statement.Block.{Block}
 use Rattle.ebr_ast.specs.declared.unit.PackageBody.{PackageBody}

@@ -21,7 +21,7 @@ use Rattle.ebr_core.specs.declared.current.Current.{Current}
 use Rattle.ebr_core.specs.declared.parts.Parts.{Parts}
 use Rattle.ebr_core.specs.Machine.{Build, Reply}
 use Rattle.ebr_core.specs.History.{After, AllStopped, IsLive, Legal, edition_of, next, session_edition}
-use Rattle.ebr_core.specs.Engine.{Answers, EngineState, Gives, HasBook, HasLegalHistory, IsAnswer, database_of, entry_of, has_given_up, is_last, with_book}
+use Rattle.ebr_core.specs.Engine.{Answers, Gives, HasBook, HasLegalHistory, IsAnswer, database_of, entry_of, has_given_up, is_last, with_book}
 use Rattle.ebr_core.specs.inside.Held.{ComesWith, Holds, IsHeld, IsReplied}
 use Rattle.ebr_core.specs.inside.Parts.{Adds, Copies, GivesUp, Tries, HasRoom, HasStopped, IsSound, Keeps, Runs, Stands, database, entry, first, last_answer, live_count, lives, lives_at, state_of}
 use Rattle.ebr_core.proofs.Lives.{Replies, Suits, at_there, count_most, lives_is, lives_left, one_left, other_lives, reply_suits, within}

@@ -1,5 +1,5 @@
 -- A definition is carried out over the database that the engine holds.
-use Rattle.std.proofs.Common.{◌≡◌, ℕ, zero, suc, ◌+◌, ◌≤◌, Bool, true, false, List, [], ◌∷◌, ◌++◌, refl, sym, ap, subst, ◌∙◌, append-nil, arith}
+use Rattle.std.proofs.Common.{◌≡◌, ℕ, zero, suc, ◌+◌, Bool, true, false, List, [], ◌∷◌, ◌++◌, refl, sym, ap, subst, ◌∙◌, append-nil, arith}
 use Rattle.std.specs.Prelude.{Option, Some, None, IfSome, Result, Ok, Err, OnOk, slice_get, slice_set, ◌-◌, ◌&&◌, sum_by, if◌then◌else◌}
 use Rattle.std.specs.List.{filter_map, cons_option}
 use Rattle.ebr_base.specs.declared.code.Code.{Code}
@@ -15,9 +15,8 @@ use Rattle.ebr_base.specs.declared.table.TableDef.{TableDef}
 use Rattle.ebr_tx.specs.Calls.{IsMarkOf, after_add_table}
 use Rattle.ebr_cross.specs.declared.record.CatalogueRecord.{CatalogueRecord}
 use Rattle.ebr_cross.specs.declared.record.CatalogueRecord.TheVariants as made
-use Rattle.ebr_cross.specs.Catalogue.{Lists, HaveOwnKeys, View, kept}
+use Rattle.ebr_cross.specs.Catalogue.{HaveOwnKeys, View, kept}
 use Rattle.ebr_cross.specs.Definitions.{outcome}
-use Rattle.ebr_cross.specs.Records.{with_record}
 use Rattle.ebr_record.specs.declared.record.Record.{Record}
 use Rattle.ebr_record.specs.Keeper.{Keeper, share, used_by}
 use Rattle.ebr_database.specs.declared.failure.Failure.{Failure}
@@ -25,7 +24,6 @@ use Rattle.ebr_database.specs.declared.failure.Failure.TheVariants.{Refused, Hal
 use Rattle.ebr_database.specs.declared.failure.Halt.{Halt}
 use Rattle.ebr_database.specs.declared.failure.Halt.TheVariants as why
 use Rattle.ebr_database.specs.Base.{Base}
-use Rattle.ebr_database.specs.Outcome.{gives}
 use Rattle.ebr_database.specs.Shows.{Grew, GaveUp}
 use Rattle.ebr_database.specs.Storable.{AllStorable}
 use Rattle.ebr_database.specs.Transact.{commit}
@@ -39,10 +37,10 @@ use Rattle.ebr_seats.specs.Seats.{IsSeatOf, Sits, Holds as Seated, seat_at}
 use Rattle.ebr_units.specs.Living.{AreCurrent}
 use Rattle.ebr_levels.proofs.ReplyLemmas.{early_records}
 use Rattle.ebr_core.specs.declared.current.Current.{Current}
-use Rattle.ebr_core.specs.Machine.{lists_of, editions_in_use, recorded, defined_by, definition_answer, reply_define, behind, then_reply, answer_in, defined, is_held, table_changed}
+use Rattle.ebr_core.specs.Machine.{lists_of, editions_in_use, recorded, defined_by, definition_answer, behind, then_reply, answer_in, defined, is_held, table_changed}
 use Rattle.ebr_core.specs.Records.{record_of}
 use Rattle.ebr_core.specs.inside.Defined.{Defines, IsNew, with_definition_of}
-use Rattle.ebr_core.specs.inside.Defining.{Applied, Carries, HoldsSome, AnswersIn, IsKept, IsMade, IsRefused, KeepsOutcome, MakesNew, NotKept, Recorded}
+use Rattle.ebr_core.specs.inside.Defining.{Applied, Carries, HoldsSome, AnswersIn, IsMade, IsRefused, KeepsOutcome, MakesNew, Recorded}
 use Rattle.ebr_core.specs.inside.Held.{Holds, HasSession, IsReplied, Replies, IsTextOf}
 use Rattle.ebr_core.specs.inside.Tables.{with_table_of}
 use Rattle.ebr_core.proofs.HeldAgain.{holds_on}

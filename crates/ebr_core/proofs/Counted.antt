@@ -1,6 +1,6 @@
 -- An ask is counted behind its reply.
 use Rattle.std.proofs.Common.{◌≡◌, ℕ, zero, suc, List, refl, sym, ap, subst, ◌∙◌}
-use Rattle.std.specs.Prelude.{Option, Some, None, Result, Ok, Err, slice_get, slice_set, ◌-◌}
+use Rattle.std.specs.Prelude.{Option, Some, None, Result, Ok, Err, slice_set, ◌-◌}
 use Rattle.ebr_base.specs.declared.code.Code.{Code}
 use Rattle.ebr_base.specs.declared.numbers.EditionNo.{EditionNo}
 use Rattle.ebr_base.specs.declared.numbers.SessionId.{SessionId}
@@ -20,7 +20,7 @@ use Rattle.ebr_levels.proofs.ReplyLemmas.{early_counted}
 use Rattle.ebr_seats.proofs.Seated.{at, at_here, seated, seat_within}
 use Rattle.ebr_core.specs.declared.current.Current.{Current}
 use Rattle.ebr_core.specs.Machine.{lists_of, Reply, counting, counted_in, edition_found, edition_set, reply_define, reply_in, reply_to, reply_while, then_reply, unless_refused}
-use Rattle.ebr_core.specs.inside.Held.{Holds, HasSession, IsHeld, IsReplied}
+use Rattle.ebr_core.specs.inside.Held.{HasSession, IsHeld, IsReplied}
 
 at_is : (xs : List Session) (n : ℕ) → session_at xs n ≡ at xs n
 at_is xs zero = refl

@@ -1,6 +1,6 @@
 -- A session leaves, and is counted.
-use Rattle.std.proofs.Common.{◌≡◌, ℕ, List, [], ◌++◌, Bool, true, false, refl, sym, ap, subst, ◌∙◌, append-nil, Vec, Global}
-use Rattle.std.specs.Prelude.{Option, Some, None}
+use Rattle.std.proofs.Common.{◌≡◌, ℕ, List, [], refl, sym, ap, subst, ◌∙◌, append-nil}
+use Rattle.std.specs.Prelude.{Some, None}
 use Rattle.ebr_base.specs.declared.numbers.EditionNo.{EditionNo}
 use Rattle.ebr_base.specs.declared.numbers.SessionId.{SessionId}
 use Rattle.ebr_asks.specs.declared.ask.Ask.TheVariants.{Leave}
@@ -10,12 +10,12 @@ use Rattle.ebr_tx.specs.Data.{Data}
 use Rattle.ebr_database.specs.Database.{Session, Database, Replied, counted, session_at, with_session}
 use Rattle.ebr_seats.specs.declared.seat.Seat.{Seat}
 use Rattle.ebr_seats.specs.Ends.{reply_leave}
-use Rattle.ebr_seats.specs.Seats.{HasSeat, IsHeld as IsSeatHeld, Holds as Seated, Leaves}
+use Rattle.ebr_seats.specs.Seats.{HasSeat, Holds as Seated}
 use Rattle.ebr_seats.proofs.Live.{has_seat}
 use Rattle.ebr_levels.proofs.ReplyLemmas.{early_counted, early_leave}
 use Rattle.ebr_core.specs.declared.current.Current.{Current}
 use Rattle.ebr_core.specs.Machine.{Reply, counted_in, counting, reply_in}
-use Rattle.ebr_core.specs.inside.Held.{Holds, HasSession, IsReplied}
+use Rattle.ebr_core.specs.inside.Held.{Holds, IsReplied}
 use Rattle.ebr_core.proofs.HeldAgain.{leaves_on}
 use Rattle.ebr_core.proofs.Lives.{leave_is, session_here}
 

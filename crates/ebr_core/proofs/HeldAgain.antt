@@ -1,22 +1,19 @@
 -- What the engine holds after an ask that leaves the catalogue as it is.
-use Rattle.std.proofs.Common.{◌≡◌, ℕ, ◌≤◌, List, [], ◌∷◌, ◌++◌, refl, sym, ap, subst, ◌∙◌, append-nil, inl}
-use Rattle.std.specs.Prelude.{Option, Some, None, Result, Ok, Err}
+use Rattle.std.proofs.Common.{◌≡◌, [], ◌++◌, sym, ap, subst, ◌∙◌, append-nil}
+use Rattle.std.specs.Prelude.{Result, Ok, Err}
 use Rattle.std.specs.List.{AllByRecursion}
 use Rattle.ebr_base.specs.declared.code.Code.{Code}
 use Rattle.ebr_base.specs.declared.code.Stop.{Stop}
 use Rattle.ebr_base.specs.declared.code.Stop.TheVariants as stop
-use Rattle.ebr_base.specs.declared.numbers.EditionNo.{EditionNo}
 use Rattle.ebr_base.specs.declared.numbers.SessionId.{SessionId}
 use Rattle.ebr_asks.specs.declared.answer.Answer.{Answer}
 use Rattle.ebr_cross.specs.Catalogue.{HaveOwnKeys, kept}
 use Rattle.ebr_record.specs.Keeper.{Keeper}
-use Rattle.ebr_record.specs.declared.record.Record.{Record}
 use Rattle.ebr_database.specs.declared.failure.Failure.{Failure}
 use Rattle.ebr_database.specs.declared.failure.Failure.TheVariants as failure
-use Rattle.ebr_database.specs.declared.failure.Halt.{Halt}
 use Rattle.ebr_database.specs.declared.failure.Halt.TheVariants as halt
 use Rattle.ebr_database.specs.Shows.{Grew, GaveUp}
-use Rattle.ebr_database.specs.Database.{Session, Database, Replied, session_at, as_answer}
+use Rattle.ebr_database.specs.Database.{Database, Replied, as_answer}
 use Rattle.ebr_database.proofs.Keeping.{grew_same, stays}
 use Rattle.ebr_seats.specs.Seats.{Finishes, Goes, Leaves, LeavesOr, Holds as Seated, IsHeld as IsSeatHeld}
 use Rattle.ebr_units.specs.Living.{AreCurrent}
@@ -25,9 +22,8 @@ use Rattle.ebr_core.specs.declared.current.Current.{Current}
 use Rattle.ebr_core.specs.Machine.{lists_of}
 use Rattle.ebr_core.specs.Records.{catalogue_of}
 use Rattle.ebr_core.specs.inside.Reached.{AreReached, IsCommit}
-use Rattle.ebr_core.specs.inside.Held.{Holds, HasSession, IsHeld, IsReplied, Replies, answered, failed, refused_by}
+use Rattle.ebr_core.specs.inside.Held.{Holds, IsHeld, IsReplied, Replies, answered, failed, refused_by}
 use Rattle.ebr_core.proofs.MadeRecords.{same_lists, reached_commits}
-use Rattle.ebr_core.proofs.ReachedRecords.{reached_same}
 
 module _ {K : Type 0} (told : K → Keeper) where
   pub seat_held : (now : Current K) (s : SessionId) → IsHeld told now s → IsSeatHeld now.world.tx.contents now.seats.items s

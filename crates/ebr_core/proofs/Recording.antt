@@ -1,5 +1,5 @@
 -- The record of a definition is kept, or not.
-use Rattle.std.proofs.Common.{◌≡◌, ℕ, ◌+◌, Bool, true, false, List, [], ◌∷◌, ◌++◌, refl, sym, ap, subst, ◌∙◌}
+use Rattle.std.proofs.Common.{◌≡◌, ℕ, ◌+◌, Bool, true, false, refl, sym, ap, subst}
 use Rattle.std.specs.Prelude.{nat_le, Result, Ok, Err}
 use Rattle.ebr_base.specs.declared.code.Code.{Code}
 use Rattle.ebr_base.specs.declared.code.Code.TheVariants.{Ebr}

@@ -21,48 +21,20 @@ use Rattle.ebr_cross.specs.Definitions.{has_other_view, is_view_on, shows_table}
 use Rattle.ebr_cross.specs.Records.{with_object}
 use Rattle.ebr_cross.specs.inside.Places.{placed}
 use Rattle.ebr_cross.proofs.InOrder.{fold-push}
-use Rattle.ebr_cross.proofs.OwnKeys.{key_total, key-exact, key-same, same-order, same-turned, seen-under}
-use Rattle.ebr_cross.proofs.Placed.{Owns, any-insert, insert-there, seen-placed}
-use Rattle.ebr_cross.proofs.Seen.{sorted-in_order}
+use Rattle.ebr_cross.proofs.OwnKeys.{key_total, key-exact, key-same, same-turned, seen-under}
+use Rattle.ebr_cross.proofs.Placed.{Owns, seen-placed}
+use Rattle.ebr_cross.proofs.Seen.{sorted-in_order, any-fold, same-test, more-in_order, and-false}
 
 -- ---- keys in order
-
-or-false : (b : Bool) → b ≡ (b || false)
-or-false true = refl
-or-false false = refl
-
-or-turned : (a b c : Bool) → ((a || b) || c) ≡ (b || (a || c))
-or-turned true true c = refl
-or-turned true false c = refl
-or-turned false true c = refl
-or-turned false false c = refl
-
-any-fold : (p : ObjectKey → Bool) (keys acc : List ObjectKey) → list_any p (fold (insert_key key_order) acc keys) ≡ (list_any p acc || list_any p keys)
-any-fold p [] acc = or-false (list_any p acc)
-any-fold p (k ∷ keys) acc =
-    any-fold p keys (insert_key key_order acc k) ∙ (ap (λ b. b || list_any p keys) (any-insert key-exact p acc k) ∙ or-turned (p k) (list_any p acc) (list_any p keys))
 
 -- a test finds the same among keys and among keys in order
 any-in_order : (p : ObjectKey → Bool) (keys : List ObjectKey) → list_any p (in_order keys) ≡ list_any p keys
 unfolding in_order
 any-in_order p keys = any-fold p keys []
 
-same-test : (k : ObjectKey) → same_key k ≡ (λ y. is_eq (key_order k y))
-same-test k = λ i y. same-order k y i
-
 new-in_order : (keys : List ObjectKey) (k : ObjectKey) → in_order (keys ++ k ∷ []) ≡ insert_key key_order (in_order keys) k
 unfolding in_order
 new-in_order keys k = fold-push (insert_key key_order) [] keys k
-
--- keys in order with one more
-more-in_order : (keys : List ObjectKey) (k : ObjectKey) → in_order (with_key keys k) ≡ insert_key key_order (in_order keys) k
-more-in_order keys k = by (list_any (same_key k) keys) refl
-  where
-    by : (b : Bool) → list_any (same_key k) keys ≡ b → in_order (cond b keys (keys ++ k ∷ [])) ≡ insert_key key_order (in_order keys) k
-    by true t =
-        sym (insert-there key_total (in_order keys) k (sorted-in_order keys)
-        (any-in_order (λ y. is_eq (key_order k y)) keys ∙ (ap (λ p. list_any p keys) (sym (same-test k)) ∙ t)))
-    by false f = new-in_order keys k
 
 -- ---- a key without an entry
 
@@ -93,10 +65,6 @@ not-entered k (x ∷ xs) keys h =
     let rest = not-entered k xs (with_key keys x.key) h in
     let here = apart-with k x.key keys (list_any (same_key x.key) keys) refl rest.1 in
     ((here.0, rest.0), here.1)
-
-and-false : (a b : Bool) → b ≡ false → (a && b) ≡ false
-and-false true b h = h
-and-false false b h = refl
 
 none-last : (k : ObjectKey) (d : EditionNo) (entries : List (ObjectEntry Object)) (last : Option (ObjectEntry Object)) → AllByRecursion (λ (x : ObjectEntry Object). same_key k x.key ≡ false) entries
     → fold (λ found x. cond (is_entry_of d k x) (Some x) found) last entries ≡ last

@@ -5,13 +5,11 @@ use Rattle.ebr_cross.specs.Catalogue.{Lists, first_lists, kept}
 use Rattle.ebr_editions.specs.Editions.{first_edition}
 use Rattle.ebr_record.specs.Keeper.{Keeper, used_by}
 use Rattle.ebr_tx.specs.Calls.{first_data}
-use Rattle.ebr_database.specs.Database.{data_of}
 use Rattle.ebr_seats.specs.Seats.{Begin, Holds as Seated}
 use Rattle.ebr_units.specs.Living.{AreCurrent}
 use Rattle.ebr_levels.proofs.ReplyLemmas.{early_first}
 use Rattle.ebr_core.specs.declared.current.Current.{Current}
 use Rattle.ebr_ast.specs.declared.view.EditionView.{EditionView}
-use Rattle.ebr_asks.specs.declared.entry.Entry.{Entry}
 use Rattle.std.specs.Prelude.{Option}
 use Rattle.ebr_core.specs.declared.parts.Parts.{Parts}
 use Rattle.ebr_core.specs.History.{After, Legal}
@@ -19,7 +17,7 @@ use Rattle.ebr_core.specs.Engine.{IsEmpty, has_given_up, no_books}
 use Rattle.ebr_core.specs.Machine.{Build}
 use Rattle.ebr_core.specs.Records.{catalogue_of}
 use Rattle.ebr_core.specs.inside.Held.{Holds}
-use Rattle.ebr_core.specs.inside.Parts.{IsSound, Runs, Stands, database, first, live_count, lives}
+use Rattle.ebr_core.specs.inside.Parts.{IsSound, Runs, Stands, database, first, lives}
 use Rattle.ebr_core.proofs.Lives.{all_there, count_most}
 use Rattle.ebr_core.proofs.ReachedRecords.{none_reached}
 use Rattle.ebr_core.proofs.Spellings.{own_keys}

@@ -1,5 +1,5 @@
 -- The edition machine: what the database replies to each ask of a session.
-use Rattle.std.specs.Prelude.{ℕ, zero, suc, nat_le, Bool, true, false, not, ◌&&◌, if◌then◌else◌, List, [], ◌∷◌, ◌++◌, Option, Some, None, is_some, Result, Ok, Err, replicate}
+use Rattle.std.specs.Prelude.{ℕ, Bool, true, false, if◌then◌else◌, List, [], ◌++◌, Option, Some, None, is_some, Result, Ok, Err, replicate}
 use Rattle.std.specs.List.{filter_map}
 use Rattle.ebr_base.specs.declared.numbers.EditionNo.{EditionNo}
 use Rattle.ebr_base.specs.declared.numbers.SessionId.{SessionId}
@@ -12,7 +12,6 @@ use Rattle.ebr_ast.specs.declared.definition.Definition.{Definition}
 use Rattle.ebr_ast.specs.declared.definition.Definition.TheVariants as definition
 use Rattle.ebr_ast.specs.declared.sql.SqlTree.{SqlTree}
 use Rattle.ebr_ast.specs.declared.view.EditionView.{EditionView}
-use Rattle.ebr_tables.specs.Tables.{first_refusal}
 use Rattle.ebr_check.specs.Verdict.{is_valid}
 use Rattle.ebr_cross.specs.declared.record.CatalogueRecord.{CatalogueRecord}
 use Rattle.ebr_cross.specs.Catalogue.{Lists, table_in}
@@ -22,17 +21,16 @@ use Rattle.ebr_asks.specs.declared.ask.Ask.{Ask}
 use Rattle.ebr_asks.specs.declared.ask.Ask.TheVariants.{Begin, Sql, Commit, Rollback, Savepoint, BackTo, Ddl, SetEdition, PushAuto, PopAuto, EndCall, Leave}
 use Rattle.ebr_asks.specs.declared.answer.Answer.{Answer}
 use Rattle.ebr_asks.specs.declared.answer.Answer.TheVariants.{View, Done, Invalid, Refused}
-use Rattle.ebr_tx.specs.declared.savepoints.TxMark.{TxMark}
-use Rattle.ebr_tx.specs.Data.{Data, own, named_at}
+use Rattle.ebr_tx.specs.Data.{Data, own}
 use Rattle.ebr_tx.specs.Conflicts.{TableHeld}
-use Rattle.ebr_tx.specs.Calls.{first_transactions, levels, mark_of, after_mark, after_pop, after_rollback}
+use Rattle.ebr_tx.specs.Calls.{first_transactions}
 use Rattle.ebr_record.specs.declared.record.Record.{Record}
 use Rattle.ebr_record.specs.Keeper.{used_by}
 use Rattle.ebr_database.specs.Base.{Base}
 use Rattle.ebr_database.specs.Outcome.{Outcome, gives, then_run}
-use Rattle.ebr_database.specs.Carried.{is_overloaded, room_for}
+use Rattle.ebr_database.specs.Carried.{room_for}
 use Rattle.ebr_database.specs.Transact.{keep_record}
-use Rattle.ebr_database.specs.Database.{Session, Database, Replied, data_of, base_in, session_at, with_session, after_outcome, counted, on_top, own_on_top, reply_commit, reply_rollback, reply_savepoint, reply_back_to, reply_push, reply_pop}
+use Rattle.ebr_database.specs.Database.{Session, Database, Replied, data_of, base_in, session_at, with_session, after_outcome, counted, on_top, reply_commit, reply_rollback, reply_savepoint, reply_back_to, reply_push, reply_pop}
 use Rattle.ebr_seats.specs.Tests.{first_tests}
 use Rattle.ebr_seats.specs.Ends.{begun_in, own_of, unchanged, call_opened, reply_end, reply_leave}
 use Rattle.ebr_exec.specs.Places.{names_of, own_place}

@@ -51,16 +51,16 @@ or-turned true false c = refl
 or-turned false true c = refl
 or-turned false false c = refl
 
-any-fold : (p : ObjectKey → Bool) (keys acc : List ObjectKey) → list_any p (fold (insert_key key_order) acc keys) ≡ (list_any p acc || list_any p keys)
+pub any-fold : (p : ObjectKey → Bool) (keys acc : List ObjectKey) → list_any p (fold (insert_key key_order) acc keys) ≡ (list_any p acc || list_any p keys)
 any-fold p [] acc = or-false (list_any p acc)
 any-fold p (k ∷ keys) acc =
     any-fold p keys (insert_key key_order acc k) ∙ (ap (λ b. b || list_any p keys) (any-insert key-exact p acc k) ∙ or-turned (p k) (list_any p acc) (list_any p keys))
 
-same-test : (k : ObjectKey) → same_key k ≡ (λ y. is_eq (key_order k y))
+pub same-test : (k : ObjectKey) → same_key k ≡ (λ y. is_eq (key_order k y))
 same-test k = λ i y. same-order k y i
 
 -- keys in order with one more
-more-in_order : (keys : List ObjectKey) (k : ObjectKey) → in_order (with_key keys k) ≡ insert_key key_order (in_order keys) k
+pub more-in_order : (keys : List ObjectKey) (k : ObjectKey) → in_order (with_key keys k) ≡ insert_key key_order (in_order keys) k
 unfolding in_order
 more-in_order keys k = by (list_any (same_key k) keys) refl
   where
@@ -73,7 +73,7 @@ more-in_order keys k = by (list_any (same_key k) keys) refl
 keys-more : (entries : List (ObjectEntry Object)) (e : EditionNo) (k : ObjectKey) (o : Option Object) → keys_of (with_entry entries e k o) ≡ with_key (keys_of entries) k
 keys-more entries e k o = fold-push (λ keys (x : ObjectEntry Object). with_key keys x.key) [] entries (record { edition = e; key = k; object = o; stamp = next_stamp entries e })
 
-and-false : (a b : Bool) → b ≡ false → (a && b) ≡ false
+pub and-false : (a b : Bool) → b ≡ false → (a && b) ≡ false
 and-false true b h = h
 and-false false b h = refl
 

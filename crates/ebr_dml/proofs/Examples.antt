@@ -1,6 +1,6 @@
 -- A row's fate, computed: a table T of a key, a text that takes no NULL, and a number; three committed rows, of which the
 -- second got another key since session 1 began; session 2 holds row 3, and has a new row whose key is 9.
-use Rattle.std.proofs.Common.{◌≡◌, ℕ, pos, false, true, codes, List, [], ◌∷◌, Option, Some, None, Ok, Err, refl}
+use Rattle.std.proofs.Common.{◌≡◌, ℕ, pos, false, true, codes, List, [], ◌∷◌, Option, Some, None, Ok, refl}
 use Rattle.ebr_base.specs.declared.code.Code.{Code}
 use Rattle.ebr_base.specs.declared.code.Code.TheVariants.{Ora}
 use Rattle.ebr_base.specs.declared.row.Change.{Change}
@@ -13,7 +13,7 @@ use Rattle.ebr_base.specs.declared.value.Value.TheVariants as value
 use Rattle.ebr_tx.specs.Calls.{after_change}
 use Rattle.ebr_tx.specs.Data.{Data}
 use Rattle.ebr_dml.specs.declared.plan.Plan.{Plan}
-use Rattle.ebr_dml.specs.declared.plan.Work.TheVariants.{Set, Remove}
+use Rattle.ebr_dml.specs.declared.plan.Work.TheVariants.{Remove}
 use Rattle.ebr_dml.specs.declared.taken.Taken.{Taken}
 use Rattle.ebr_dml.specs.Images.{old_values, new_values, after_values}
 use Rattle.ebr_dml.specs.Tests.{first_code, insert_tests, update_tests, delete_tests, removal, written}

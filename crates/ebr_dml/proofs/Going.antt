@@ -1,6 +1,6 @@
 -- A statement can go on after a step.
-use Rattle.std.proofs.Common.{◌≡◌, ◌≢◌, ◌+◌, Bool, true, false, cond, ◌&&◌, ◌==◌, List, [], ◌∷◌, ◌++◌, Option, Some, None, Result, Ok, Err, is_some, refl, sym, ap, ◌∙◌, subst, arith, append-nil, drop}
-use Rattle.std.specs.Prelude.{filter, IfSome, OnOk}
+use Rattle.std.proofs.Common.{◌≡◌, ◌≢◌, ◌+◌, Bool, true, false, cond, ◌&&◌, ◌==◌, List, [], ◌∷◌, ◌++◌, Option, Some, None, Ok, is_some, refl, sym, ap, ◌∙◌, subst, arith, append-nil}
+use Rattle.std.specs.Prelude.{filter, IfSome}
 use Rattle.std.specs.List.{last_or, list_any}
 use Rattle.std.proofs.lemmas.List.Elements.{filter-append}
 use Rattle.ebr_base.specs.declared.code.Code.{Code}
@@ -12,17 +12,17 @@ use Rattle.ebr_base.specs.declared.row.TxId.{TxId}
 use Rattle.ebr_base.specs.declared.value.Value.{Value}
 use Rattle.ebr_versions.specs.Data.{is_of, is_row, last_change}
 use Rattle.ebr_versions.specs.Keys.{row_in, is_added, key_places}
-use Rattle.ebr_tx.specs.Data.{Data, IsLive, IsIn, own}
+use Rattle.ebr_tx.specs.Data.{Data, IsLive, own}
 use Rattle.ebr_tx.specs.Reads.{Sees, seen_by, over, committed}
-use Rattle.ebr_tx.specs.Calls.{unless_refused, after_change, with_change, insertion, IsKnown}
+use Rattle.ebr_tx.specs.Calls.{unless_refused, after_change, insertion, IsKnown}
 use Rattle.ebr_locks.specs.Locks.{same_tx}
 use Rattle.ebr_dml.specs.declared.plan.Plan.{Plan}
 use Rattle.ebr_dml.specs.declared.plan.Work.{Work}
 use Rattle.ebr_dml.specs.declared.plan.Work.TheVariants.{Set, Remove}
 use Rattle.ebr_dml.specs.declared.taken.Taken.{Taken}
 use Rattle.ebr_dml.specs.Tests.{first_code, insert_tests, update_tests, delete_tests, update, removal, tested, written_row, written_to, written}
-use Rattle.ebr_dml.specs.Steps.{Standing, Stays, IsSeen, AreSeen, RestSeen, CanStep}
-use Rattle.ebr_dml.specs.inside.Apart.{Differs, FromAll}
+use Rattle.ebr_dml.specs.Steps.{Stays, IsSeen, AreSeen}
+use Rattle.ebr_dml.specs.inside.Apart.{FromAll}
 use Rattle.ebr_dml.proofs.Writing.{own-change}
 
 -- ---- a row that a change leaves alone

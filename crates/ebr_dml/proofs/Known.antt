@@ -1,6 +1,6 @@
 -- The table of a plan is one of those that the edition sees.
-use Rattle.std.proofs.Common.{◌≡◌, ℕ, Bool, true, false, cond, List, [], ◌∷◌, Option, Some, None, Result, Ok, Err, refl, map}
-use Rattle.std.specs.Prelude.{All, find, IfOk, IfSome}
+use Rattle.std.proofs.Common.{ℕ, Bool, true, false, cond, List, [], ◌∷◌, Option, Some, None, Result, Ok, Err, map}
+use Rattle.std.specs.Prelude.{All, IfOk, IfSome}
 use Rattle.std.specs.List.{AllByRecursion}
 use Rattle.std.specs.Str.{bytes_eq}
 use Rattle.std.proofs.lemmas.List.Elements.{recursion_from_All}
@@ -21,9 +21,8 @@ use Rattle.ebr_query.specs.Seen.{table_of, table_behind, base_of}
 use Rattle.ebr_sqlcheck.specs.Checked.{on}
 use Rattle.ebr_sqlcheck.specs.Sources.{Relation}
 use Rattle.ebr_sqlcheck.specs.Statements.{only_relation}
-use Rattle.ebr_dml.specs.declared.plan.Plan.{Plan}
 use Rattle.ebr_dml.specs.declared.plan.Work.{Work}
-use Rattle.ebr_dml.specs.Plans.{there, over, insert_plan, insert_places, update_over, set_of, delete_over, trigger_key, tree_table, object_table, trigger_table, plan_of}
+use Rattle.ebr_dml.specs.Plans.{there, over, insert_places, set_of, trigger_key, tree_table, object_table, trigger_table, plan_of}
 
 -- what holds of all that f gives holds of what it gives next
 on-gives : {A B : Type 0} (Q : B → Type 0) (f : A → Result B Code) (r : Result A Code) → ((a : A) → IfOk (f a) Q) → IfOk (on f r) Q

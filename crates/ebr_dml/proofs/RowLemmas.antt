@@ -1,5 +1,5 @@
 -- The rows of a statement: they are different ones, and the transaction sees each of them.
-use Rattle.std.proofs.Common.{◌≡◌, ◌≢◌, ℕ, Bool, true, false, cond, ◌&&◌, nat_lt, List, [], ◌∷◌, filter, map, Option, Some, None, Result, Ok, Err, is_some, unwrap_or, refl, sym, ap, ◌∙◌, subst, arith}
+use Rattle.std.proofs.Common.{◌≡◌, ◌≢◌, ℕ, Bool, true, false, cond, ◌&&◌, nat_lt, List, [], ◌∷◌, filter, map, Option, Some, Result, Ok, Err, is_some, unwrap_or, refl, ap, ◌∙◌, arith}
 use Rattle.ebr_base.specs.declared.code.Code.{Code}
 use Rattle.ebr_base.specs.declared.numbers.RowNo.{RowNo}
 use Rattle.ebr_base.specs.declared.numbers.TableId.{TableId}
@@ -15,9 +15,9 @@ use Rattle.ebr_query.specs.Seen.{with_number, rising, numbers_seen}
 use Rattle.ebr_query.proofs.Rising.{Above, Rises, rises, differ}
 use Rattle.ebr_dml.specs.declared.plan.Plan.{Plan}
 use Rattle.ebr_dml.specs.declared.taken.Taken.{Taken}
-use Rattle.ebr_dml.specs.Rows.{seen_row, seen_rows, values_at, taken_if, taken, unless_many, all_taken, rows_of}
-use Rattle.ebr_dml.specs.Steps.{IsSeen, AreSeen, RestSeen}
-use Rattle.ebr_dml.specs.inside.Apart.{Differs, FromAll, Apart, FoundApart}
+use Rattle.ebr_dml.specs.Rows.{seen_row, seen_rows, values_at, taken_if, taken, all_taken, rows_of}
+use Rattle.ebr_dml.specs.Steps.{AreSeen, RestSeen}
+use Rattle.ebr_dml.specs.inside.Apart.{FromAll, Apart, FoundApart}
 
 -- ---- numbers
 

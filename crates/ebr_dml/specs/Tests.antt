@@ -1,7 +1,7 @@
 -- What becomes of a row once its BEFORE triggers have run: its tests in their order, and the change.
 -- Oracle Database SQL Language Reference 19c, constraint; Oracle Database Concepts 19c, Data Concurrency and Consistency. The
 -- order of the tests is own.
-use Rattle.std.specs.Prelude.{ℕ, suc, nat_lt, Bool, true, false, ◌&&◌, ◌||◌, if◌then◌else◌, List, [], ◌∷◌, Option, Some, None, Result, Ok, Err}
+use Rattle.std.specs.Prelude.{ℕ, suc, nat_lt, Bool, true, false, ◌&&◌, ◌||◌, if◌then◌else◌, List, [], ◌∷◌, Option, Some, None, Result}
 use Rattle.std.specs.Option.{option_or}
 use Rattle.ebr_base.specs.declared.code.Code.{Code}
 use Rattle.ebr_base.specs.declared.code.Code.TheVariants.{Ora}
@@ -21,7 +21,6 @@ use Rattle.ebr_tx.specs.Conflicts.{touch_refusal}
 use Rattle.ebr_tx.specs.Calls.{unless_refused, after_change, insertion, new_number, new_key_refusal, changed_key_refusal}
 use Rattle.ebr_tx.specs.Limits.{is_full, limit_refusal, max_row}
 use Rattle.ebr_dml.specs.declared.plan.Plan.{Plan}
-use Rattle.ebr_dml.specs.declared.plan.Setting.{Setting}
 use Rattle.ebr_dml.specs.declared.plan.Work.{Work}
 use Rattle.ebr_dml.specs.declared.plan.Work.TheVariants.{Set, Remove}
 use Rattle.ebr_dml.specs.declared.taken.Taken.{Taken}

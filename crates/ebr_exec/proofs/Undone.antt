@@ -10,7 +10,7 @@ use Rattle.ebr_base.specs.declared.row.RowId.{RowId}
 use Rattle.ebr_base.specs.declared.row.TxId.{TxId}
 use Rattle.ebr_locks.specs.Locks.{Lock, same_tx, is_of, locks_of, released}
 use Rattle.ebr_tx.specs.declared.savepoints.TxMark.{TxMark}
-use Rattle.ebr_tx.specs.Data.{Transaction, Data, is_named, names_of, not_begun, changed}
+use Rattle.ebr_tx.specs.Data.{Transaction, Data, is_named, not_begun, changed}
 use Rattle.ebr_tx.specs.Calls.{after_begin, begun_at, after_change, with_change, mark_of, marked, after_mark, IsMarkOf}
 use Rattle.ebr_query.specs.Queries.{AddsLocks}
 use Rattle.ebr_exec.specs.inside.Over.{Over}
@@ -127,16 +127,6 @@ unchanged t (x ∷ xs) = by (is_named t x) (unchanged t xs)
     by true rest = refl
     by false rest = ap (λ ys. x ∷ ys) rest
 
-pub over_same : (d : Data) (t : TxId) → Over d t d
-over_same d t = record {
-  step = λ x. x;
-  more = [];
-  added = [];
-  named = λ x. refl;
-  changes = λ x. sym (append-nil x.changes);
-  is = λ i. record d { live = sym (unchanged t d.live) i; locks = sym (append-nil d.locks) i };
-}
-
 pub over_over : (d d' d'' : Data) (t : TxId) → Over d t d' → Over d' t d'' → Over d t d''
 over_over d d' d'' t o p = record {
   step = λ x. p.step (o.step x);
@@ -190,15 +180,3 @@ undone_to before now after t m is o e = e ∙ ap (λ x. after_mark now t x) is �
 
 pub still_mark_of : (before now : Data) (t : TxId) (m : TxMark) → m ≡ mark_of before t → IsMarkOf before t m → Over before t now → IsMarkOf now t m
 still_mark_of before now t m is h o = subst (IsMarkOf now t) (sym is) (still_mark before t now o (subst (IsMarkOf before t) is h))
-
--- the same transactions are live
-pub named_alike : (t : TxId) (f : Transaction → Transaction) → ((x : Transaction) → (f x).id ≡ x.id) → (live : List Transaction) → names_of (changed t f live) ≡ names_of live
-named_alike t f named [] = refl
-named_alike t f named (x ∷ xs) = by (is_named t x) (named_alike t f named xs)
-  where
-    by : (q : Bool) → names_of (changed t f xs) ≡ names_of xs → names_of (cond q (f x ∷ xs) (x ∷ changed t f xs)) ≡ x.id ∷ names_of xs
-    by true rest = ap (λ i. i ∷ names_of xs) (named x)
-    by false rest = ap (λ ids. x.id ∷ ids) rest
-
-pub over_names : (d d' : Data) (t : TxId) → Over d t d' → names_of d'.live ≡ names_of d.live
-over_names d d' t o = ap (λ (x : Data). names_of x.live) o.is ∙ named_alike t o.step o.named d.live

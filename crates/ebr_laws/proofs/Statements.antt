@@ -24,7 +24,7 @@ use Rattle.ebr_run.specs.Statements.{Meaning, Handling, target_place, assigned, 
 use Rattle.ebr_code.specs.declared.instruction.Instruction.{Do}
 use Rattle.ebr_code.specs.declared.instruction.Operation.TheVariants as does
 use Rattle.ebr_code.specs.Instructions.{run}
-use Rattle.ebr_code.specs.Codes.{Coded, all, store_code, give_code, while_code, guarded_code, stmt_codes, block_codes, branch_codes, handler_codes, stmt_code, block_code, handler_code, expr_code}
+use Rattle.ebr_code.specs.Codes.{Coded, all, store_code, give_code, while_code, guarded_code, stmt_codes, block_codes, branch_codes, handler_codes, stmt_code, block_code, handler_code}
 use Rattle.ebr_code.specs.Codes as codes
 use Rattle.ebr_laws.proofs.Lists.{first_does, only_does}
 use Rattle.ebr_laws.proofs.Readings.{reading_same}

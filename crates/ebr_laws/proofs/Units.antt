@@ -22,7 +22,7 @@ use Rattle.ebr_run.specs.Scope.{Env, body_key, declaration_in, part}
 use Rattle.ebr_run.specs.Expressions.{Calls}
 use Rattle.ebr_run.specs.Calls.{calls_of}
 use Rattle.ebr_run.specs.Units as trees
-use Rattle.ebr_run.specs.Units.{outside, within_subprogram, in_specification, in_package_body, behind_body, in_trigger, in_initial_part, formal, subprogram_part, block_part, packaged_part, with_specification, valid_unit, stamp_in, specification_run, body_run, specification_making, body_making}
+use Rattle.ebr_run.specs.Units.{outside, within_subprogram, in_specification, in_package_body, behind_body, in_trigger, in_initial_part, formal, subprogram_part, block_part, with_specification, valid_unit, stamp_in, specification_run, body_run, specification_making, body_making}
 use Rattle.ebr_run.specs.Run.{seen, start, run_part, Run}
 use Rattle.ebr_code.specs.declared.book.Unit as compiled
 use Rattle.ebr_code.specs.Books.{Book}

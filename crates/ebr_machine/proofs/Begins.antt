@@ -13,7 +13,7 @@ use Rattle.ebr_run.specs.declared.fault.Fault.TheVariants as fault
 use Rattle.ebr_run.specs.Faults.{is_uncatchable}
 use Rattle.ebr_run.specs.Packages.{PackageState}
 use Rattle.ebr_run.specs.State as run
-use Rattle.ebr_run.specs.State.{Memory, State, Outcome, End, Runs, bare, with_memory, ended, done, raises, stops, broken, then_run, refused, spent, next_answer, asked, when_done, closed}
+use Rattle.ebr_run.specs.State.{Memory, State, Outcome, End, Runs, bare, with_memory, ended, done, raises, stops, broken, then_run, refused, spent, next_answer, asked, when_done}
 use Rattle.ebr_run.specs.Calls.{Part, left_on, left, returned_on, returned, body, fresh}
 use Rattle.ebr_run.specs.Run.{seen, start, run_part}
 use Rattle.ebr_code.specs.declared.instruction.Instruction.{Instruction}

@@ -13,7 +13,7 @@ use Rattle.ebr_code.specs.Runs.{parts_of}
 use Rattle.ebr_running.specs.declared.running.BodyFrame.{BodyFrame}
 use Rattle.ebr_running.specs.declared.running.Running.{Running}
 use Rattle.ebr_running.specs.Rest as rest
-use Rattle.ebr_running.specs.Rest.{DoesIn, ActsIn, Moves, awake, calls_at, nothing, resume, rest_of, row_of, saved_of}
+use Rattle.ebr_running.specs.Rest.{DoesIn, ActsIn, Moves, calls_at, row_of}
 use Rattle.ebr_machine.specs.inside.Callees.{under, refers}
 use Rattle.ebr_machine.proofs.Called.{does_as, moves_as}
 

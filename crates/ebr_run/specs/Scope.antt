@@ -32,7 +32,7 @@ use Rattle.ebr_sqlcheck.specs.declared.value_type.ValueType.TheVariants as type
 use Rattle.ebr_sqlcheck.specs.Types.{Known}
 use Rattle.ebr_scope.specs.declared.field.Field.{Field}
 use Rattle.ebr_scope.specs.Meanings as known
-use Rattle.ebr_scope.specs.Meanings.{Word, Fields, is_out, is_field}
+use Rattle.ebr_scope.specs.Meanings.{Word, Fields, is_out}
 use Rattle.ebr_scope.specs.Declarations as known_type
 use Rattle.ebr_scope.specs.Declarations.{column_of, decl_name, item_named, is_name}
 use Rattle.ebr_scope.specs.Names.{visible_head, visible_items, is_function}

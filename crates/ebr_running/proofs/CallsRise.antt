@@ -1,6 +1,6 @@
 -- No call takes steps or lines back.
-use Rattle.std.proofs.Common.{◌≡◌, ℕ, zero, suc, ◌≤◌, Bool, true, false, ◌&&◌, if◌then◌else◌, List, [], ◌∷◌, ◌++◌, length, map, Option, Some, None, option_map, refl, arith}
-use Rattle.std.specs.Prelude.{nat_eq, slice_get, option_and_then}
+use Rattle.std.proofs.Common.{◌≡◌, ℕ, zero, suc, Bool, true, false, List, [], ◌∷◌, ◌++◌, Option, Some, None, option_map, refl, arith}
+use Rattle.std.specs.Prelude.{slice_get, option_and_then}
 use Rattle.ebr_base.specs.declared.code.Code.{Code}
 use Rattle.ebr_base.specs.declared.numbers.Stamp.{Stamp}
 use Rattle.ebr_base.specs.declared.object.Class.{Class}
@@ -24,10 +24,10 @@ use Rattle.ebr_code.specs.declared.book.Initial.{Initial}
 use Rattle.ebr_code.specs.declared.book.Unit as compiled
 use Rattle.ebr_code.specs.Books.{Book}
 use Rattle.ebr_code.specs.Instructions.{run}
-use Rattle.ebr_code.specs.Runs.{part_of, making_of, part_at, called_part, making_in, making_with, parts_of}
+use Rattle.ebr_code.specs.Runs.{part_of, making_of, part_at, making_in, making_with, parts_of}
 use Rattle.ebr_run.specs.State.{loop, turn}
 use Rattle.ebr_running.specs.Rest.{calls_at}
-use Rattle.ebr_running.proofs.Rises.{Rises, Grows, same, onto, either, by_itself_grows, loop_turn}
+use Rattle.ebr_running.proofs.Rises.{Rises, Grows, same, either, by_itself_grows, loop_turn}
 use Rattle.ebr_running.proofs.CodeRises.{CallsGrow, MeaningGrows, run_grows}
 
 abbrev PartGrows : Option Part → Type 0

@@ -1,6 +1,6 @@
 -- No code takes steps or lines back.
-use Rattle.std.proofs.Common.{◌≡◌, ℕ, zero, suc, ◌-◌, ◌≤◌, Bool, true, false, if◌then◌else◌, List, [], ◌∷◌, ◌++◌, map, Option, Some, None, Result, Ok, Err, refl, sym, ap, subst, arith}
-use Rattle.std.specs.Prelude.{nat_eq, nat_lt, length, slice_get, int_lt, unsigned_abs, ◌-ℤ◌}
+use Rattle.std.proofs.Common.{◌≡◌, ℕ, suc, ◌-◌, Bool, List, [], ◌∷◌, map, Option, Some, None, Ok, Err, refl, sym, subst, arith}
+use Rattle.std.specs.Prelude.{nat_eq, length, slice_get, int_lt, unsigned_abs, ◌-ℤ◌}
 use Rattle.ebr_base.specs.declared.code.Code.{Code}
 use Rattle.ebr_base.specs.declared.value.Value.{Value}
 use Rattle.ebr_base.specs.declared.value.Value.TheVariants as value
@@ -24,10 +24,10 @@ use Rattle.ebr_run.specs.declared.place.Location.TheVariants.{Own, Member}
 use Rattle.ebr_run.specs.Faults.{ora, is_caught}
 use Rattle.ebr_run.specs.Cursors.{Cursor, Closed, Open as Opened, is_open, attribute_of, Fetched, Unopened, NoRow, Unfit, Row as Found, row_fits, fetched}
 use Rattle.ebr_run.specs.Packages.{PackageState, state_of}
-use Rattle.ebr_run.specs.State.{State, Outcome, End, Runs, Row, Normal, Exit, Continue, Returned, Raised, Stopped, Waiting, bare, with_operands, ended, done, then_run, loop, when_done, asked}
-use Rattle.ebr_run.specs.Values.{when_fit, unfit, on_value, on_some, on_member, is_true, read, write, with_variable, cursor_at, with_cursor, moved_on, with_fault, on_fault, handled_at, number_of, on_row, in_row, new_at, old_at, set_new, firing}
+use Rattle.ebr_run.specs.State.{State, Outcome, End, Runs, Row, Normal, Exit, Continue, Stopped, bare, with_operands, done, when_done}
+use Rattle.ebr_run.specs.Values.{when_fit, unfit, on_value, on_some, on_member, is_true, read, write, with_variable, cursor_at, with_cursor, moved_on, with_fault, on_fault, number_of, on_row, set_new}
 use Rattle.ebr_run.specs.Expressions.{Calls, Then, give_on}
-use Rattle.ebr_run.specs.Statements.{between, over_numbers, in_turn, only_row, changed, transact, result_given}
+use Rattle.ebr_run.specs.Statements.{over_numbers, in_turn, only_row, changed, transact, result_given}
 use Rattle.ebr_code.specs.declared.instruction.Lookup.{Lookup}
 use Rattle.ebr_code.specs.declared.instruction.Lookup.TheVariants as lookup
 use Rattle.ebr_code.specs.declared.instruction.Handler.{Handler}
@@ -40,7 +40,7 @@ use Rattle.ebr_code.specs.declared.instruction.Instruction.TheViews.{roll-Instru
 use Rattle.ebr_code.specs.declared.instruction.Instruction.TheFolds.{fold-roll-Instruction, fold-roll-Handler, map-Instruction, map-Handler, ind-Instruction, ind-Handler, claims}
 use Rattle.ebr_code.specs.declared.instruction.Instruction.TheBlock.{the_family, member-Instruction, member-Handler}
 use denote.Hole.Holds.{Such}
-use Rattle.ebr_code.specs.Instructions.{Meaning, push, pop_from, pop, pop_two, last, beneath, holding, above, run_all, rows_to, count_to, looked_up, row_fetched, catches, Handling, handled, load_column, over_operands, decide, operate, act, handler, meaning_of, handling_of, run}
+use Rattle.ebr_code.specs.Instructions.{Meaning, push, pop_from, pop, last, beneath, holding, above, run_all, rows_to, count_to, looked_up, row_fetched, catches, Handling, handled, load_column, decide, operate, act, handler, meaning_of, handling_of, run}
 use Rattle.ebr_running.proofs.Rises.{Rises, Grows, same, Keeps, kept_at, kept_done, kept_then, onto, either, go_on_grows, step_grows, loop_grows, counting_grows, catch_on_grows, finish_on_grows, line_grows, asked_grows, when_done_grows}
 
 pub record CallsGrow (calls : Calls) : Type 0 where

@@ -1,17 +1,17 @@
 -- What is left of a run takes no lines back.
-use Rattle.std.proofs.Common.{◌≡◌, ℕ, ◌≤◌, Bool, true, false, List, [], ◌∷◌, map, drop, Option, Some, None, refl, arith}
+use Rattle.std.proofs.Common.{ℕ, Bool, true, List, [], ◌∷◌, map, drop, Option, Some, None, refl, arith}
 use Rattle.ebr_base.specs.declared.value.Value.TheVariants as value
 use Rattle.ebr_asks.specs.declared.ask.Ask.{Ask}
 use Rattle.ebr_asks.specs.declared.answer.Answer.{Answer}
 use Rattle.ebr_run.specs.declared.fault.Fault.{Fault}
 use Rattle.ebr_run.specs.Cursors.{Closed}
-use Rattle.ebr_run.specs.State.{State, Outcome, Runs, bare, ended, done, step, after_turn, loop, closed, when_done, asked, answered}
+use Rattle.ebr_run.specs.State.{Outcome, Runs, bare, ended, done, after_turn, loop}
 use Rattle.ebr_run.specs.Values.{with_cursor}
 use Rattle.ebr_run.specs.Calls.{left, returned, kept}
 use Rattle.ebr_code.specs.declared.instruction.Instruction.{Instruction}
 use Rattle.ebr_code.specs.declared.instruction.Lookup.{Lookup}
 use Rattle.ebr_code.specs.Books.{Book}
-use Rattle.ebr_code.specs.Instructions.{run as runs, holding, above, handled, handling_of}
+use Rattle.ebr_code.specs.Instructions.{run as runs, above, handling_of}
 use Rattle.ebr_running.specs.declared.running.Flow.{Flow}
 use Rattle.ebr_running.specs.declared.running.Flow.TheVariants as flow
 use Rattle.ebr_running.specs.declared.running.Pending.{Pending}
@@ -20,7 +20,7 @@ use Rattle.ebr_running.specs.declared.running.Task.{Task}
 use Rattle.ebr_running.specs.declared.running.Task.TheVariants as task
 use Rattle.ebr_running.specs.declared.running.Running.{Running}
 use Rattle.ebr_running.specs.Lines.{Extends}
-use Rattle.ebr_running.specs.Rest.{Saved, memory_of, operands_of, outer, calls_at, nothing, part_in, rest_of_turn, by_itself, resume, state_of, saved_of, end_of, left_with, after, awake, stands_at, rest_of, absorbed, stands}
+use Rattle.ebr_running.specs.Rest.{Saved, memory_of, operands_of, outer, calls_at, nothing, part_in, rest_of_turn, by_itself, resume, state_of, saved_of, left_with, after, awake, stands}
 use Rattle.ebr_running.proofs.Rises.{Rises, Grows, same, go_on_grows, turn_on_grows, step_grows, loop_grows, catch_on_grows, finish_on_grows, close_on_grows, asked_grows, answered_grows, when_done_grows}
 use Rattle.ebr_running.proofs.CodeRises.{run_grows, numbers_grow, handled_grows, all_handlers, cursor_keeps, holding_grows, give_on_grows, looked_up_grows}
 use Rattle.ebr_running.proofs.CallsRise.{calls_grow, returned_grows, left_grows, kept_grows}

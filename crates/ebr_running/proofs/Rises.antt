@@ -11,7 +11,7 @@ use Rattle.ebr_asks.specs.declared.answer.Answer.TheVariants as answer
 use Rattle.ebr_run.specs.declared.fault.Fault.{Fault}
 use Rattle.ebr_run.specs.Faults.{is_uncatchable}
 use Rattle.ebr_running.specs.Lines.{Extends}
-use Rattle.ebr_run.specs.State.{State, Outcome, End, Runs, Normal, Exit, Continue, Returned, Raised, Stopped, Waiting, Row, bare, ended, done, stops, go_on, then_run, step, turn_on, after_turn, turn, turns, loop, counting, catch_on, finish_on, no_room, line, room_of, refused, spent, spend, answered, next_answer, asked, when_done, close_on, closed, by_itself}
+use Rattle.ebr_run.specs.State.{State, Outcome, End, Runs, Normal, Exit, Continue, Returned, Raised, Stopped, Waiting, Row, bare, ended, done, stops, go_on, step, turn_on, after_turn, turn, turns, loop, counting, catch_on, finish_on, no_room, line, room_of, refused, spent, spend, answered, next_answer, asked, when_done, close_on, closed, by_itself}
 
 pub same : (xs : List (List ℕ)) → Extends xs xs
 same xs = record { rest = []; whole = sym (append-nil xs) }

@@ -1,5 +1,5 @@
 -- The type of a view's column, where it was found before the items that are left.
-use Rattle.std.proofs.Common.{◌≡◌, List, Option, Some, None, Result, Ok, Err, refl}
+use Rattle.std.proofs.Common.{◌≡◌, List, None, Result, Ok, Err, refl}
 use Rattle.std.specs.Option.{option_or}
 use Rattle.ebr_base.specs.declared.code.Code.{Code}
 use Rattle.ebr_names.specs.declared.column.ViewColumn.{ViewColumn}

@@ -1,5 +1,5 @@
 -- The entries of a stack of declared names: those that are left when it is cut, and those that are found.
-use Rattle.std.proofs.Common.{◌≡◌, ℕ, ◌-◌, Bool, true, false, ◌&&◌, if◌then◌else◌, List, [], ◌∷◌, ◌++◌, map, drop, take, length, reverse, Option, Some, None, refl, sym, ap, ◌∙◌}
+use Rattle.std.proofs.Common.{◌≡◌, ℕ, ◌-◌, Bool, true, false, ◌&&◌, if◌then◌else◌, List, [], ◌∷◌, ◌++◌, map, drop, take, length, reverse, Option, Some, refl, sym, ap, ◌∙◌}
 use Rattle.std.specs.Prelude.{find}
 use Rattle.std.specs.Option.{option_map}
 use Rattle.std.proofs.lemmas.List.{take-append-drop, length-drop, length-reverse, length-map, reverse-append, drop-map}

@@ -3,7 +3,7 @@ use Rattle.std.proofs.Common.{◌≡◌, [], ◌∷◌, Some, None, refl}
 use Rattle.std.specs.Prelude.{codes}
 use Rattle.ebr_ast.specs.declared.view.EditionView.{EditionView}
 use Rattle.ebr_sqlcheck.specs.declared.value_type.ValueType.TheVariants as type
-use Rattle.ebr_scope.specs.Meanings.{Word, Scope, Variable, Constant, Exception, Record, entry, with_fields}
+use Rattle.ebr_scope.specs.Meanings.{Word, Variable, Constant, Exception, Record, entry, with_fields}
 use Rattle.ebr_scope.specs.Names.{meant_at, applied_at, raised_at, is_predefined}
 
 abbrev nothing : EditionView

@@ -1,5 +1,4 @@
 -- A declared name as contracts see it.
-use Rattle.std.proofs.Common.{◌≡◌}
 use Rattle.ebr_scope.specs.declared.scopes.Entry as inside
 use Rattle.ebr_scope.specs.Meanings.{Entry}
 use Rattle.ebr_scope.specs.Lent.{lent}

@@ -1,5 +1,5 @@
 -- What is known where a piece of code stands.
-use Rattle.std.specs.Prelude.{ℕ, Bool, true, false, List, [], ◌∷◌, Option, Some, None}
+use Rattle.std.specs.Prelude.{ℕ, Bool, true, false, List, [], Option, Some, None}
 use Rattle.ebr_ast.specs.declared.kinds.Timing.{Timing}
 use Rattle.ebr_ast.specs.declared.view.EditionView.{EditionView}
 use Rattle.ebr_exprtree.specs.declared.expression.Path.{Path}
@@ -9,7 +9,7 @@ use Rattle.ebr_names.specs.Columns.{column_named}
 use Rattle.ebr_sqlcheck.specs.Types.{Known}
 use Rattle.ebr_sqlcheck.specs.Targets.{column_type}
 use Rattle.ebr_sqlcheck.specs.Names.{Others}
-use Rattle.ebr_scope.specs.Meanings.{Word, Meaning, Variable, Constant, Parameter, Exception, Cursor, Record, Subprogram, Scope}
+use Rattle.ebr_scope.specs.Meanings.{Word, Meaning, Variable, Constant, Parameter, Scope}
 use Rattle.ebr_scope.specs.Names.{meant}
 
 pub record Env : Type 0 where

@@ -1,8 +1,7 @@
 -- The types of declarations, and what they make known.
 -- Oracle Database PL/SQL Language Reference 19c, Declarations, and PL/SQL Data Types; sizes and `%TYPE` of columns alone are
 -- own.
-use Rattle.std.specs.Prelude.{ℕ, Bool, true, false, List, [], ◌∷◌, find, Option, Some, None, option_map, option_and_then, Result, Ok, Err}
-use Rattle.std.specs.Option.{is_some}
+use Rattle.std.specs.Prelude.{Bool, true, false, List, [], ◌∷◌, find, Option, Some, None, Result, Ok, Err}
 use Rattle.std.specs.Str.{bytes_eq}
 use Rattle.ebr_base.specs.declared.code.Code.{Code}
 use Rattle.ebr_ast.specs.declared.statement.Decl.{Decl}

@@ -1,6 +1,4 @@
 -- What the code has of a name, as what it means.
-use Rattle.std.specs.Prelude.{List, Option}
-use Rattle.ebr_ast.specs.declared.unit.Head.{Head}
 use Rattle.ebr_scope.specs.declared.meaning.Meaning.TheVariants as found
 use Rattle.ebr_scope.specs.declared.meaning.Meaning as lending
 use Rattle.ebr_scope.specs.declared.place.Place.{Place}

@@ -1,7 +1,7 @@
 -- What names stand for where a piece of code stands.
 -- Oracle Database PL/SQL Language Reference 19c, Scope and Visibility of Identifiers, and Name Resolution.
-use Rattle.std.specs.Prelude.{ℕ, Bool, true, false, ◌&&◌, List, [], ◌∷◌, find, Option, Some, None, option_map, option_and_then}
-use Rattle.std.specs.Option.{is_some, option_or}
+use Rattle.std.specs.Prelude.{ℕ, Bool, true, false, ◌&&◌, List, find, Option, Some, None, option_map, option_and_then}
+use Rattle.std.specs.Option.{is_some}
 use Rattle.std.specs.Str.{bytes_eq}
 use Rattle.ebr_ast.specs.declared.unit.Head.{Head}
 use Rattle.ebr_ast.specs.declared.unit.Mode.{Mode}

@@ -1,7 +1,7 @@
 -- What names in code stand for: what is declared around them, from the innermost outward, and then what the edition sees.
 -- Oracle Database PL/SQL Language Reference 19c, Name Resolution, and Predefined Exceptions; that a subprogram of the
 -- edition goes last, and that a package is looked up past what else has its name, is own.
-use Rattle.std.specs.Prelude.{ℕ, Bool, true, false, not, ◌||◌, if◌then◌else◌, codes, List, [], ◌∷◌, Option, Some, None, option_map, option_and_then}
+use Rattle.std.specs.Prelude.{Bool, true, false, ◌||◌, if◌then◌else◌, codes, List, [], Option, Some, None, option_map, option_and_then}
 use Rattle.std.specs.Option.{is_some, option_or}
 use Rattle.std.specs.Str.{bytes_eq}
 use Rattle.ebr_exprtree.specs.declared.expression.Path.{Path}
@@ -12,7 +12,6 @@ use Rattle.ebr_ast.specs.declared.unit.UnitTree.TheVariants as unit
 use Rattle.ebr_ast.specs.declared.view.EditionView.{EditionView}
 use Rattle.ebr_ast.specs.declared.view.Object.{Object}
 use Rattle.ebr_ast.specs.Views.{unit_named}
-use Rattle.ebr_sqlcheck.specs.Types.{Known}
 use Rattle.ebr_scope.specs.Meanings.{Word, Meaning, Constant, Exception, Record, Subprogram, Entry, Scope, Fields, innermost, subprogram, head_in, field}
 use Rattle.ebr_scope.specs.Declarations.{item_named, item_meaning}
 

@@ -1,12 +1,12 @@
 -- The statement that tokens spell is the one that is read from them.
-use Rattle.std.proofs.Common.{◌≡◌, Bool, true, false, List, [], ◌∷◌, Option, Some, None, Ok, inl, inr, refl, sym, ap, subst}
+use Rattle.std.proofs.Common.{◌≡◌, Bool, true, false, List, [], ◌∷◌, Option, Some, None, inl, inr, refl, ap, subst}
 use Rattle.std.specs.Prelude.{if◌then◌else◌, option_map}
 use Rattle.ebr_lexer.specs.declared.token.Token.{Token}
 use Rattle.ebr_grammar.specs.declared.kind.Kind.TheVariants as k
 use Rattle.ebr_grammar.specs.Kinds.{same}
 use Rattle.ebr_grammar.specs.Forms.{sees}
-use Rattle.ebr_grammar.specs.Reading.{whole, first, nullable}
-use Rattle.ebr_grammar.specs.Choice.{apart, among, after, is_clear}
+use Rattle.ebr_grammar.specs.Reading.{whole}
+use Rattle.ebr_grammar.specs.Choice.{apart, among}
 use Rattle.ebr_grammar.proofs.Next.{sees-apart, sees-among}
 use Rattle.ebr_grammar.proofs.Laws.{which, take_first, take_second, some_is}
 use Rattle.ebr_grammar.proofs.Outside.{IsReadable}

@@ -168,9 +168,6 @@ module _ (w : Site) (j : Work) (r : Taken) (σ : Doing) where
       let is : changed w j r new σ ≡ gives σ (Err code) = ap (λ v. go_on (λ d σ'. bodies w j.operation j.after (old_values j.plan r) (after_values j.plan new) (at_data d σ')) v σ) e in
       subst (λ x. Said x σ k k (Err code)) (sym is) (says σ (Err code) k)
 
-pub rows_end : (w : Site) (j : Work) (n : ℕ) (σ : Doing) (whole : Outcome Doing (Result ℕ Code)) (k mid : Keeper) → Goes whole (rows w j n [] σ) k mid → Said whole σ k mid (Ok n)
-rows_end w j n σ whole k mid g = ends whole (gives σ (Ok n)) k mid mid σ (Ok n) g (says σ (Ok n) mid)
-
 -- bodies over what a call was lent
 pub of_slices : (w : Site) (o : Op) (hs ts : List Held) (xs ys new : List Value) (σ τ : Doing) (k now : Keeper) (r : Result (List Value) Failure) (Q : List Held → Type 0) → hs ≡ ts → xs ≡ ys
     → (Q hs → Shows (bodies w o (map ready_of hs) xs new σ) τ k now r) → Q ts → Shows (bodies w o (map ready_of ts) ys new σ) τ k now r

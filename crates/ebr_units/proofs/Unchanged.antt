@@ -104,7 +104,7 @@ nearest-none : (at : EditionNo → Option (Option Object)) → ((d : EditionNo) 
 nearest-none at none [] = refl
 nearest-none at none (d ∷ ds) = ap (λ x. entry_or x (nearest at ds)) (none d) ∙ nearest-none at none ds
 
-none-seen : (c : Lists) (e : EditionNo) (k : ObjectKey) → list_any (same_key k) (keys_of c.entries) ≡ false → visible c e k ≡ None
+pub none-seen : (c : Lists) (e : EditionNo) (k : ObjectKey) → list_any (same_key k) (keys_of c.entries) ≡ false → visible c e k ≡ None
 none-seen c e k h =
     let apart = (not-entered k c.entries [] h).0 in
     nearest-none (λ d. last_object c.entries d k) (λ d. ap (option_map (λ (x : ObjectEntry Object). x.object)) (none-last k d c.entries None apart)) (line_of c.editions.made e)

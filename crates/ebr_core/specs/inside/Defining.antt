@@ -9,7 +9,7 @@ use Rattle.ebr_cross.specs.Catalogue.{Lists, HaveOwnKeys, kept}
 use Rattle.ebr_cross.specs.Definitions.{outcome}
 use Rattle.ebr_cross.specs.Records.{with_record}
 use Rattle.ebr_record.specs.declared.record.Record.{Record}
-use Rattle.ebr_record.specs.Keeper.{Keeper, used_by}
+use Rattle.ebr_record.specs.Keeper.{Keeper}
 use Rattle.ebr_database.specs.declared.failure.Failure.{Failure}
 use Rattle.ebr_database.specs.declared.failure.Failure.TheVariants.{Refused, Halted}
 use Rattle.ebr_database.specs.declared.failure.Halt.{Halt}

@@ -1,5 +1,5 @@
 -- The database as the engine holds it, and what its calls leave.
-use Rattle.std.specs.Prelude.{◌≡◌, ◌≤◌, ℕ, Bool, false, length, List, [], Option, Some, None, Result, Ok, Err}
+use Rattle.std.specs.Prelude.{◌≡◌, false, [], Option, Some, None, Result, Ok, Err}
 use Rattle.ebr_base.specs.declared.code.Code.{Code}
 use Rattle.ebr_base.specs.declared.code.Stop.{Stop}
 use Rattle.ebr_base.specs.declared.code.Stop.TheVariants.{Raised, NoMemory}
@@ -13,7 +13,7 @@ use Rattle.ebr_seats.specs.Tests.{is_misplaced}
 use Rattle.ebr_asks.specs.declared.ask.Ask.TheVariants.{Begin, Sql, Ddl, EndCall, Leave}
 use Rattle.ebr_asks.specs.declared.answer.Answer.{Answer}
 use Rattle.ebr_asks.specs.declared.answer.Answer.TheVariants.{View, Done, Refused as refused}
-use Rattle.ebr_cross.specs.Catalogue.{HaveOwnKeys, IsViewOf, kept}
+use Rattle.ebr_cross.specs.Catalogue.{HaveOwnKeys, kept}
 use Rattle.ebr_record.specs.Keeper.{Keeper}
 use Rattle.ebr_database.specs.declared.failure.Failure.{Failure}
 use Rattle.ebr_database.specs.declared.failure.Failure.TheVariants.{Refused, Halted}

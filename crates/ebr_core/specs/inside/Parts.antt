@@ -1,5 +1,5 @@
 -- The parts of the engine, and what holds of them between two asks.
-use Rattle.std.specs.Prelude.{◌≡◌, ℕ, ◌+◌, ◌-◌, ◌<◌, ◌≤◌, suc, zero, Bool, true, false, is_some, IsTrue, List, [], ◌∷◌, ◌++◌, length, map, Option, Some, None, slice_get, slice_set, Result, Ok, Err, vec_len, vec_capacity}
+use Rattle.std.specs.Prelude.{◌≡◌, ℕ, ◌+◌, ◌-◌, ◌<◌, ◌≤◌, suc, zero, Bool, true, false, is_some, List, [], ◌∷◌, ◌++◌, length, map, Option, Some, None, slice_get, slice_set, Result, Ok, Err, vec_len, vec_capacity}
 use Rattle.ebr_base.specs.declared.numbers.SessionId.{SessionId}
 use Rattle.ebr_ast.specs.declared.view.EditionView.{EditionView}
 use Rattle.ebr_asks.specs.declared.ask.Ask.{Ask}
@@ -13,8 +13,7 @@ use Rattle.ebr_database.specs.Database.{Session, Database, Replied}
 use Rattle.ebr_database.specs.Shows.{GaveUp}
 use Rattle.ebr_core.specs.declared.current.Current.{Current}
 use Rattle.ebr_core.specs.declared.parts.Parts.{Parts}
-use Rattle.ebr_core.specs.Machine.{Build}
-use Rattle.ebr_core.specs.History.{After, Legal, AllStopped}
+use Rattle.ebr_core.specs.History.{Legal, AllStopped}
 use Rattle.ebr_core.specs.Engine.{EngineState, database_of, first_of, has_given_up}
 use Rattle.ebr_core.specs.inside.Held.{Holds, IsReplied, keeper_of}
 

@@ -1,5 +1,5 @@
 -- The rows of a statement are different ones.
-use Rattle.std.specs.Prelude.{◌≡◌, ◌≢◌, ℕ, List, [], ◌∷◌, drop, Option, Some, None, Result, Ok, Err}
+use Rattle.std.specs.Prelude.{◌≢◌, ℕ, List, [], ◌∷◌, drop, Option, Some, None, Result, Ok, Err}
 use Rattle.ebr_base.specs.declared.code.Code.{Code}
 use Rattle.ebr_base.specs.declared.numbers.RowNo.{RowNo}
 use Rattle.ebr_dml.specs.declared.taken.Taken.{Taken}

@@ -1,6 +1,5 @@
 -- Rows that are taken one after the other.
-use Rattle.std.specs.Prelude.{◌≡◌, true, false, List, [], ◌∷◌, ◌++◌, if◌then◌else◌, Bool, Some, Result, Ok, Err}
-use Rattle.ebr_base.specs.declared.code.Code.{Code}
+use Rattle.std.specs.Prelude.{◌≡◌, true, false, List, [], ◌∷◌, ◌++◌, Bool, Some, Result, Ok, Err}
 use Rattle.ebr_base.specs.declared.code.Stop.{Stop}
 use Rattle.ebr_base.specs.declared.code.Stop.TheVariants.{Raised, NoMemory}
 use Rattle.ebr_base.specs.declared.numbers.RowNo.{RowNo}

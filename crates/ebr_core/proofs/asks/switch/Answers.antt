@@ -1,5 +1,5 @@
-use Rattle.std.proofs.Common.{refl, subst, sym, ap, ◌∙◌, Some}
-use Rattle.ebr_tx.specs.Data.{IsLive, own, named_at}
+use Rattle.std.proofs.Common.{refl, subst, sym, ap, ◌∙◌}
+use Rattle.ebr_tx.specs.Data.{IsLive, own}
 use Rattle.std.specs.Prelude.{is_some}
 use Rattle.ebr_seats.proofs.Live.{has_seat, own_lives}
 use Rattle.ebr_core.proofs.HeldAgain.{seat_held}

@@ -1,4 +1,4 @@
-use Rattle.std.proofs.Common.{◌≡◌, subst, sym, ◌∙◌, Some, None}
+use Rattle.std.proofs.Common.{◌≡◌, subst, sym, ◌∙◌, Some}
 use Rattle.ebr_core.specs.Machine.{reply_in, unless_refused}
 use Rattle.ebr_core.specs.inside.Held.{IsReplied, RepliesGiven}
 use Rattle.ebr_seats.specs.Seats.{seat_at}

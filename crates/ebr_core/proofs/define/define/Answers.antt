@@ -1,10 +1,8 @@
-use Rattle.std.proofs.Common.{◌≡◌, true, false, refl, sym, ap, subst, ◌∙◌}
+use Rattle.std.proofs.Common.{true, false, sym, ap, ◌∙◌}
 use Rattle.std.specs.List.{filter_map}
-use Rattle.ebr_record.specs.Keeper.{used_by}
-use Rattle.ebr_cross.specs.Definitions.{outcome}
 use Rattle.ebr_seats.specs.declared.seat.Seat.{Seat}
 use Rattle.ebr_seats.proofs.Live.{own_lives}
-use Rattle.ebr_core.specs.Machine.{lists_of, recorded}
+use Rattle.ebr_core.specs.Machine.{lists_of}
 use Rattle.ebr_core.proofs.HeldAgain.{seat_held}
 use Rattle.ebr_core.proofs.Carrying.{editions_are, defined_on, held_by_other, held_behind}
 use Rattle.ebr_core.proofs.define.define.Goals as goal

@@ -1,4 +1,4 @@
-use Rattle.std.proofs.Common.{◌≡◌, [], IfOk, None, ap, subst, rules}
+use Rattle.std.proofs.Common.{◌≡◌, [], IfOk, ap, subst, rules}
 use Rattle.std.specs.Prelude.{option_map}
 use Rattle.ebr_scope.specs.Names.{visible_items}
 use Rattle.ebr_run.specs.Scope.{member}

@@ -1,10 +1,7 @@
-use Rattle.std.proofs.Common.{◌≡◌, ◌&&◌, Some, None, reverse, slice_get, ap, sym, ◌∙◌, rules}
+use Rattle.std.proofs.Common.{◌≡◌, Some, None, reverse, slice_get, ap, sym, ◌∙◌, rules}
 use Rattle.std.specs.Prelude.{find, option_map, option_and_then}
-use Rattle.std.specs.Option.{is_some}
 use Rattle.std.specs.Str.{bytes_eq}
-use Rattle.ebr_scope.specs.Meanings.{Entry, head_in, is_subprogram}
-use Rattle.ebr_scope.specs.Names.{entry_fields}
-use Rattle.ebr_scope.specs.Lent.{lent}
+use Rattle.ebr_scope.specs.Meanings.{Entry}
 use Rattle.ebr_scope.specs.inside.Kept.{named}
 use Rattle.ebr_scope.proofs.Entries.{found}
 use Rattle.ebr_scope.proofs.Innermost.{at_entry}

@@ -3,7 +3,6 @@ use Rattle.std.specs.Prelude.{find, option_map, option_and_then}
 use Rattle.std.specs.Option.{is_some, option_copied}
 use Rattle.std.specs.Str.{bytes_eq}
 use Rattle.ebr_scope.specs.Meanings.{Entry, head_in, is_subprogram}
-use Rattle.ebr_scope.specs.Names.{entry_fields}
 use Rattle.ebr_scope.specs.Lent.{lent}
 use Rattle.ebr_scope.specs.inside.Kept.{callable}
 use Rattle.ebr_scope.proofs.Entries.{found, by_same, other_order}
