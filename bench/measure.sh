@@ -1,6 +1,6 @@
 #!/bin/sh
 # Makes the tables "Measured" of docs/PROFILE.md: for each kind of script and each size the processor time and the memory
-# that `ebrd try` takes, best of three runs. Run by hand; it wants GNU time. Nothing here is a test.
+# that `ebrd` takes, best of three runs. Run by hand; it wants GNU time. Nothing here is a test.
 set -eu
 top=$(dirname -- "$(readlink -f -- "$0")")/..
 work=$(mktemp -d)
@@ -72,10 +72,26 @@ script() {
     esac
 }
 
-# measured FILE: the least processor time in seconds of three runs, and the memory in MB
+# turns COUNT KIND: the scripts 1.sql, 2.sql and 3.sql of so many statements each, which are queries, or an INSERT and a COMMIT by
+# turns; and the order in which one after the other makes one, behind a table that the first one makes
+turns() {
+    for session in 1 2 3; do
+        awk -v count="$1" -v kind="$2" -v session="$session" 'BEGIN {
+            if (session == 1) print "CREATE TABLE t (id NUMBER PRIMARY KEY, v VARCHAR2(30), n NUMBER);"
+            for (i = 1; i <= count; i++) {
+                if (kind == "queries") print "SELECT 1 FROM dual;"
+                else if (i % 2) printf "INSERT INTO t VALUES (%d, \047x\047, %d);\n", 3 * i + session, i
+                else print "COMMIT;"
+            }
+        }' >"$work/$session.sql"
+    done
+    awk -v count="$1" 'BEGIN { print 1; for (i = 1; i <= count; i++) print "1 2 3" }' >"$work/order"
+}
+
+# measured WORDS: the least processor time in seconds of three runs, and the memory in MB
 measured() {
     for _ in 1 2 3; do
-        /usr/bin/time -f '%U %S %M' "$top/crates/ebrd/out/ebrd" try "$1" 2>&1 >/dev/null
+        /usr/bin/time -f '%U %S %M' "$top/crates/ebrd/out/ebrd" "$@" 2>&1 >/dev/null
     done | awk '{ t = $1 + $2; if (NR == 1 || t < least) least = t; memory = $3 } END { printf "%.2f s, %d MB", least, memory / 1024 }'
 }
 
@@ -85,7 +101,7 @@ for kind in blocks units queries sum ifs semicolons called; do
     printf '| %s' "$kind"
     for size in 262144 524288 1048576; do
         script "$size" "$kind" >"$work/$kind.sql"
-        printf ' | %s' "$(measured "$work/$kind.sql")"
+        printf ' | %s' "$(measured try "$work/$kind.sql")"
     done
     echo ' |'
 done
@@ -97,7 +113,7 @@ for kind in made called_after called_at_once; do
     printf '| %s' "$kind"
     for count in 1024 2048 4096; do
         procedures "$count" "$kind" >"$work/$kind.sql"
-        printf ' | %s' "$(measured "$work/$kind.sql")"
+        printf ' | %s' "$(measured try "$work/$kind.sql")"
     done
     echo ' |'
 done
@@ -108,7 +124,7 @@ kinds() {
         printf '| %s' "$kind"
         for count in $1; do
             rows "$count" "$kind" >"$work/$kind.sql"
-            printf ' | %s' "$(measured "$work/$kind.sql")"
+            printf ' | %s' "$(measured try "$work/$kind.sql")"
         done
         echo ' |'
     done
@@ -139,6 +155,18 @@ for kind in block update empty before after; do
     for count in 1000 2000; do
         rows "$count" "$kind" >"$work/$kind.sql"
         printf ' | %s' "$(measured_often "$work/$kind.sql")"
+    done
+    echo ' |'
+done
+
+echo
+echo '| Each of three sessions | 1,000 statements | 2,000 statements |'
+echo '|---|---|---|'
+for kind in queries inserts; do
+    printf '| %s' "$kind"
+    for count in 1000 2000; do
+        turns "$count" "$kind"
+        printf ' | %s' "$(measured rehearse journal "$work/order" "$work/1.sql" "$work/2.sql" "$work/3.sql")"
     done
     echo ' |'
 done

@@ -1,6 +1,6 @@
 -- The definitions, tried on examples.
-use Rattle.std.proofs.Common.{◌≡◌, ℕ, pos, Bool, true, false, List, [], ◌∷◌, Some, None, Ok, Err, refl}
-use Rattle.ebr_base.specs.declared.code.Code.TheVariants.{Ora, Ebr}
+use Rattle.std.proofs.Common.{◌≡◌, pos, true, false, List, [], ◌∷◌, Some, Err, refl}
+use Rattle.ebr_base.specs.declared.code.Code.TheVariants.{Ora}
 use Rattle.ebr_base.specs.declared.numbers.SessionId.{SessionId}
 use Rattle.ebr_base.specs.declared.row.Change.{Change}
 use Rattle.ebr_base.specs.declared.row.TxId.{TxId}
@@ -11,7 +11,6 @@ use Rattle.ebr_record.specs.declared.record.Record.TheVariants.{Commit}
 use Rattle.ebr_database.specs.Base.{Base}
 use Rattle.ebr_database.specs.Outcome.{gives}
 use Rattle.ebr_database.specs.Transact.{commit, roll_back, savepoint, back_to, push, pop, done}
-use Rattle.ebr_database.specs.Database.{Database, Session, reply_commit, reply_back_to, reply_pop, reply_push}
 
 abbrev s : SessionId
 s = record { 0 = 1 }

@@ -1,6 +1,6 @@
 -- What a keeper answers is what is defined.
-use Rattle.std.proofs.Common.{◌≡◌, ℕ, ◌+◌, ◌≤◌, ◌<◌, ◌⊎◌, inl, inr, ⊎_elim, Bool, true, false, List, [], ◌∷◌, ◌++◌, Option, Some, None, Ok, Err, refl, sym, ap, subst, ◌∙◌, append-nil, arith}
-use Rattle.std.specs.Prelude.{◌≢◌, Result, IsTrue, nat_le, sum_by}
+use Rattle.std.proofs.Common.{◌≡◌, ℕ, ◌+◌, ◌≤◌, ◌<◌, ◌⊎◌, inl, inr, ⊎_elim, true, false, List, [], ◌∷◌, Option, Some, None, Ok, Err, refl, sym, ap, subst, ◌∙◌, append-nil, arith}
+use Rattle.std.specs.Prelude.{◌≢◌, Result, IsTrue, nat_le}
 use Rattle.std.proofs.lemmas.Bool.{le-leb, lt-leb}
 use Rattle.ebr_base.specs.declared.code.Code.TheVariants.{Ebr}
 use Rattle.ebr_base.specs.declared.row.Change.{Change}
@@ -13,7 +13,7 @@ use Rattle.ebr_database.specs.declared.failure.Failure.{Failure}
 use Rattle.ebr_database.specs.declared.failure.Halt.{Halt}
 use Rattle.ebr_database.specs.declared.failure.Halt.TheVariants as halt
 use Rattle.ebr_database.specs.Transact.{kept_if, keep_record, keep_changes}
-use Rattle.ebr_database.specs.Shows.{with_records, Between, Holds, Grew, Cause, GaveUp, Said, Shows}
+use Rattle.ebr_database.specs.Shows.{with_records, Between, Holds, Cause, GaveUp, Said, Shows}
 use Rattle.ebr_database.specs.inside.Failed.{failed}
 use Rattle.ebr_database.proofs.Keeping.{with_none}
 use Rattle.ebr_database.proofs.Goes.{says}

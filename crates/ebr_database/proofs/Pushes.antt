@@ -1,5 +1,5 @@
 -- An autonomous transaction is opened, or refused.
-use Rattle.std.proofs.Common.{◌≡◌, ℕ, [], Option, Some, None, Ok, Err, sym, ap, ◌∙◌}
+use Rattle.std.proofs.Common.{◌≡◌, ℕ, Option, Some, None, Ok, Err, sym, ap, ◌∙◌}
 use Rattle.std.specs.Prelude.{Result, OnOk, OnErr}
 use Rattle.ebr_base.specs.Answers.{Answers}
 use Rattle.ebr_base.specs.declared.code.Code.{Code}
@@ -11,7 +11,7 @@ use Rattle.ebr_tx.specs.Calls.{unless_refused, push_refusal, after_push}
 use Rattle.ebr_database.specs.Base.{Base}
 use Rattle.ebr_database.specs.Outcome.{Outcome, gives}
 use Rattle.ebr_database.specs.Transact.{Done, done, pushed, push}
-use Rattle.ebr_database.specs.Shows.{Leaves, LeavesOr}
+use Rattle.ebr_database.specs.Shows.{LeavesOr}
 
 none_refused : (refusal : Option Code) → unless_refused refusal (tt {0}) ≡ Ok tt → refusal ≡ None
 none_refused None e = cc

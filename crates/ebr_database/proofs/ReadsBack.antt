@@ -1,6 +1,6 @@
 -- What is read off a database after each ask for transactions.
-use Rattle.std.proofs.Common.{◌≡◌, ℕ, zero, suc, ◌+◌, Bool, true, false, List, [], ◌∷◌, ◌++◌, Option, Some, None, Err, refl, sym, ap, subst, ◌∙◌, append-nil, arith}
-use Rattle.std.specs.Prelude.{nat_le, sum_by}
+use Rattle.std.proofs.Common.{◌≡◌, ℕ, suc, ◌+◌, Bool, true, false, List, [], ◌∷◌, ◌++◌, Option, Some, None, Err, refl, sym, ap, ◌∙◌, append-nil, arith}
+use Rattle.std.specs.Prelude.{nat_le}
 use Rattle.std.specs.List.{filter_map}
 use Rattle.std.proofs.lemmas.List.Elements.{filter_map-append}
 use Rattle.std.proofs.lemmas.List.Sums.{sum_by_push}
@@ -16,9 +16,9 @@ use Rattle.ebr_record.specs.declared.record.Record.{Record}
 use Rattle.ebr_record.specs.declared.record.Record.TheVariants as made
 use Rattle.ebr_record.specs.Keeper.{share, used_by, max_journal}
 use Rattle.ebr_database.specs.Base.{Base}
-use Rattle.ebr_database.specs.Outcome.{Outcome, gives, and_then}
+use Rattle.ebr_database.specs.Outcome.{gives, and_then}
 use Rattle.ebr_database.specs.Transact.{Done, done, kept_if, keep_changes, settled, pushed, roll_back, savepoint, pop}
-use Rattle.ebr_database.specs.Database.{Database, commit_in, tables_from, data_of, base_in, after_outcome}
+use Rattle.ebr_database.specs.Database.{Database, commit_in, tables_from, data_of, base_in}
 use Rattle.ebr_database.specs.ReadBack.{IsReadBack, AreReadBack}
 
 -- no record more

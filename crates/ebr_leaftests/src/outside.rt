@@ -19,6 +19,7 @@ fn file(alloc: Global, word: &[u8], bytes: &[u8], source: List<Fail>) -> Result<
         word: Bytes::from_slice(alloc, word)?,
         bytes: Bytes::from_slice(alloc, bytes)?,
         source,
+        sink: List::new(alloc),
     })
 }
 
@@ -221,6 +222,129 @@ static SYSTEM: [Named; 6] = [
 fn files_that_cannot_be_read_are_faults(rt: HostRuntime) -> Result<(), std::test::Fail> {
     let mut host = FileHost::new(rt);
     assert!(rt; all_name(rt.alloc(), &mut host, &SYSTEM));
+    Ok(())
+}
+
+/// Whether a sink takes the pieces whole, one after the other.
+fn takes<S: Sink>(sink: &mut S, pieces: &[&[u8]]) -> bool {
+    for piece in pieces {
+        if piece.is_empty() || sink.write(piece) != Ok(piece.len()) {
+            return false;
+        }
+    }
+    true
+}
+
+/// Whether the sink that a word names takes the pieces whole.
+fn sink_takes<H: Host>(
+    alloc: Global,
+    host: &mut H,
+    word: &[u8],
+    pieces: &[&[u8]],
+) -> Result<bool, HostErr> {
+    let word = Bytes::from_slice(alloc, word)?;
+    let mut sink = host.sink(&word)?;
+    Ok(takes(&mut sink, pieces))
+}
+
+/// A word, pieces, and whether the word's sink takes them whole; None where the host fails.
+type Made = (&'static [u8], &'static [&'static [u8]], Option<bool>);
+
+fn makes<H: Host>(alloc: Global, host: &mut H, row: &Made) -> bool {
+    let (word, pieces, wanted) = *row;
+    match sink_takes(alloc, host, word, pieces) {
+        Ok(taken) => wanted == Some(taken),
+        Err(HostErr::Failed) => wanted.is_none(),
+        Err(HostErr::NoMemory) => false,
+    }
+}
+
+fn all_make<H: Host>(alloc: Global, host: &mut H, rows: &[Made]) -> bool {
+    for row in rows {
+        if !makes(alloc, host, row) {
+            return false;
+        }
+    }
+    true
+}
+
+/// A word without bytes, whose sink fails at this write.
+fn failing_sink(alloc: Global, word: &[u8], at: u32, onward: bool) -> Result<MemFile, NoMemory> {
+    let mut made = file(alloc, word, b"", List::new(alloc))?;
+    made.sink.push(Fail { at, onward })?;
+    Ok(made)
+}
+
+/// A host whose fourth call fails. Of two files for one word the first tells which writes fail.
+fn sink_host(alloc: Global) -> Result<MemHost, NoMemory> {
+    let mut files = List::new(alloc);
+    files.push(failing_sink(alloc, b"a.out", 2, false)?)?;
+    files.push(failing_sink(alloc, b"a.out", 1, true)?)?;
+    let failing = failing(alloc, 4, false)?;
+    Ok(MemHost::new(alloc, files, List::new(alloc), failing))
+}
+
+static SINKS: [Made; 2] = [
+    (b"a.out", &[b"one"], Some(true)),
+    (b"a.out", &[b"one", b"two"], Some(false)),
+];
+
+/// A source counts as a call too, so the next sink is the fourth.
+static NO_SOURCE: Named = (b"b.out", None);
+
+static SINKS_BEHIND: [Made; 2] = [
+    (b"a.out", &[b"one"], None),
+    (b"b.out", &[b"one", b"two"], Some(true)),
+];
+
+fn host_makes(alloc: Global) -> Result<bool, NoMemory> {
+    let mut host = sink_host(alloc)?;
+    let made = all_make(alloc, &mut host, &SINKS)
+        && names(alloc, &mut host, &NO_SOURCE)
+        && all_make(alloc, &mut host, &SINKS_BEHIND);
+    release(host);
+    Ok(made)
+}
+
+#[test]
+fn a_sink_fails_as_the_first_file_of_its_word_says(rt: HostRuntime) -> Result<(), std::test::Fail> {
+    assert!(rt; host_makes(rt.alloc())?);
+    Ok(())
+}
+
+static SYSTEM_SINKS: [Made; 6] = [
+    (b"/dev/null", &[b"one", b"two"], Some(true)),
+    (b"/dev/full", &[b"one"], Some(false)),
+    (b"/", &[], None),
+    (b"/dev/null/missing", &[], None),
+    (b"/dev/nul\0l", &[], None),
+    (b"\xff", &[], None),
+];
+
+#[test]
+fn files_that_cannot_be_made_are_faults(rt: HostRuntime) -> Result<(), std::test::Fail> {
+    let mut host = FileHost::new(rt);
+    assert!(rt; all_make(rt.alloc(), &mut host, &SYSTEM_SINKS));
+    Ok(())
+}
+
+/// A file that is made, and what is read of it then; and the same made anew.
+static WRITTEN: Made = (b"made.sql.out", &[b"ab", b"c"], Some(true));
+
+static HELD: Named = (b"made.sql.out", Some(b"abc"));
+
+static EMPTIED: Made = (b"made.sql.out", &[], Some(true));
+
+static NOTHING: Named = (b"made.sql.out", Some(b""));
+
+#[test]
+fn a_file_that_is_made_anew_is_empty(rt: HostRuntime) -> Result<(), std::test::Fail> {
+    let alloc = rt.alloc();
+    let mut host = FileHost::new(rt);
+    assert!(rt; makes(alloc, &mut host, &WRITTEN));
+    assert!(rt; names(alloc, &mut host, &HELD));
+    assert!(rt; makes(alloc, &mut host, &EMPTIED));
+    assert!(rt; names(alloc, &mut host, &NOTHING));
     Ok(())
 }
 

@@ -1,6 +1,6 @@
 -- The outside of the system, of which a contract sees the faults alone.
 use Rattle.std.specs.Prelude.{ℕ}
-use Rattle.ebr_outside.specs.Faults.{one_more}
+use Rattle.ebr_faults.specs.Faults.{one_more}
 
 -- a file, the standard output, or what opens them: how many of its calls have failed
 pub record FileState : Type 0 where

@@ -1,4 +1,3 @@
-pub mod Faults
 pub mod Source
 pub mod Sink
 pub mod Calls

@@ -1,9 +1,11 @@
 //! The outside of the system: files and the standard output. It counts its faults and tells no bytes.
 
 mod host;
+mod out;
 mod sink;
 mod source;
 
 pub use host::FileHost;
-pub use sink::OutSink;
+pub use out::OutSink;
+pub use sink::FileSink;
 pub use source::FileSource;

@@ -1,7 +1,7 @@
 //! What opens sources and makes sinks.
 
 ghost use Rattle.std.specs.Prelude.{◌≡◌, ℕ, ◌≤◌, List, [], Option, Some, IfOk, IfSome, IsErrOf};
-ghost use Rattle.ebr_outside.specs.Faults.{Rises};
+ghost use Rattle.ebr_faults.specs.Faults.{Rises};
 ghost use Rattle.ebr_outside.specs.declared.host.HostErr.TheVariants as variants;
 
 use crate::sink::Sink;
@@ -32,6 +32,8 @@ impl From<NoMemory> for HostErr {
 pub trait Host {
     type Source: Source;
 
+    type Sink: Sink;
+
     type Report: Sink;
 
     /// The bytes behind a word, where the host tells them.
@@ -49,6 +51,18 @@ pub trait Host {
         ensures told { IfOk result (λ s.
             IfSome (bytes self.old word.now) (λ b. Self.Source.left s ≡ Some b)) }
         ensures fresh { IfOk result (λ s. Self.Source.faults s ≡ 0) }
+        ensures same { (w : List ℕ) → bytes self.new w ≡ bytes self.old w }
+        ensures counted { faults self.old ≤ faults self.new }
+        ensures failed { IsErrOf result HostErr.Failed
+            → Rises (faults self.old) (faults self.new) };
+
+    /// Makes the sink that a word names, with no bytes in it.
+    ///
+    /// `Failed` comes only where the host's count of faults rose in this call, or stands at its
+    /// end.
+    fn sink(&mut self, word: &Bytes) -> Result<Self::Sink, HostErr>
+        ensures empty { IfOk result (λ s. IfSome (Self.Sink.held s) (λ h. h ≡ [])) }
+        ensures fresh { IfOk result (λ s. Self.Sink.faults s ≡ 0) }
         ensures same { (w : List ℕ) → bytes self.new w ≡ bytes self.old w }
         ensures counted { faults self.old ≤ faults self.new }
         ensures failed { IsErrOf result HostErr.Failed

@@ -8,7 +8,6 @@
 #![tactic(auto)]
 
 mod command_line;
-mod count;
 mod files;
 mod host;
 mod memory;
@@ -16,7 +15,7 @@ mod sink;
 mod source;
 
 pub use command_line::words;
-pub use files::{FileHost, FileSource, OutSink};
+pub use files::{FileHost, FileSink, FileSource, OutSink};
 pub use host::{Host, HostErr};
 pub use memory::{Fail, MemFile, MemHost, MemSink, MemSource};
 pub use sink::Sink;

@@ -1,7 +1,7 @@
 //! What bytes are written to.
 
 ghost use Rattle.std.specs.Prelude.{◌≡◌, ℕ, ◌<◌, ◌≤◌, List, Option, length, take, IfOk, OnErr};
-ghost use Rattle.ebr_outside.specs.Faults.{Rises};
+ghost use Rattle.ebr_faults.specs.Faults.{Rises};
 ghost use Rattle.ebr_outside.specs.Sink.{appended};
 
 use crate::source::Failed;

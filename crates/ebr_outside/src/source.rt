@@ -1,7 +1,7 @@
 //! What bytes are read from.
 
 ghost use Rattle.std.specs.Prelude.{◌≡◌, ℕ, ◌<◌, ◌≤◌, List, Option, length, IfOk, OnErr};
-ghost use Rattle.ebr_outside.specs.Faults.{Rises};
+ghost use Rattle.ebr_faults.specs.Faults.{Rises};
 ghost use Rattle.ebr_outside.specs.Source.{Takes};
 
 /// A call of a source or a sink failed; the object counted it.

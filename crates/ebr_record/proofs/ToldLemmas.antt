@@ -4,7 +4,7 @@ use Rattle.std.specs.Prelude.{sum_by, min, nat_lt, if◌then◌else◌}
 use Rattle.std.proofs.lemmas.Bool.{ltb-false, ltb-true}
 use Rattle.std.proofs.lemmas.List.{take-append-le, take_all}
 use Rattle.std.proofs.lemmas.List.Sums.{sum_by_push}
-use Rattle.ebr_outside.specs.Faults.{Rises, count_end, one_more}
+use Rattle.ebr_faults.specs.Faults.{Rises, count_end, one_more}
 use Rattle.ebr_record.specs.declared.keep.JournalFault.{JournalFault}
 use Rattle.ebr_record.specs.declared.keep.JournalFault.TheVariants.{DiskFault, Stopped, Full, NoMemory}
 use Rattle.ebr_record.specs.declared.record.Record.{Record}

@@ -1,7 +1,7 @@
 -- A keeper in memory.
 use Rattle.std.specs.Prelude.{◌≡◌, ℕ, ◌+◌, ◌==◌, nat_lt, ◌≤◌, Bool, true, false, if◌then◌else◌, List, [], ◌∷◌, ◌++◌, length, take, Some, Result, Ok, Err}
 use Rattle.std.specs.List.{list_any}
-use Rattle.ebr_outside.specs.Faults.{one_more}
+use Rattle.ebr_faults.specs.Faults.{one_more}
 use Rattle.ebr_record.specs.declared.keep.JournalFault.{JournalFault}
 use Rattle.ebr_record.specs.declared.keep.JournalFault.TheVariants.{DiskFault, Stopped, Full, NoMemory}
 use Rattle.ebr_record.specs.declared.record.Record.{Record}

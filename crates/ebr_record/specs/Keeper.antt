@@ -1,6 +1,6 @@
 -- A keeper of records: what it answers, what it has kept then, and what a stop may leave.
 use Rattle.std.specs.Prelude.{◌≡◌, ◌⊎◌, ◌↔◌, ℕ, ◌+◌, ◌<◌, ◌≤◌, Bool, true, false, IsTrue, List, [], ◌∷◌, ◌++◌, length, sum_by, Option, Some, None, IfSome, Result, Ok, Err}
-use Rattle.ebr_outside.specs.Faults.{Rises}
+use Rattle.ebr_faults.specs.Faults.{Rises}
 use Rattle.ebr_record.specs.declared.keep.JournalFault.{JournalFault}
 use Rattle.ebr_record.specs.declared.keep.JournalFault.TheVariants.{DiskFault, Stopped, Full, NoMemory}
 use Rattle.ebr_record.specs.declared.record.Record.{Record}

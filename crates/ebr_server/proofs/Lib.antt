@@ -1,6 +1,6 @@
-pub mod Answering
-pub mod ReadBytes
-pub mod Additions
-pub mod Outputs
-pub mod Turns
-pub mod Outcomes
+mod Causes
+mod InTurns
+mod InWords
+mod Opening
+mod ReadBytes
+mod Serving

@@ -1,150 +1,254 @@
--- The program: its words, what it prints last, and what it serves.
-use Rattle.std.specs.Prelude.{ℕ, ◌≡◌, ◌≢◌, Bool, true, false, not, ◌&&◌, if◌then◌else◌, List, [], ◌∷◌, ◌++◌, length, codes, Option, Some, None, IfSome, slice_get, unwrap_or, ◌⊎◌, option_and_then}
-use Rattle.std.specs.Str.{bytes_eq}
-use Rattle.ebr_base.specs.declared.numbers.SessionId.{SessionId}
+-- The program: what it reads, what it writes last, and what it serves (own).
+use Rattle.std.specs.Prelude.{ℕ, ◌≡◌, ◌+◌, ◌-◌, ◌<◌, ◌≤◌, Bool, true, false, ◌||◌, if◌then◌else◌, List, [], ◌∷◌, ◌++◌, length, take, All, codes, Option, Some, None, IfSome, IsSomeAnd, slice_get, unwrap_or, ◌⊎◌}
+use Rattle.std.specs.List.{list_any}
+use Rattle.std.specs.Fmt.{decimal}
+use Rattle.ebr_words.specs.declared.words.Command.{Command}
+use Rattle.ebr_words.specs.declared.words.Command.TheVariants as command
+use Rattle.ebr_order.specs.Order.{turns_of, wrong_at}
+use Rattle.ebr_report.specs.declared.ends.EndKind.{EndKind}
+use Rattle.ebr_report.specs.declared.ends.EndKind.TheVariants as ending
+use Rattle.ebr_report.specs.declared.ends.SessionEnd.{SessionEnd}
+use Rattle.ebr_report.specs.Lines.{line_of}
+use Rattle.ebr_report.specs.Summary.{Summary}
+use Rattle.ebr_asks.specs.declared.entry.Entry.{Entry}
+use Rattle.ebr_worker.specs.Ends.{CameTo}
+use Rattle.ebr_worker.specs.Matches.{has_stop}
+use Rattle.ebr_worker.specs.Paced.{Paced}
+use Rattle.ebr_worker.specs.Runs.{AreEnds, IsHistory, nth_session}
 use Rattle.ebr_server.specs.declared.exit.ExitCode.{ExitCode}
 use Rattle.ebr_server.specs.declared.exit.ExitCode.TheVariants as code
-use Rattle.ebr_asks.specs.declared.ask.Ask.{Ask}
-use Rattle.ebr_asks.specs.declared.ask.Ask.TheVariants.{Leave}
-use Rattle.ebr_asks.specs.declared.answer.Answer.{Answer}
-use Rattle.ebr_asks.specs.declared.answer.Answer.TheVariants.{Done, DiskFault, NoMemory, Stopped}
-use Rattle.ebr_asks.specs.declared.entry.Entry.{Entry}
-use Rattle.ebr_asks.specs.declared.entry.Exchange.{Exchange}
-use Rattle.ebr_calls.specs.Steps.{Ended, line_of}
-use Rattle.ebr_calls.specs.Courses.{AllContinue}
-use Rattle.ebr_session.specs.Has.{IsPrefix, answers, asks, printed_before}
-use Rattle.ebr_session.specs.Sessions.{SessionRun, Printed}
-use Rattle.ebr_core.specs.Machine.{Build}
-use Rattle.ebr_core.specs.History.{Mine}
-use Rattle.ebr_database.specs.Database.{Database}
-
--- the one session of `try`
-abbrev pub the_session : SessionId
-the_session = record { 0 = 1 }
-
--- The database in which it begins, which has no record.
-abbrev pub start : Database
-start = Build [] 1
-
-abbrev pub is_empty : List ℕ → Bool
-is_empty [] = true
-is_empty (b ∷ bs) = false
-
--- The word of the script in `try S`; there is none in any other words.
-abbrev pub script_word : List (List ℕ) → Option (List ℕ)
-script_word [] = None
-script_word (w ∷ []) = None
-script_word (w ∷ s ∷ []) = if bytes_eq w (codes "try") && not (is_empty s) then Some s else None
-script_word (w ∷ s ∷ x ∷ words) = None
-
--- the bytes of the script, where the words name one and the host tells what is behind it
-abbrev pub script_bytes : (List ℕ → Option (List ℕ)) → List (List ℕ) → Option (List ℕ)
-script_bytes bytes words = option_and_then bytes (script_word words)
 
 -- the word at a place
 abbrev pub word_at : List (List ℕ) → ℕ → List ℕ
 word_at words at = unwrap_or (slice_get words at) []
 
--- The line that the report ends with. A run that is done has none, and behind a write that failed nothing is written.
+-- ---- what is read
+
+-- the most bytes of a script, and of an order
+abbrev pub most : ℕ
+most = 1048576
+
+-- the place of an order's word
+abbrev pub order_place : ℕ
+order_place = 2
+
+-- how many sessions there are, each with a script of its own
+abbrev pub sessions_of : Command → List (List ℕ) → ℕ
+sessions_of command.Try words = 1
+sessions_of command.Rehearse words = length words - 3
+
+-- The command opens the word at a place: `try` its script's, `rehearse` its order's and each script's.
+abbrev pub Opens : Option Command → List (List ℕ) → ℕ → Type 0
+Opens None words at = ⊥
+Opens (Some command.Try) words at = at ≡ 1
+Opens (Some command.Rehearse) words at = (order_place ≤ at) × (at < length words)
+
+-- the bytes behind the word at a place, where the host tells them
+abbrev pub told_at : (List ℕ → Option (List ℕ)) → List (List ℕ) → ℕ → Option (List ℕ)
+told_at bytes words at = bytes (word_at words at)
+
+-- These are the bytes behind the word, where they are told; there are too many of them; there aren't.
+abbrev pub IsBehind : (List ℕ → Option (List ℕ)) → List (List ℕ) → ℕ → List ℕ → Type 0
+IsBehind bytes words at text = IfSome (told_at bytes words at) (λ told. text ≡ told)
+
+abbrev pub IsLong : (List ℕ → Option (List ℕ)) → List (List ℕ) → ℕ → Type 0
+IsLong bytes words at = IfSome (told_at bytes words at) (λ told. most < length told)
+
+abbrev pub IsShort : (List ℕ → Option (List ℕ)) → List (List ℕ) → ℕ → Type 0
+IsShort bytes words at = IfSome (told_at bytes words at) (λ told. length told ≤ most)
+
+-- The order, where it is told, is wrong first at this place, or nowhere.
+abbrev pub OrderWrong : (List ℕ → Option (List ℕ)) → List (List ℕ) → Option ℕ → Type 0
+OrderWrong bytes words place = IfSome (told_at bytes words order_place) (λ told. wrong_at (sessions_of command.Rehearse words) told ≡ place)
+
+-- All that `rehearse` reads before the word at a place is right; `try` reads one word alone.
+pub record OrderBefore (bytes : List ℕ → Option (List ℕ)) (words : List (List ℕ)) (at : ℕ) : Type 0 where
+  pub short : (v : ℕ) → order_place ≤ v → v < at → IsShort bytes words v
+  pub order : order_place < at → OrderWrong bytes words None
+
+abbrev pub RightBefore : Command → (List ℕ → Option (List ℕ)) → List (List ℕ) → ℕ → Type 0
+RightBefore command.Try bytes words at = Unit {0}
+RightBefore command.Rehearse bytes words at = OrderBefore bytes words at
+
+-- ---- what is written
+
+-- The line that the report ends with.
 abbrev pub last_line : ExitCode → List (List ℕ) → List ℕ
 last_line code.Done words = []
 last_line code.Usage words = line_of (codes "usage")
 last_line (code.HostFault at) words = line_of (codes "host fault: " ++ word_at words at)
-last_line code.SinkFault words = []
+last_line code.SinkFault words = line_of (codes "sink fault")
 last_line code.NoMemory words = line_of (codes "out of memory")
+last_line (code.BadOrder at) words = line_of (codes "bad order at " ++ decimal at)
 last_line (code.TooLong at) words = line_of (codes "too long: " ++ word_at words at)
 
--- A session left: it went on after each answer before, and its last one is Done, to Leave.
-pub record HasLeft (mine : List Exchange) : Type 0 where
-  pub before : List Exchange
-  pub last : mine ≡ before ++ record { ask = Leave; answer = Done } ∷ []
-  pub went_on : AllContinue (answers before)
+-- The report has a text, and behind it a line: whole where no write failed, and else a part of it.
+pub record Reported (faults : ℕ) (held text line : List ℕ) : Type 0 where
+  pub count : ℕ
+  pub part : held ≡ text ++ take count line
+  pub whole : faults ≡ 0 → held ≡ text ++ line
 
--- A session's exchanges are just those of its run for the answers that it was given, and this is what the run prints.
--- With `quit` it quits after so many of them.
-pub record Ran (script : List ℕ) (mine : List Exchange) (quit : Option ℕ) (printed : List ℕ) : Type 0 where
-  pub asked : (SessionRun script (answers mine) quit).state.asks ≡ asks mine
-  pub printed_is : (SessionRun script (answers mine) quit).state.printed ≡ printed
-  pub ended : (SessionRun script (answers mine) quit).flow ≡ Ended
+-- The report has a part of a text, whose write failed, and nothing behind it.
+pub record BrokenOff (held text : List ℕ) : Type 0 where
+  pub count : ℕ
+  pub part : held ≡ take count text
 
--- A session ran its script to its end: each piece has its reply, and these are the replies.
-pub record RanToEnd (script : List ℕ) (mine : List Exchange) (replies : List ℕ) : Type 0 where
-  pub left : HasLeft mine
-  pub ran : Ran script mine None replies
+-- ---- runs whose sessions have not begun
 
--- what a script prints for all answers but the last; nothing where there is none
-abbrev pub printed_before_last : List ℕ → List Answer → List ℕ
-printed_before_last script given = printed_before script given (length given)
+-- Why a run ended before its sessions began: of a host or a source that failed, of a script or an order that is too long, or of a
+-- wrong order, all that is read before is right. Want of memory alone is free. `fails` tells that a call of the host has failed, or
+-- one of the source that is handed back.
+abbrev pub Stops : Option Command → (List ℕ → Option (List ℕ)) → List (List ℕ) → Type 0 → ExitCode → Type 0
+Stops None bytes words fails code.Usage = Unit {0}
+Stops (Some c) bytes words fails (code.HostFault at) = Opens (Some c) words at × RightBefore c bytes words at × fails
+Stops (Some c) bytes words fails (code.TooLong at) = Opens (Some c) words at × RightBefore c bytes words at × IsLong bytes words at
+Stops (Some command.Rehearse) bytes words fails (code.BadOrder at) = IsShort bytes words order_place × OrderWrong bytes words (Some at)
+Stops (Some c) bytes words fails code.NoMemory = Unit {0}
+Stops c bytes words fails x = ⊥
 
--- A session quit: it left in place of its next ask. Its replies are at most what its script prints for the answers that
--- it was given before Leave, and at least what it prints for all of them but the last.
-pub record Quit (script : List ℕ) (mine : List Exchange) (replies : List ℕ) : Type 0 where
-  pub left : HasLeft mine
-  pub ran : Ran script mine (Some (length left.before)) (Printed script (answers left.before))
-  pub most : IsPrefix replies (Printed script (answers left.before))
-  pub least : IsPrefix (printed_before_last script (answers left.before)) replies
-
--- an answer after which the session has ended
-abbrev pub EndsRun : Answer → Type 0
-EndsRun DiskFault = Unit {0}
-EndsRun NoMemory = Unit {0}
-EndsRun Stopped = Unit {0}
-EndsRun answer = ⊥
-
--- A session was ended by an answer that there was no memory, which is its last. Its replies are all that it printed.
-pub record RanOut (script : List ℕ) (mine : List Exchange) (replies : List ℕ) : Type 0 where
-  pub before : List Exchange
-  pub ask : Ask
-  pub answer : Answer
-  pub last : mine ≡ before ++ record { ask = ask; answer = answer } ∷ []
-  pub went_on : AllContinue (answers before)
-  pub ends : EndsRun answer
-  pub no_fault : answer ≢ DiskFault
-  pub ran : Ran script mine None replies
-
--- no session ran
-pub record NoSession (history : List Entry) (replies : List ℕ) : Type 0 where
+pub record NoneRan {S : Type 0} (stops : ExitCode → Type 0) (words : List (List ℕ)) (c : ExitCode) (history : List Entry) (ends : List (SessionEnd S)) (faults : ℕ) (held : Option (List ℕ)) : Type 0 where
+  pub stop : stops c
   pub no_entry : history ≡ []
-  pub no_reply : replies ≡ []
+  pub no_end : ends ≡ []
+  pub report : IfSome held (λ bytes. Reported faults bytes [] (last_line c words))
 
--- What a code says of the session. One that found no memory had not begun, or quit, or was answered so.
-abbrev pub Session : ExitCode → List ℕ → List Entry → List ℕ → Type 0
-Session code.Done script history replies = RanToEnd script (Mine history the_session) replies
-Session code.SinkFault script history replies = Quit script (Mine history the_session) replies
-Session code.NoMemory script history replies =
-    NoSession history replies ⊎ (Quit script (Mine history the_session) replies ⊎ RanOut script (Mine history the_session) replies)
-Session c script history replies = NoSession history replies
+-- ---- runs whose sessions have ended
 
--- The report has the replies, and behind them the last line: whole where no write failed, and else a part of it.
-pub record Reported (faults : ℕ) (held replies line : List ℕ) : Type 0 where
-  pub added : List ℕ
-  pub held_is : held ≡ replies ++ added
-  pub part : IsPrefix added line
-  pub whole : faults ≡ 0 → added ≡ line
+abbrev pub wants_memory : EndKind → Bool
+wants_memory ending.NoMemory = true
+wants_memory ending.Stopped = true
+wants_memory k = false
 
--- What a run has come to before its last line, by the bytes that the host tells of the script: the code, the history,
--- and what the report then holds.
-pub record Tried (source : Option (List ℕ)) (c : ExitCode) (history : List Entry) (held : Option (List ℕ)) : Type 0 where
-  pub script : List ℕ
-  pub is_script : IfSome source (λ bytes. script ≡ bytes)
+abbrev pub sink_failed : EndKind → Bool
+sink_failed ending.SinkFault = true
+sink_failed k = false
+
+abbrev pub any_end : {S : Type 0} → (EndKind → Bool) → List (SessionEnd S) → Bool
+any_end {S = S} p ends = list_any (λ (e : SessionEnd S). p e.end) ends
+
+-- The code of sessions that have ended, the first that applies: want of memory, which stops other sessions too; a sink that failed, or
+-- a summary that wasn't written.
+abbrev pub code_of_ends : {S : Type 0} → List (SessionEnd S) → Bool → ExitCode
+code_of_ends ends unwritten =
+    if any_end wants_memory ends then code.NoMemory
+    else (if any_end sink_failed ends || unwritten then code.SinkFault else code.Done)
+
+-- The line behind the replies of `try`: none where the report has failed.
+abbrev pub behind_replies : ExitCode → List (List ℕ) → List ℕ
+behind_replies code.SinkFault words = []
+behind_replies c words = last_line c words
+
+-- A script was run as the one session of a database without records. The report is its sink.
+pub record ScriptRan {S : Type 0} (script : List ℕ) (words : List (List ℕ)) (c : ExitCode) (history : List Entry) (ends : List (SessionEnd S)) (faults : ℕ) (held : Option (List ℕ)) : Type 0 where
+  pub is_history : IsHistory 1 history
+  pub no_stop : has_stop history ≡ false
+  pub end : SessionEnd S
+  pub one : ends ≡ end ∷ []
+  pub no_sink : end.sink ≡ None
   pub replies : List ℕ
-  pub session : Session c script history replies
-  pub holds : IfSome held (λ bytes. bytes ≡ replies)
+  pub came_to : CameTo history script (nth_session 0) replies end
+  pub is_code : c ≡ code_of_ends ends false
+  pub failed : end.end ≡ ending.SinkFault → 0 < faults
+  pub report : IfSome held (λ b. Reported faults b replies (behind_replies c words))
 
--- What `serve` does: the same, with the last line.
-pub record Served (words : List (List ℕ)) (source : Option (List ℕ)) (c : ExitCode) (history : List Entry) (faults : ℕ) (held : Option (List ℕ)) : Type 0 where
+-- what `try` has come to
+pub record TryRan {S : Type 0} (bytes : List ℕ → Option (List ℕ)) (words : List (List ℕ)) (c : ExitCode) (history : List Entry) (ends : List (SessionEnd S)) (faults : ℕ) (held : Option (List ℕ)) : Type 0 where
   pub script : List ℕ
-  pub is_script : IfSome source (λ bytes. script ≡ bytes)
-  pub replies : List ℕ
-  pub session : Session c script history replies
-  pub report : IfSome held (λ bytes. Reported faults bytes replies (last_line c words))
+  pub is_script : IsBehind bytes words 1 script
+  pub short : length script ≤ most
+  pub ran : ScriptRan script words c history ends faults held
 
--- the codes that a script of too many bytes may have
-abbrev pub StopsTooLong : ExitCode → Type 0
-StopsTooLong (code.TooLong word) = word ≡ 1
-StopsTooLong (code.HostFault word) = word ≡ 1
-StopsTooLong code.NoMemory = Unit {0}
-StopsTooLong c = ⊥
+-- the scripts of the words from one place up to another, in order
+pub record AreScripts (bytes : List ℕ → Option (List ℕ)) (words : List (List ℕ)) (first last : ℕ) (scripts : List (List ℕ)) : Type 0 where
+  pub count : first + length scripts ≡ last
+  pub each : (i : ℕ) (script : List ℕ) → slice_get scripts i ≡ Some script → IsBehind bytes words (first + i) script
+  pub short : All (λ script. length script ≤ most) scripts
+
+-- an order of n sessions
+pub record IsOrder (bytes : List ℕ → Option (List ℕ)) (words : List (List ℕ)) (n : ℕ) (order : List ℕ) : Type 0 where
+  pub is : IsBehind bytes words order_place order
+  pub short : length order ≤ most
+  pub right : wrong_at n order ≡ None
+
+-- The scripts were run by the order, each as a session of its own with a sink of its own, in one database that had no records.
+pub record SessionsRan {S : Type 0} (sink_held : S → Option (List ℕ)) (sink_faults : S → ℕ) (bytes : List ℕ → Option (List ℕ)) (words : List (List ℕ)) (history : List Entry) (ends : List (SessionEnd S)) : Type 0 where
+  pub scripts : List (List ℕ)
+  pub are_scripts : AreScripts bytes words 3 (length words) scripts
+  pub order : List ℕ
+  pub is_order : IsOrder bytes words (length scripts) order
+  pub are_ends : AreEnds sink_held sink_faults scripts history ends
+  pub paced : Paced (length scripts) (turns_of order) history
+
+-- the summary and the last line, by whether a write of the summary failed
+abbrev pub Summed : Bool → ℕ → List ℕ → List ℕ → List ℕ → Type 0
+Summed true faults held summary line = BrokenOff held summary
+Summed false faults held summary line = Reported faults held summary line
+
+-- The code and the report of sessions that have ended.
+pub record EndsTold {S : Type 0} (words : List (List ℕ)) (c : ExitCode) (ends : List (SessionEnd S)) (faults : ℕ) (held : Option (List ℕ)) : Type 0 where
+  pub unwritten : Bool
+  pub is_code : c ≡ code_of_ends ends unwritten
+  pub failed : unwritten ≡ true → 0 < faults
+  pub report : IfSome held (λ b. Summed unwritten faults b (Summary ends) (last_line c words))
+
+-- what `rehearse` has come to
+pub record RehearseRan {S : Type 0} (sink_held : S → Option (List ℕ)) (sink_faults : S → ℕ) (bytes : List ℕ → Option (List ℕ)) (words : List (List ℕ)) (c : ExitCode) (history : List Entry) (ends : List (SessionEnd S)) (faults : ℕ)
+    (held : Option (List ℕ)) : Type 0 where
+  pub ran : SessionsRan sink_held sink_faults bytes words history ends
+  pub told : EndsTold words c ends faults held
+
+-- ---- what `serve` comes to
+
+abbrev pub Ran : {S : Type 0} → Option Command → (S → Option (List ℕ)) → (S → ℕ) → (List ℕ → Option (List ℕ)) → List (List ℕ) → ExitCode → List Entry → List (SessionEnd S) → ℕ → Option (List ℕ) → Type 0
+Ran None sink_held sink_faults bytes words c history ends faults held = ⊥
+Ran (Some command.Try) sink_held sink_faults bytes words c history ends faults held = TryRan bytes words c history ends faults held
+Ran (Some command.Rehearse) sink_held sink_faults bytes words c history ends faults held = RehearseRan sink_held sink_faults bytes words c history ends faults held
+
+-- No session has begun, or all have ended.
+abbrev pub Served : {S : Type 0} → Option Command → (List ℕ → Option (List ℕ)) → Type 0 → (S → Option (List ℕ)) → (S → ℕ) → List (List ℕ) → ExitCode → List Entry → List (SessionEnd S) → ℕ → Option (List ℕ) → Type 0
+Served asked bytes fails sink_held sink_faults words c history ends faults held =
+    NoneRan (Stops asked bytes words fails) words c history ends faults held ⊎ Ran asked sink_held sink_faults bytes words c history ends faults held
+
+-- ---- what a code says
+
+-- the code that a failed call of the host or of a source has
+abbrev pub IsHostFault : ExitCode → Type 0
+IsHostFault (code.HostFault at) = Unit {0}
+IsHostFault c = ⊥
+
+-- the sink of one of the sessions has failed
+pub record SinkFailed {S : Type 0} (sink_faults : S → ℕ) (ends : List (SessionEnd S)) : Type 0 where
+  pub place : ℕ
+  pub end : SessionEnd S
+  pub is_end : slice_get ends place ≡ Some end
+  pub failed : IsSomeAnd end.sink (λ sink. 0 < sink_faults sink)
+
+-- The sinks that fail with the code of a sink: the report, and in `rehearse` one of the sessions'.
+abbrev pub SinkFails : {S : Type 0} → Option Command → (S → ℕ) → List (SessionEnd S) → ℕ → Type 0
+SinkFails None sink_faults ends faults = ⊥
+SinkFails (Some command.Try) sink_faults ends faults = 0 < faults
+SinkFails (Some command.Rehearse) sink_faults ends faults = (0 < faults) ⊎ SinkFailed sink_faults ends
+
+-- Each session ended as it should.
+abbrev pub AllEnded : {S : Type 0} → List (SessionEnd S) → Type 0
+AllEnded {S = S} ends = All (λ (e : SessionEnd S). e.end ≡ ending.Ended) ends
+
+-- The codes that a word whose bytes are too many may have, and those that a wrong order may have: what is read before may have stopped
+-- the run.
+abbrev pub StopsBy : ℕ → ExitCode → Type 0
+StopsBy at (code.TooLong w) = w ≤ at
+StopsBy at (code.HostFault w) = w ≤ at
+StopsBy at (code.BadOrder place) = order_place < at
+StopsBy at code.NoMemory = Unit {0}
+StopsBy at c = ⊥
+
+abbrev pub StopsBad : Option ℕ → ExitCode → Type 0
+StopsBad None c = Unit {0}
+StopsBad (Some place) (code.BadOrder at) = at ≡ place
+StopsBad (Some place) (code.HostFault w) = w ≡ order_place
+StopsBad (Some place) (code.TooLong w) = w ≡ order_place
+StopsBad (Some place) code.NoMemory = Unit {0}
+StopsBad (Some place) c = ⊥
 
 -- the codes of a run in which nothing outside failed
 abbrev pub IsComplete : ExitCode → Type 0
@@ -152,9 +256,11 @@ IsComplete code.Done = Unit {0}
 IsComplete code.NoMemory = Unit {0}
 IsComplete c = ⊥
 
--- the codes of a run whose session has begun
-abbrev pub HasRun : ExitCode → Type 0
-HasRun code.Done = Unit {0}
-HasRun code.SinkFault = Unit {0}
-HasRun code.NoMemory = Unit {0}
-HasRun c = ⊥
+-- What a command reads is told and right.
+abbrev pub OrderTold : Command → (List ℕ → Option (List ℕ)) → List (List ℕ) → Type 0
+OrderTold command.Try bytes words = Unit {0}
+OrderTold command.Rehearse bytes words = IsSomeAnd (told_at bytes words order_place) (λ told. wrong_at (sessions_of command.Rehearse words) told ≡ None)
+
+pub record AllRight (c : Command) (bytes : List ℕ → Option (List ℕ)) (words : List (List ℕ)) : Type 0 where
+  pub told : (at : ℕ) → Opens (Some c) words at → IsSomeAnd (told_at bytes words at) (λ told. length told ≤ most)
+  pub order : OrderTold c bytes words

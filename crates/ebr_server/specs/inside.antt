@@ -1,6 +1,2 @@
-pub mod Engine
-pub mod Memory
+pub mod Opened
 pub mod Reading
-pub mod Report
-pub mod Work
-pub mod Worker

@@ -5,17 +5,19 @@ ghost use Rattle.std.specs.Prelude.{◌≡◌};
 /// How a run ended. A `word` is a place among the words of the command line, counted from 0.
 #[derive(Clone, Copy, Debug, PartialEq, Eq)]
 pub enum ExitCode {
-    /// The script was read to its end and every piece has its reply.
+    /// Each script was read to its end and every piece has its reply.
     Done,
     /// The words are no form of a command.
     Usage,
-    /// The host did not open the word, or its source failed.
+    /// The host did not open the word, or its source failed. The word of a sink is that of its script.
     HostFault { word: u32 },
-    /// The report could not be written.
+    /// The sink of a session failed, or the report could not be written.
     SinkFault,
     /// There was no memory.
     NoMemory,
-    /// The script of that word has more than `MAX_SCRIPT` bytes.
+    /// The order can't be read at this byte, or the number there is that of no session.
+    BadOrder { at: u32 },
+    /// What is behind that word has more than `MAX_SCRIPT` bytes.
     TooLong { word: u32 },
 }
 
@@ -32,6 +34,7 @@ impl ExitCode {
             ExitCode::HostFault { .. } => 3,
             ExitCode::SinkFault => 5,
             ExitCode::NoMemory => 8,
+            ExitCode::BadOrder { .. } => 9,
             ExitCode::TooLong { .. } => 10,
         }
     }

@@ -1,20 +1,23 @@
-//! The server: the one call `serve`, which joins the parts. A session (`ebr_session`) asks the engine (`ebr_core`) and prints, a
-//! worker hands its asks over and writes what it printed, and the report ends with the code's line.
+//! The server: the one call `serve`, which joins the parts. It tells the command of the words (`ebr_words`), reads the order
+//! (`ebr_order`) and the scripts, makes the sinks, has the sessions run (`ebr_worker`), and writes the summary (`ebr_report`)
+//! and the last line.
 //!
-//! The program uses `serve`, whose contract is the headline: the history is legal, the asks are the script's, and the
-//! report holds what the script prints. That calls succeed where memory is ample is tested in `ebr_servertests`.
+//! The program uses `serve`, whose contract is the headline: the history is legal, each session's asks are those of its
+//! script, and its sink holds what the script prints; for `try` that is the report. That calls succeed where memory is ample
+//! is tested in `ebr_servertests` and `ebr_rehearsaltests`.
 #![tactic(auto)]
 
+mod codes;
 mod command;
-mod engine;
 mod exit;
-mod memory;
-mod offer;
+mod opened;
 mod read;
+mod rehearsal;
 mod report;
-mod worker;
+mod scripts;
 
 pub use command::{Outcome, serve};
 pub use ebr_asks::{Answer, Ask, Entry};
+pub use ebr_report::{EndKind, SessionEnd};
 pub use exit::ExitCode;
 pub use read::MAX_SCRIPT;

@@ -1,14 +1,14 @@
-//! Reads a script from a source.
+//! Reads what is behind a word from its source.
 
 ghost use Rattle.std.specs.Prelude.{◌≡◌, ◌+◌, ◌<◌, ◌≤◌, ◌++◌, length, take, IfOk, IfSome, OnOk};
-ghost use Rattle.ebr_outside.specs.Faults.{Rises};
+ghost use Rattle.ebr_faults.specs.Faults.{Rises};
 ghost use Rattle.ebr_server.specs.inside.Reading.{Reads};
 
 use ebr_base::{Bytes, NoMemory};
 use ebr_outside::{Failed, Source};
 use std::alloc::Global;
 
-/// The most bytes of a script: 1 MiB.
+/// The most bytes of a script, and of an order: 1 MiB.
 pub const MAX_SCRIPT: usize = 1048576;
 
 /// How many bytes are asked for at once.
@@ -33,8 +33,8 @@ impl From<NoMemory> for ReadErr {
     }
 }
 
-/// Reads a source to its end, or until it has given one byte more than a script may have.
-pub fn read_script<S: Source>(alloc: Global, source: &mut S) -> Result<Bytes, ReadErr>
+/// Reads a source to its end, or until it has given one byte more than it may have.
+pub fn read_bytes<S: Source>(alloc: Global, source: &mut S) -> Result<Bytes, ReadErr>
     ensures bytes { IfOk result (λ bytes. IfSome (S.left source.old) (λ left. bytes ≡ take (MAX_SCRIPT + 1) left)) }
     ensures limit { IfOk result (λ bytes. length bytes ≤ MAX_SCRIPT + 1) }
     ensures counted { S.faults source.old ≤ S.faults source.new }

@@ -1,20 +1,59 @@
-//! The last line of the report.
+//! What is written to the report behind the sessions.
 
-ghost use Rattle.std.specs.Prelude.{◌≡◌, ◌++◌, ◌≤◌};
+ghost use Rattle.std.specs.Prelude.{◌≡◌, ◌++◌, ◌≤◌, ℕ, List, [], false, codes, IfSome};
 ghost use Rattle.std.specs.Bool.{OnTrue, OnFalse};
-ghost use Rattle.ebr_outside.specs.Faults.{Rises};
+ghost use Rattle.std.specs.Fmt.{decimal};
+ghost use Rattle.ebr_faults.specs.Faults.{Rises};
 ghost use Rattle.ebr_outside.specs.Sink.{appended};
-ghost use Rattle.ebr_calls.specs.Steps.{line_of};
-ghost use Rattle.ebr_server.specs.Program.{last_line, word_at};
-ghost use Rattle.ebr_server.specs.inside.Report.{AddsPart};
+ghost use Rattle.ebr_report.specs.Lines.{AddsPart, line_of};
+ghost use Rattle.ebr_server.specs.Program.{EndsTold, Reported, behind_replies, code_of_ends, last_line, word_at};
 
+use crate::codes::code_of_ends;
 use crate::exit::ExitCode;
-use crate::offer::offer;
 use ebr_base::Bytes;
 use ebr_outside::Sink;
+use ebr_report::{SessionEnd, write_line, write_summary};
+use itoa::Buffer;
 
-/// Writes the line that the report ends with, and says whether all of it was taken. `Done` has no line, and behind a write
-/// that failed nothing is written.
+/// Writes the summary of sessions that have ended, and the last line. Behind a write that failed nothing is written.
+pub fn tell_ends<R: Sink, S>(report: &mut R, words: &[Bytes], ends: &[SessionEnd<S>]) -> ExitCode
+    requires empty { IfSome (R.held report.old) (λ bytes. bytes ≡ []) }
+    ensures { EndsTold words.now result ends.now (R.faults report.new) (R.held report.new) }
+{
+    if !write_summary(report, ends) {
+        return code_of_ends(ends, true);
+    }
+    let code = code_of_ends(ends, false);
+    let _ = write_last_line(report, code, words);
+    code
+}
+
+/// Writes the last line behind replies. There is none where a write of them failed.
+pub fn tell_replies<R: Sink, S>(report: &mut R, words: &[Bytes], ends: &[SessionEnd<S>]) -> ExitCode
+    ensures code { result ≡ code_of_ends ends.now false }
+    ensures report { (replies : List ℕ) → IfSome (R.held report.old) (λ bytes. bytes ≡ replies)
+        → IfSome (R.held report.new) (λ bytes. Reported (R.faults report.new) bytes replies (behind_replies result words.now)) }
+    ensures counted { R.faults report.old ≤ R.faults report.new }
+{
+    let code = code_of_ends(ends, false);
+    let _ = write_behind_replies(report, code, words);
+    code
+}
+
+/// Writes the line behind replies, and says whether all of it was taken.
+fn write_behind_replies<S: Sink>(sink: &mut S, code: ExitCode, words: &[Bytes]) -> bool
+    ensures part { AddsPart (S.held sink.old) (S.held sink.new) (behind_replies code words.now) }
+    ensures whole { OnTrue result (S.held sink.new ≡ appended (S.held sink.old) (behind_replies code words.now)) }
+    ensures counted { S.faults sink.old ≤ S.faults sink.new }
+    ensures failed { OnFalse result (Rises (S.faults sink.old) (S.faults sink.new)) }
+{
+    match code {
+        ExitCode::SinkFault => true,
+        _ => write_last_line(sink, code, words),
+    }
+}
+
+/// Writes the line that the report ends with, and says whether all of it was taken. `Done` has no line.
 pub fn write_last_line<S: Sink>(sink: &mut S, code: ExitCode, words: &[Bytes]) -> bool
     ensures part { AddsPart (S.held sink.old) (S.held sink.new) (last_line code words.now) }
     ensures whole { OnTrue result (S.held sink.new ≡ appended (S.held sink.old) (last_line code words.now)) }
@@ -22,12 +61,26 @@ pub fn write_last_line<S: Sink>(sink: &mut S, code: ExitCode, words: &[Bytes]) -
     ensures failed { OnFalse result (Rises (S.faults sink.old) (S.faults sink.new)) }
 {
     match code {
-        ExitCode::Done | ExitCode::SinkFault => true,
+        ExitCode::Done => true,
         ExitCode::Usage => write_line(sink, b"usage", b""),
         ExitCode::HostFault { word } => write_line(sink, b"host fault: ", word_at(words, word)),
+        ExitCode::SinkFault => write_line(sink, b"sink fault", b""),
         ExitCode::NoMemory => write_line(sink, b"out of memory", b""),
+        ExitCode::BadOrder { at } => write_place(sink, at),
         ExitCode::TooLong { word } => write_line(sink, b"too long: ", word_at(words, word)),
     }
+}
+
+/// Writes the line of a wrong order.
+fn write_place<S: Sink>(sink: &mut S, at: u32) -> bool
+    ensures part { AddsPart (S.held sink.old) (S.held sink.new) (line_of (codes "bad order at " ++ decimal at)) }
+    ensures whole { OnTrue result (S.held sink.new ≡ appended (S.held sink.old) (line_of (codes "bad order at " ++ decimal at))) }
+    ensures counted { S.faults sink.old ≤ S.faults sink.new }
+    ensures failed { OnFalse result (Rises (S.faults sink.old) (S.faults sink.new)) }
+{
+    let mut buffer = Buffer::new();
+    let text = buffer.format(at);
+    write_line(sink, b"bad order at ", text.as_bytes())
 }
 
 /// The word at a place; no bytes where there is none.
@@ -38,30 +91,4 @@ fn word_at(words: &[Bytes], at: u32) -> &[u8]
         Some(word) => word.as_slice(),
         None => b"",
     }
-}
-
-/// Writes a line of two texts, without memory, and says whether all of it was taken.
-fn write_line<S: Sink>(sink: &mut S, what: &[u8], word: &[u8]) -> bool
-    ensures part { AddsPart (S.held sink.old) (S.held sink.new) (line_of (what.now ++ word.now)) }
-    ensures whole { OnTrue result (S.held sink.new ≡ appended (S.held sink.old) (line_of (what.now ++ word.now))) }
-    ensures counted { S.faults sink.old ≤ S.faults sink.new }
-    ensures failed { OnFalse result (Rises (S.faults sink.old) (S.faults sink.new)) }
-{
-    if !write_part(sink, what) {
-        return false;
-    }
-    if !write_part(sink, word) {
-        return false;
-    }
-    write_part(sink, b"\n")
-}
-
-/// Writes a text, and says whether all of it was taken.
-fn write_part<S: Sink>(sink: &mut S, text: &[u8]) -> bool
-    ensures part { AddsPart (S.held sink.old) (S.held sink.new) text.now }
-    ensures whole { OnTrue result (S.held sink.new ≡ appended (S.held sink.old) text.now) }
-    ensures counted { S.faults sink.old ≤ S.faults sink.new }
-    ensures failed { OnFalse result (Rises (S.faults sink.old) (S.faults sink.new)) }
-{
-    offer(sink, text, 0) == text.len()
 }

@@ -27,7 +27,7 @@ use Rattle.ebr_seats.specs.Ends.{own_of, unchanged}
 use Rattle.ebr_core.specs.Asked.{max_text}
 use Rattle.ebr_core.specs.Records.{catalogue_of, record_of}
 use Rattle.ebr_core.specs.Machine.{Reply, answer_in, behind, counting, defined, defined_by, edition_set, recorded, reply_begin, reply_ddl, reply_define, reply_set, then_reply, unless_refused}
-use Rattle.ebr_server.specs.Program.{the_session}
+use Rattle.ebr_servertests.specs.WorkedScripts.{the_session}
 
 -- the session in an edition, with a call open or none, after so many asks
 abbrev session_in : EditionNo → Option TxMark → ℕ → Session

@@ -27,8 +27,7 @@ use Rattle.ebr_core.specs.Asked.{max_text}
 use Rattle.ebr_core.specs.Records.{catalogue_of, with_stored}
 use Rattle.ebr_core.specs.Machine.{Reply, creation_answer}
 use Rattle.ebr_core.specs.History.{Answered, IsLive, Legal}
-use Rattle.ebr_server.specs.Program.{the_session, start}
-use Rattle.ebr_servertests.specs.WorkedScripts.{procedure}
+use Rattle.ebr_servertests.specs.WorkedScripts.{procedure, the_session, start}
 use Rattle.ebr_servertests.proofs.Databases.{outside, inside, left_from, begins, ends, sets, defines, leaves, first_fits, edition_fits, second_fits}
 use Rattle.ebr_servertests.proofs.Valid.{made_in, seeing, procedure_is_valid}
 

@@ -1,24 +1,36 @@
 -- The replies of worked scripts, by the definitions alone.
-use Rattle.std.proofs.Common.{◌≡◌, ℕ, true, false, codes, List, [], ◌∷◌, ◌++◌, refl, ap}
-use Rattle.std.specs.Prelude.{None}
+use Rattle.std.proofs.Common.{◌≡◌, ℕ, true, false, codes, List, [], ◌∷◌, ◌++◌, refl, ap, sym, ◌∙◌}
+use Rattle.std.specs.Prelude.{None, map}
 use Rattle.ebr_check.specs.Verdict.{is_valid}
 use Rattle.ebr_expr.specs.Operators.{builtin_named}
 use Rattle.ebr_ast.specs.declared.unit.UnitTree.TheVariants as unit
 use Rattle.ebr_base.specs.declared.numbers.EditionNo.{EditionNo}
 use Rattle.ebr_script.specs.Pieces.{pieces_of, text_of}
+use Rattle.ebr_asks.specs.declared.ask.Ask.{Ask}
 use Rattle.ebr_asks.specs.declared.ask.Ask.TheVariants.{Leave}
-use Rattle.ebr_asks.specs.declared.answer.Answer.TheVariants.{Done}
+use Rattle.ebr_asks.specs.declared.answer.Answer.{Answer}
+use Rattle.ebr_asks.specs.declared.answer.Answer.TheVariants.{Done, Stopped}
 use Rattle.ebr_asks.specs.declared.entry.Exchange.{Exchange}
 use Rattle.ebr_calls.specs.Steps.{Ended, ended, line_of}
-use Rattle.ebr_calls.specs.Courses.{AllContinue}
+use Rattle.ebr_calls.specs.Courses.{AllContinue, Continues}
 use Rattle.ebr_session.specs.Has.{answers, asks}
 use Rattle.ebr_session.specs.Sessions.{SessionRun}
 use Rattle.ebr_core.specs.History.{Mine}
-use Rattle.ebr_server.specs.Program.{the_session, RanToEnd}
-use Rattle.ebr_servertests.specs.WorkedScripts.{Gives, CallsGive, UpgradeGives, call_of}
+use Rattle.ebr_worker.specs.Ends.{RanToEnd}
+use Rattle.ebr_worker.specs.Matches.{ask_kept, kept}
+use Rattle.ebr_servertests.specs.WorkedScripts.{Gives, CallsGive, UpgradeGives, call_of, the_session}
 use Rattle.ebr_servertests.proofs.Histories.{exchanged, history_of, name_a, first_edition, second_edition, nothing_legal, calls, calls_legal, upgrade, upgrade_legal}
 use Rattle.ebr_servertests.proofs.Prints.{a_prints, b_prints, a_prints_next}
 use Rattle.ebr_servertests.proofs.Valid.{made_in, seeing, call_checks}
+
+-- where no answer stopped the session, its exchanges are those of the history
+kept_ask : (q : Ask) (x : Answer) → Continues x → ask_kept q x ≡ q
+kept_ask q Stopped on = absurd on
+kept_ask q x on = refl
+
+all_kept : (before : List Exchange) → AllContinue (answers before) → map kept (before ++ exchanged Leave Done ∷ []) ≡ before ++ exchanged Leave Done ∷ []
+all_kept [] on = refl
+all_kept (x ∷ before) on = λ i. record { ask = kept_ask x.ask x.answer on.0 i; answer = x.answer } ∷ all_kept before on.1 i
 
 -- a whole script that was run to its end, and what it printed
 ran_so : (script : List ℕ) (before : List Exchange) (printed : List ℕ) (room : ℕ) → Mine (history_of before) the_session ≡ before ++ exchanged Leave Done ∷ [] → AllContinue (answers before)
@@ -26,8 +38,10 @@ ran_so : (script : List ℕ) (before : List Exchange) (printed : List ℕ) (room
     ≡ ended (record { asks = asks (Mine (history_of before) the_session); printed = printed; packages = []; room = room; coming = []; quit = None }) Ended
     → RanToEnd script (Mine (history_of before) the_session) printed
 ran_so script before printed room last on run = record {
-  left = record { before = before; last = last; went_on = on };
-  ran = record { asked = ap (λ o. o.state.asks) run; printed_is = ap (λ o. o.state.printed) run; ended = ap (λ o. o.flow) run };
+  before = before;
+  last = last;
+  went_on = on;
+  ran = record { transcript = Mine (history_of before) the_session; matches = last ∙ sym (all_kept before on) ∙ sym (ap (map kept) last); asked = ap (λ o. o.state.asks) run; printed_is = ap (λ o. o.state.printed) run; ended = ap (λ o. o.flow) run };
 }
 
 abbrev a : List ℕ

@@ -1,6 +1,7 @@
 -- Worked scripts, whose replies the definitions alone give. What the pieces and the stored texts spell is a premise, so that
 -- all but the grammar is computed.
 use Rattle.std.specs.Prelude.{ℕ, Bool, true, false, ◌≡◌, ◌≤◌, codes, List, [], ◌∷◌, length, Some, None}
+use Rattle.ebr_base.specs.declared.numbers.SessionId.{SessionId}
 use Rattle.ebr_ast.specs.declared.definition.Definition.{Definition}
 use Rattle.ebr_ast.specs.declared.definition.Definition.TheVariants.{CreateEdition, CreateObject}
 use Rattle.ebr_ast.specs.declared.definition.Statement.TheVariants as statement
@@ -13,9 +14,18 @@ use Rattle.ebr_script.specs.declared.piece.Piece.{Piece}
 use Rattle.ebr_script.specs.declared.piece.PieceKind.TheVariants as piece
 use Rattle.ebr_script.specs.Pieces.{pieces_of, stored_definition, text_of}
 use Rattle.ebr_asks.specs.declared.entry.Entry.{Entry}
+use Rattle.ebr_database.specs.Database.{Database}
 use Rattle.ebr_core.specs.Asked.{max_text}
 use Rattle.ebr_core.specs.History.{Mine, Legal}
-use Rattle.ebr_server.specs.Program.{the_session, start, RanToEnd}
+use Rattle.ebr_core.specs.Machine.{Build}
+use Rattle.ebr_worker.specs.Ends.{RanToEnd}
+
+-- the one session, and the database in which it begins
+abbrev pub the_session : SessionId
+the_session = record { 0 = 1 }
+
+abbrev pub start : Database
+start = Build [] 1
 
 -- A script gives these replies: there is a history that the machine replays, and by which the script is run to its end.
 pub record Gives (script replies : List ℕ) : Type 0 where

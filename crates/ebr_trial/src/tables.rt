@@ -30,20 +30,24 @@ const NOTHING: Setup = Setup {
     replies: "",
 };
 
-/// A table with a key and three rows.
-pub const THREE_ROWS: Setup = Setup {
-    script: "\
+pub const THREE_ROWS_SCRIPT: &str = "\
 CREATE TABLE t (id NUMBER(9) PRIMARY KEY, v VARCHAR2(10) NOT NULL, n NUMBER(9));
 INSERT INTO t VALUES (1, 'a', 10);
 INSERT INTO t VALUES (2, 'b', 20);
 INSERT INTO t VALUES (3, 'c', 30);
 COMMIT;
-",
-    replies: "OK\n1 rows\n1 rows\n1 rows\nOK\n",
+";
+
+pub const THREE_ROWS_REPLIES: &str = "OK\n1 rows\n1 rows\n1 rows\nOK\n";
+
+/// A table with a key and three rows.
+pub const THREE_ROWS: Setup = Setup {
+    script: THREE_ROWS_SCRIPT,
+    replies: THREE_ROWS_REPLIES,
 };
 
 /// A text behind another.
-fn behind(alloc: Global, front: &str, text: &str) -> Result<Bytes, NoMemory> {
+pub fn behind(alloc: Global, front: &str, text: &str) -> Result<Bytes, NoMemory> {
     let mut whole = Bytes::from_slice(alloc, front.as_bytes())?;
     whole.extend(text.as_bytes())?;
     Ok(whole)

@@ -5,7 +5,7 @@ use ebr_outside::{Fail, MemFile, MemHost, MemSink, MemSource};
 use ebr_server::{ExitCode, Outcome, serve};
 use std::alloc::Global;
 
-pub type MemOutcome = Outcome<MemSource, MemSink>;
+pub type MemOutcome = Outcome<MemSource, MemSink, MemSink>;
 
 /// The words of `try s.sql`.
 pub const TRY: &[&[u8]] = &[b"try", b"s.sql"];
@@ -24,7 +24,8 @@ pub const NO_FAULTS: Faults = Faults {
     host: None,
 };
 
-fn list_of(alloc: Global, fail: Option<Fail>) -> Result<List<Fail>, NoMemory> {
+/// One call that fails, or none.
+pub fn list_of(alloc: Global, fail: Option<Fail>) -> Result<List<Fail>, NoMemory> {
     let mut list = List::new(alloc);
     if let Some(fail) = fail {
         list.push(fail)?;
@@ -39,6 +40,7 @@ fn file_of(alloc: Global, script: &[u8], source: List<Fail>) -> Result<MemFile, 
         word,
         bytes: Bytes::from_slice(alloc, script)?,
         source,
+        sink: List::new(alloc),
     })
 }
 
@@ -51,7 +53,8 @@ fn host_of(alloc: Global, script: &[u8], faults: Faults) -> Result<MemHost, NoMe
     Ok(MemHost::new(alloc, files, report, host))
 }
 
-fn words_of(alloc: Global, words: &[&[u8]]) -> Result<List<Bytes>, NoMemory> {
+/// Words of their own.
+pub fn words_of(alloc: Global, words: &[&[u8]]) -> Result<List<Bytes>, NoMemory> {
     let mut owned = List::new(alloc);
     for word in words {
         owned.push(Bytes::from_slice(alloc, word)?)?;

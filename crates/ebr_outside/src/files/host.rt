@@ -2,17 +2,18 @@
 
 ghost use Rattle.std.specs.Prelude.{◌≡◌, IfOk, OnOk, IsErrOf, None};
 
-use crate::count::one_more;
-use crate::files::sink::OutSink;
+use crate::files::out::OutSink;
+use crate::files::sink::FileSink;
 use crate::files::source::FileSource;
 use crate::host::{Host, HostErr};
 use ebr_base::Bytes;
+use ebr_faults::one_more;
 use std::fs::File;
 use std::io::{self, ErrorKind};
 use std::marker::Model;
 
-/// Opens the files of the system, and reports to the standard output. It tells no bytes: what files
-/// there are, and what they hold, is not claimed.
+/// Opens and makes the files of the system, and reports to the standard output. It tells no bytes:
+/// what files there are, and what they hold, is not claimed.
 #[derive(Drop)]
 pub struct FileHost {
     rt: HostRuntime,
@@ -41,6 +42,8 @@ impl FileHost {
 impl Host for FileHost {
     type Source = FileSource;
 
+    type Sink = FileSink;
+
     type Report = OutSink;
 
     ghost use Rattle.ebr_outside.specs.Files.{no_faults, one_fault_more};
@@ -67,6 +70,24 @@ impl Host for FileHost {
         }
     }
 
+    /// Makes the file whose path the word is, from the current folder on, or empties it. Faults are those
+    /// of `source`.
+    fn sink(&mut self, word: &Bytes) -> Result<FileSink, HostErr>
+        ensures fresh { IfOk result (λ s. s ≡ no_faults) }
+        ensures ok { OnOk result (self.new ≡ self.old) }
+        ensures failed { IsErrOf result HostErr.Failed → self.new ≡ one_fault_more self.old }
+        ensures no_memory { IsErrOf result HostErr.NoMemory → self.new ≡ self.old }
+    {
+        match create(&self.rt, word.as_slice()) {
+            Ok(file) => Ok(FileSink::new(file)),
+            Err(error) if error.kind() == ErrorKind::OutOfMemory => Err(HostErr::NoMemory),
+            Err(_) => {
+                self.faults = one_more(self.faults);
+                Err(HostErr::Failed)
+            }
+        }
+    }
+
     /// The standard output.
     fn report(&mut self) -> OutSink
         ensures fresh { result ≡ no_faults }
@@ -82,4 +103,12 @@ fn open(rt: &HostRuntime, path: &[u8]) -> io::Result<File> {
         return Err(ErrorKind::InvalidFilename.into());
     };
     File::open(rt, path)
+}
+
+/// Makes or empties a file for writing.
+fn create(rt: &HostRuntime, path: &[u8]) -> io::Result<File> {
+    let Ok(path) = str::from_utf8(path) else {
+        return Err(ErrorKind::InvalidFilename.into());
+    };
+    File::create(rt, path)
 }

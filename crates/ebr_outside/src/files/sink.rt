@@ -1,23 +1,23 @@
-//! The standard output.
+//! A file that is written in order.
 
 ghost use Rattle.std.specs.Prelude.{◌≡◌, ◌<◌, ◌≤◌, length, IfOk, OnOk, OnErr, None};
 
-use crate::count::one_more;
 use crate::sink::Sink;
 use crate::source::Failed;
+use ebr_faults::one_more;
+use std::fs::File;
 use std::io::Write;
 use std::marker::Model;
-use std::rt::Stdout;
 
-/// The standard output as a sink. It tells no bytes: what becomes of those that the system took is
+/// A file of the system as a sink. It tells no bytes: what becomes of those that the system took is
 /// not claimed.
 #[derive(Drop)]
-pub struct OutSink {
-    out: Stdout,
+pub struct FileSink {
+    file: File,
     faults: u64,
 }
 
-impl Model for OutSink {
+impl Model for FileSink {
     ghost use Rattle.ebr_outside.specs.Files.{FileState};
 
     ghost Value = { FileState };
@@ -25,21 +25,18 @@ impl Model for OutSink {
     ghost view = { λ s. record { faults = s.faults } };
 }
 
-impl OutSink {
+impl FileSink {
     ghost use Rattle.ebr_outside.specs.Files.{no_faults};
 
-    /// The standard output of this process.
-    pub fn new(rt: HostRuntime) -> OutSink
+    /// A file, from where it stands.
+    pub fn new(file: File) -> FileSink
         ensures { result ≡ no_faults }
     {
-        OutSink {
-            out: rt.stdout(),
-            faults: 0,
-        }
+        FileSink { file, faults: 0 }
     }
 }
 
-impl Sink for OutSink {
+impl Sink for FileSink {
     ghost use Rattle.ebr_outside.specs.Files.{one_fault_more};
 
     ghost held = { λ s. None };
@@ -53,7 +50,7 @@ impl Sink for OutSink {
         ensures ok { OnOk result (self.new ≡ self.old) }
         ensures err { OnErr result (self.new ≡ one_fault_more self.old) }
     {
-        match self.out.write(piece) {
+        match self.file.write(piece) {
             Ok(n) if n > 0 => Ok(n),
             _ => {
                 self.faults = one_more(self.faults);

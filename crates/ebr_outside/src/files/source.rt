@@ -2,8 +2,8 @@
 
 ghost use Rattle.std.specs.Prelude.{◌≡◌, ◌<◌, ◌≤◌, length, IfOk, OnOk, OnErr, None};
 
-use crate::count::one_more;
 use crate::source::{Failed, Source};
+use ebr_faults::one_more;
 use std::fs::File;
 use std::io::Read;
 use std::marker::Model;

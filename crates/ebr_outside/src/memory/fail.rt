@@ -1,12 +1,12 @@
 //! Which calls fail, and how many did.
 
 ghost use Rattle.std.specs.Prelude.{◌≡◌, ◌↔◌, IsTrue, IsErr, OnOk, OnErr};
-ghost use Rattle.ebr_outside.specs.Faults.{one_more};
+ghost use Rattle.ebr_faults.specs.Faults.{one_more};
 ghost use Rattle.ebr_outside.specs.Calls.{names, is_named, fails_next, after_call, after_fault, none_made};
 
-use crate::count::one_more;
 use crate::source::Failed;
 use ebr_base::{CloneIn, List, NoMemory};
+use ebr_faults::one_more;
 use std::alloc::Global;
 
 /// A call that is to fail, by its number, counted from 1.

@@ -1,8 +1,3 @@
-use Rattle.std.proofs.Common.{◌≡◌, sym, subst, Ok, Err}
-use Rattle.std.specs.Prelude.{Result, OnOk, OnErr}
-use Rattle.ebr_base.specs.declared.clone_in.NoMemory.{NoMemory}
-use Rattle.ebr_tx.specs.Data.{Data}
-use Rattle.ebr_database.specs.Storable.{AllStorable}
 use Rattle.ebr_database.proofs.AllStays.{at_savepoint, either}
 use Rattle.ebr_database.proofs.transact.savepoint.Goals as goal
 

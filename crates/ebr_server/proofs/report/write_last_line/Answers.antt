@@ -5,6 +5,3 @@ returns-in-HostFault-clause-part g c = rw (c.in-HostFault.is, ← c.word_at.ensu
 
 pub returns-in-HostFault-clause-whole : goal.returns-in-HostFault-clause-whole
 returns-in-HostFault-clause-whole g c = rw (c.in-HostFault.is, ← c.word_at.ensures) c.write_line-in-HostFault.ensures.whole
-
-pub returns-in-NoMemory-clause-whole : goal.returns-in-NoMemory-clause-whole
-returns-in-NoMemory-clause-whole g c = rw c.in-NoMemory.is c.write_line-in-NoMemory.ensures.whole

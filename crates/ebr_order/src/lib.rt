@@ -1,0 +1,11 @@
+//! The written order of a rehearsal: bytes that name sessions by their numbers.
+//!
+//! What is used above: `read_order`, which gives the sessions in their turns, or the place of the first byte that is wrong.
+//!
+//! Tables of orders are run in `ebr_reporttests`.
+#![tactic(auto)]
+
+mod number;
+mod order;
+
+pub use order::{OrderErr, read_order};

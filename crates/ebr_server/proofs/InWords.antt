@@ -1,0 +1,115 @@
+-- Scripts and sinks in the order of their words.
+use Rattle.std.proofs.Common.{ℕ, zero, suc, ◌≡◌, ◌+◌, ◌-◌, ◌<◌, ◌≤◌, ◌⊎◌, inl, inr, List, [], ◌∷◌, ◌++◌, length, Option, Some, None, arith, refl, sym, ◌∙◌, ap, subst, length-append, get_or}
+use Rattle.std.specs.Prelude.{All, IfSome, slice_get}
+use Rattle.std.proofs.lemmas.Option.{slice_get-get_or}
+use Rattle.std.proofs.lemmas.List.Elements.{All-nil, All-push}
+use Rattle.ebr_faults.specs.Faults.{Rises}
+use Rattle.ebr_worker.specs.Runs.{IsUnwritten}
+use Rattle.ebr_server.specs.declared.exit.ExitCode.{ExitCode}
+use Rattle.ebr_server.specs.declared.exit.ExitCode.TheVariants as code
+use Rattle.ebr_server.specs.Program.{AreScripts, IsBehind, IsShort, most, told_at}
+use Rattle.ebr_server.specs.inside.Opened.{AreUnwritten, Fails, FailsFrom, MakesNone, ReadsMore, ShortBetween}
+
+abbrev pub Told : Type 0
+Told = List ℕ → Option (List ℕ)
+
+abbrev Short : List ℕ → Type 0
+Short text = length text ≤ most
+
+at_more : {A : Type 0} (xs : List A) (x y : A) (i : ℕ) → slice_get (xs ++ x ∷ []) i ≡ Some y → (slice_get xs i ≡ Some y) ⊎ ((i ≡ length xs) × (y ≡ x))
+at_more [] x y zero e = inr (refl, cc)
+at_more [] x y (suc i) e = absurd cc
+at_more (z ∷ xs) x y zero e = inl e
+at_more (z ∷ xs) x y (suc i) e = elim (at_more xs x y i e) [ inl here ↦ inl here | inr last ↦ inr (ap suc last.0, last.1) ]
+
+-- ---- scripts
+
+pub no_scripts : (bytes : Told) (words : List (List ℕ)) → AreScripts bytes words 3 3 []
+no_scripts bytes words = record { count = refl; each = λ i script e. absurd cc; short = All-nil _ }
+
+module _ (bytes : Told) (words : List (List ℕ)) (at : ℕ) (old new : List (List ℕ)) (so_far : AreScripts bytes words 3 at old) (more : ReadsMore bytes words at old new) where
+  each_more : (i : ℕ) (script : List ℕ) → slice_get new i ≡ Some script → IsBehind bytes words (3 + i) script
+  each_more i script e =
+      elim (at_more old more.text script i (sym (ap (λ xs. slice_get xs i) more.added) ∙ e)) [
+        | inl here ↦ so_far.each i script here
+        | inr last ↦ subst (λ p. IsBehind bytes words p script) (sym so_far.count ∙ sym (ap (λ n. 3 + n) last.0)) (subst (IsBehind bytes words at) (sym last.1) more.read.is)
+      ]
+
+  scripts_here : AreScripts bytes words 3 (at + 1) new
+  scripts_here = record {
+    count = omega (arith, so_far.count, ap length more.added, length-append old (more.text ∷ []));
+    each = each_more;
+    short = subst (All Short) (sym more.added) (All-push Short old more.text so_far.short more.read.short);
+  }
+
+pub scripts_more : (bytes mid : Told) (words : List (List ℕ)) (at : ℕ) (old new : List (List ℕ)) → ((w : List ℕ) → mid w ≡ bytes w) → AreScripts bytes words 3 at old → ReadsMore mid words at old new → AreScripts bytes words 3 (at + 1) new
+scripts_more bytes mid words at old new same so_far more =
+    let is : mid ≡ bytes = λ i w. same w i in
+    scripts_here bytes words at old new so_far (subst (λ b. ReadsMore b words at old new) is more)
+
+-- what the host tells at two moments
+pub scripts_told : (bytes mid : Told) (words : List (List ℕ)) (at : ℕ) (scripts : List (List ℕ)) → ((w : List ℕ) → mid w ≡ bytes w) → AreScripts mid words 3 at scripts → AreScripts bytes words 3 at scripts
+scripts_told bytes mid words at scripts same are =
+    let is : mid ≡ bytes = λ i w. same w i in
+    subst (λ b. AreScripts b words 3 at scripts) is are
+
+-- scripts that were read aren't too long
+pub short_told : (told : Option (List ℕ)) (text : List ℕ) → IfSome told (λ b. text ≡ b) → length text ≤ most → IfSome told (λ b. length b ≤ most)
+short_told None text is short = tt
+short_told (Some b) text is short = subst (λ x. length x ≤ most) is short
+
+pub short_between : (bytes : Told) (words : List (List ℕ)) (at : ℕ) (scripts : List (List ℕ)) → AreScripts bytes words 3 at scripts → ShortBetween bytes words 3 at
+short_between bytes words at scripts are v from below =
+    let i : ℕ = v - 3 in
+    let within : i < length scripts = omega (arith, from, below, are.count) in
+    let there : slice_get scripts i ≡ Some (get_or scripts i []) = slice_get-get_or scripts i [] within in
+    let place : 3 + i ≡ v = omega (arith, from) in
+    subst (IsShort bytes words) place (short_told (told_at bytes words (3 + i)) (get_or scripts i []) (are.each i _ there) (are.short i [] within))
+
+-- ---- what failed
+
+rises_since : (old mid new : ℕ) → old ≤ mid → Rises mid new → Rises old new
+rises_since old mid new grown rises = omega arith
+
+pub fails_since : (P : Type 0) (old mid new : ℕ) → old ≤ mid → Rises mid new ⊎ P → Rises old new ⊎ P
+fails_since P old mid new grown fails = elim fails [ inl rises ↦ inl (rises_since old mid new grown rises) | inr other ↦ inr other ]
+
+fails_here : (bytes : Told) (words : List (List ℕ)) (at : ℕ) (P : Type 0) (old mid new : ℕ) (c : ExitCode) → 3 ≤ at → at < length words → ShortBetween bytes words 3 at → old ≤ mid
+    → Fails bytes words at (Rises mid new ⊎ P) c → FailsFrom bytes words 3 (Rises old new ⊎ P) c
+fails_here bytes words at P old mid new (code.HostFault w) from within short grown fails =
+    let here : FailsFrom bytes words 3 (Rises old new ⊎ P) (code.HostFault at) = (from, within, short, fails_since P old mid new grown fails.1) in
+    subst (λ v. FailsFrom bytes words 3 (Rises old new ⊎ P) (code.HostFault v)) (sym fails.0) here
+fails_here bytes words at P old mid new (code.TooLong w) from within short grown fails =
+    let here : FailsFrom bytes words 3 (Rises old new ⊎ P) (code.TooLong at) = (from, within, short, fails.1) in
+    subst (λ v. FailsFrom bytes words 3 (Rises old new ⊎ P) (code.TooLong v)) (sym fails.0) here
+fails_here bytes words at P old mid new code.NoMemory from within short grown fails = tt
+fails_here bytes words at P old mid new code.Done from within short grown fails = absurd fails
+fails_here bytes words at P old mid new code.Usage from within short grown fails = absurd fails
+fails_here bytes words at P old mid new code.SinkFault from within short grown fails = absurd fails
+fails_here bytes words at P old mid new (code.BadOrder p) from within short grown fails = absurd fails
+
+pub fails_on : (bytes mid_bytes : Told) (words : List (List ℕ)) (at : ℕ) (scripts : List (List ℕ)) (P : Type 0) (old mid new : ℕ) (c : ExitCode) → ((w : List ℕ) → mid_bytes w ≡ bytes w) → AreScripts bytes words 3 at scripts
+    → 3 ≤ at → at < length words → old ≤ mid → Fails mid_bytes words at (Rises mid new ⊎ P) c → FailsFrom bytes words 3 (Rises old new ⊎ P) c
+fails_on bytes mid_bytes words at scripts P old mid new c same are from within grown fails =
+    let is : mid_bytes ≡ bytes = λ i w. same w i in
+    fails_here bytes words at P old mid new c from within (short_between bytes words at scripts are) grown (subst (λ b. Fails b words at (Rises mid new ⊎ P) c) is fails)
+
+-- ---- sinks
+
+pub no_sinks : {S : Type 0} (held : S → Option (List ℕ)) → AreUnwritten held 3 3 []
+no_sinks held = record { count = refl; unwritten = All-nil _ }
+
+pub sinks_more : {S : Type 0} (held : S → Option (List ℕ)) (at : ℕ) (old new : List S) (s : S) → AreUnwritten held 3 at old → new ≡ old ++ s ∷ [] → IsUnwritten held s → AreUnwritten held 3 (at + 1) new
+sinks_more held at old new s so_far added empty = record {
+  count = omega (arith, so_far.count, ap length added, length-append old (s ∷ []));
+  unwritten = subst (All (IsUnwritten held)) (sym added) (All-push (IsUnwritten held) old s so_far.unwritten empty);
+}
+
+pub makes_since : (words : List (List ℕ)) (old mid new : ℕ) (c : ExitCode) → old ≤ mid → MakesNone words 3 (Rises mid new) c → MakesNone words 3 (Rises old new) c
+makes_since words old mid new (code.HostFault w) grown fails = (fails.0, fails.1, rises_since old mid new grown fails.2)
+makes_since words old mid new code.NoMemory grown fails = tt
+makes_since words old mid new (code.TooLong w) grown fails = absurd fails
+makes_since words old mid new code.Done grown fails = absurd fails
+makes_since words old mid new code.Usage grown fails = absurd fails
+makes_since words old mid new code.SinkFault grown fails = absurd fails
+makes_since words old mid new (code.BadOrder p) grown fails = absurd fails

@@ -1,0 +1,47 @@
+-- What was read of what a word names.
+use Rattle.std.proofs.Common.{ℕ, ◌≡◌, ◌<◌, ◌≤◌, List, [], length, take, get_or, Option, Some, None, min, arith, refl, sym, ◌∙◌, ap, subst}
+use Rattle.std.specs.Prelude.{IfSome, unwrap_or}
+use Rattle.std.proofs.lemmas.List.{take_all, length-take}
+use Rattle.std.proofs.lemmas.Option.{slice_get-get_or}
+use Rattle.ebr_server.specs.declared.exit.ExitCode.{ExitCode}
+use Rattle.ebr_server.specs.declared.exit.ExitCode.TheVariants as code
+use Rattle.ebr_server.specs.Program.{IsLong, told_at, word_at}
+use Rattle.ebr_server.specs.inside.Opened.{Fails, WasRead}
+
+abbrev pub word_is : (words : List (List ℕ)) (at : ℕ) (w d : List ℕ) → at < length words → w ≡ get_or words at d → word_at words at ≡ w
+word_is words at w d within is = ap (λ o. unwrap_or o []) (slice_get-get_or words at d within) ∙ sym is
+
+-- what was read, by what is told of the source
+read_told : (told left : Option (List ℕ)) (text : List ℕ) (n : ℕ) → IfSome told (λ b. left ≡ Some b) → IfSome left (λ l. text ≡ take n l) → IfSome told (λ b. text ≡ take n b)
+read_told None left text n of_told of_left = tt
+read_told (Some b) left text n of_told of_left =
+    let P : Option (List ℕ) → Type 0 = λ o. IfSome o (λ l. text ≡ take n l) in
+    subst P of_told of_left
+
+whole : (text b : List ℕ) (n : ℕ) → text ≡ take n b → length text < n → text ≡ b
+whole text b n e short =
+    let m : length text ≡ min n (length b) = ap length e ∙ length-take n b in
+    e ∙ take_all n b (omega (arith, m, short))
+
+read_whole : (told : Option (List ℕ)) (text : List ℕ) (n : ℕ) → IfSome told (λ b. text ≡ take n b) → length text < n → IfSome told (λ b. text ≡ b)
+read_whole None text n e short = tt
+read_whole (Some b) text n e short = whole text b n e short
+
+read_long : (told : Option (List ℕ)) (text : List ℕ) (n limit : ℕ) → IfSome told (λ b. text ≡ take n b) → limit < length text → IfSome told (λ b. limit < length b)
+read_long None text n limit e long = tt
+read_long (Some b) text n limit e long =
+    let m : length text ≡ min n (length b) = ap length e ∙ length-take n b in
+    omega (arith, m, long)
+
+module _ (bytes : List ℕ → Option (List ℕ)) (words : List (List ℕ)) (at : ℕ) (w d text : List ℕ) (left : Option (List ℕ)) (within : at < length words) (is : w ≡ get_or words at d)
+    (of_told : IfSome (bytes w) (λ b. left ≡ Some b)) (of_left : IfSome left (λ l. text ≡ take 1048577 l)) where
+  read_here : IfSome (told_at bytes words at) (λ b. text ≡ take 1048577 b)
+  read_here = subst (λ v. IfSome (bytes v) (λ b. text ≡ take 1048577 b)) (sym (word_is words at w d within is)) (read_told (bytes w) left text 1048577 of_told of_left)
+
+  pub was_read : length text ≤ 1048576 → WasRead bytes words at text
+  was_read short = record { is = read_whole (told_at bytes words at) text 1048577 read_here (omega (arith, short)); short = short }
+
+  pub too_long : (fails : Type 0) (c : ExitCode) → 1048576 < length text → c ≡ code.TooLong at → Fails bytes words at fails c
+  too_long fails c long is_code =
+      let there : (at ≡ at) × IsLong bytes words at = (refl, read_long (told_at bytes words at) text 1048577 1048576 read_here long) in
+      subst (Fails bytes words at fails) (sym is_code) there

@@ -1,0 +1,12 @@
+use Rattle.std.proofs.Common.{ℕ, ◌≡◌, ◌≤◌, List}
+use Rattle.ebr_server.specs.Program.{AreScripts}
+use Rattle.ebr_server.proofs.scripts.read_scripts.Given as goal
+
+-- the scripts of the words so far are read
+abbrev pub invariant-loop-word : goal.invariant-loop-word
+invariant-loop-word g l = record {
+  from : 3 ≤ l.word;
+  scripts : AreScripts (g.H.Host.bytes l.initial.host) l.words 3 l.word l.scripts;
+  same : (w : List ℕ) → g.H.Host.bytes l.host w ≡ g.H.Host.bytes l.initial.host w;
+  counted : g.H.Host.faults l.initial.host ≤ g.H.Host.faults l.host;
+}

@@ -1,0 +1,8 @@
+use Rattle.std.proofs.Common.{◌≡◌, drop}
+use Rattle.std.specs.Prelude.{map}
+use Rattle.ebr_words.specs.Words.{each_apart, out_word}
+use Rattle.ebr_words.proofs.apart.are_apart_from.Given as goal
+
+-- the words so far differ from all behind them
+abbrev pub invariant-loop-at : goal.invariant-loop-at
+invariant-loop-at l = each_apart (drop l.at l.names) (map out_word l.scripts) ≡ each_apart l.names (map out_word l.scripts)

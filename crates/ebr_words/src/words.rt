@@ -1,0 +1,62 @@
+//! Commands.
+
+ghost use Rattle.std.specs.Prelude.{◌≡◌};
+ghost use Rattle.ebr_words.specs.Words as spec;
+
+use crate::apart::are_apart;
+use ebr_base::{Bytes, rest_from};
+
+/// The most scripts of a rehearsal.
+const MAX_SCRIPTS: usize = 32;
+
+/// A command.
+#[derive(Clone, Copy, Debug, PartialEq, Eq)]
+pub enum Command {
+    /// `try S`: the script S as one session, whose replies go to the report.
+    Try,
+    /// `rehearse J ORDER S..`: the scripts as sessions side by side, in the order that ORDER writes.
+    Rehearse,
+}
+
+/// The command of the words, where they are one.
+pub fn command_of(words: &[Bytes]) -> Option<Command>
+    ensures { result ≡ spec.command_of words.now }
+{
+    let Some((command, names)) = words.split_first() else {
+        return None;
+    };
+    if command.as_slice() == b"try".as_slice() && is_one_name(names) {
+        return Some(Command::Try);
+    }
+    if command.as_slice() == b"rehearse".as_slice() && is_rehearsal(names) {
+        return Some(Command::Rehearse);
+    }
+    None
+}
+
+/// Whether this is one word that isn't empty.
+fn is_one_name(names: &[Bytes]) -> bool
+    ensures { result ≡ spec.is_one_name names.now }
+{
+    match names {
+        [script] => !script.is_empty(),
+        _ => false,
+    }
+}
+
+/// Whether these are a journal, an order and 1 to 32 scripts, and no two of what they name are one.
+fn is_rehearsal(names: &[Bytes]) -> bool
+    ensures { result ≡ spec.is_rehearsal names.now }
+{
+    if names.len() < 3 || names.len() > 2 + MAX_SCRIPTS {
+        return false;
+    }
+    are_named(names) && are_apart(names, rest_from(names, 2))
+}
+
+/// Whether none of the words is empty.
+fn are_named(names: &[Bytes]) -> bool
+    ensures { result ≡ spec.are_named names.now }
+{
+    names.iter().all(|name| !name.is_empty())
+}

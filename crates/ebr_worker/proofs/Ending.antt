@@ -1,0 +1,56 @@
+-- What a session came to, by its worker.
+use Rattle.std.proofs.Common.{ℕ, ◌≡◌, ◌<◌, List, [], ◌∷◌, length, Option, Some, None, refl, sym, ◌∙◌, ap, subst}
+use Rattle.std.specs.Prelude.{IfSome, map, cond, ◌+◌}
+use Rattle.std.specs.List.{count_by, fold}
+use Rattle.std.proofs.lemmas.List.{length-map}
+use Rattle.ebr_base.specs.declared.numbers.SessionId.{SessionId}
+use Rattle.ebr_report.specs.declared.ends.EndKind.{EndKind}
+use Rattle.ebr_report.specs.declared.ends.EndKind.TheVariants as ending
+use Rattle.ebr_report.specs.declared.ends.SessionEnd.{SessionEnd}
+use Rattle.ebr_asks.specs.declared.entry.Exchange.{Exchange}
+use Rattle.ebr_core.specs.Engine.{EngineState}
+use Rattle.ebr_core.specs.History.{Mine}
+use Rattle.ebr_worker.specs.Matches.{kept}
+use Rattle.ebr_worker.specs.Ends.{Came, IsEnd, is_refused}
+use Rattle.ebr_worker.specs.inside.Work.{Work}
+use Rattle.ebr_worker.specs.inside.Worker.{IsEndOf, Over}
+
+-- one more, where the ask was refused
+abbrev more : ℕ → Exchange → ℕ
+more n x = n + cond (is_refused x) 1 0
+
+counted_kept : (n : ℕ) (mine : List Exchange) → fold more n (map kept mine) ≡ fold more n mine
+counted_kept n [] = refl
+counted_kept n (x ∷ mine) = counted_kept (more n x) mine
+
+refused_kept : (mine : List Exchange) → count_by is_refused (map kept mine) ≡ count_by is_refused mine
+refused_kept mine = counted_kept 0 mine
+
+same_some : {X : Type 0} (a b : X) → Some a ≡ Some b → a ≡ b
+same_some a b e = cc
+
+module _ {S K : Type 0} (held : S → Option (List ℕ)) (faults : S → ℕ) (w : Work) (e : EngineState K) (k : EndKind) (s : SessionId) (script : List ℕ) (x : SessionEnd S)
+    (ended : w.end ≡ Some k) (over : Over k w e) (number : w.session.session ≡ s) (script_is : w.session.script ≡ script) (came_to : IsEndOf held faults w x) where
+  end_is : x.end ≡ k
+  end_is = same_some x.end k (sym came_to.end ∙ ended)
+
+  mine_is : Mine e.history s ≡ map kept w.session.transcript
+  mine_is = ap (Mine e.history) (sym number) ∙ over.seated.matches
+
+  in_sink : (sink : Option S) → IfSome sink (λ t. faults t ≡ w.faults) → 0 < w.faults → IfSome sink (λ t. 0 < faults t)
+  in_sink None counted failed = tt
+  in_sink (Some t) counted failed = subst (λ n. 0 < n) (sym counted) failed
+
+  pub is_end : IsEnd held faults e.history script s x
+  is_end = record {
+    replies = w.written;
+    came_to = record {
+      session_is = came_to.session ∙ number;
+      requests = came_to.requests ∙ sym (ap length mine_is ∙ length-map w.session.transcript kept);
+      refused = came_to.refused ∙ sym (ap (count_by is_refused) mine_is ∙ refused_kept w.session.transcript);
+      came = subst (λ f. Came f script (Mine e.history s) w.written) (sym end_is)
+          (subst (λ t. Came k t (Mine e.history s) w.written) script_is (subst (λ r. Came k w.session.script (Mine e.history r) w.written) number over.came));
+    };
+    holds = came_to.holds;
+    failed = λ is. in_sink x.sink came_to.counted (over.failed (sym end_is ∙ is));
+  }

@@ -1,0 +1,9 @@
+mod Alone
+mod Ending
+mod First
+mod Histories
+mod Outputs
+mod Rehearsing
+mod Replying
+mod Running
+mod Turns

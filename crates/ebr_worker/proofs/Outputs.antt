@@ -1,0 +1,112 @@
+-- What a worker's fields say of its work.
+use Rattle.std.proofs.Common.{ℕ, ◌≡◌, ◌+◌, ◌-◌, ◌≤◌, Bool, true, false, List, [], ◌++◌, length, take, drop, Option, Some, None, Result, Ok, Err, arith, refl, sym, ◌∙◌, ap, subst, append-nil, length-append}
+use Rattle.std.specs.Prelude.{IfSome, if◌then◌else◌}
+use Rattle.std.specs.Bool.{OnTrue, OnFalse}
+use Rattle.std.proofs.Math.Seq.{take-add}
+use Rattle.std.proofs.lemmas.List.{take-append-drop, take-append-le, take_all}
+use Rattle.ebr_base.specs.declared.clone_in.NoMemory.{NoMemory}
+use Rattle.ebr_base.specs.declared.numbers.SessionId.{SessionId}
+use Rattle.ebr_ast.specs.declared.view.EditionView.{EditionView}
+use Rattle.ebr_faults.specs.Faults.{Rises}
+use Rattle.ebr_outside.specs.Sink.{appended}
+use Rattle.ebr_asks.specs.declared.ask.Ask.{Ask}
+use Rattle.ebr_asks.specs.declared.answer.Answer.{Answer}
+use Rattle.ebr_session.specs.declared.next.NextAsk.{NextAsk}
+use Rattle.ebr_session.specs.declared.next.NextAsk.TheVariants as next
+use Rattle.ebr_session.specs.Has.{Advances, Follows, IsPrefix, Progress, answered, ends, quitting}
+use Rattle.ebr_report.specs.declared.ends.EndKind.{EndKind}
+use Rattle.ebr_record.specs.Keeper.{Keeper}
+use Rattle.ebr_core.specs.Engine.{EngineState}
+use Rattle.ebr_worker.specs.inside.Engine.{Replies}
+use Rattle.ebr_worker.specs.inside.Work.{Work}
+use Rattle.ebr_worker.specs.inside.Worker.{Advanced, Asked, Flushed, end_of}
+
+-- a session of whose printed bytes so many are written
+abbrev pub work : Progress → ℕ → Option (List ℕ) → ℕ → Option EndKind → Work
+work s n held faults end = record { session = s; written = take n s.printed; held = held; faults = faults; end = end }
+
+prefix_same : (p q : List ℕ) → p ≡ q → IsPrefix p q
+prefix_same p q same = record { rest = []; whole = sym (append-nil q) ∙ ap (λ xs. xs ++ []) (sym same) }
+
+-- a session that goes on prints more
+printed_more : (r : Result NextAsk NoMemory) (s t : Progress) → Advances r s t → IsPrefix s.printed t.printed
+printed_more (Ok (next.Ask q)) s t a = a.more
+printed_more (Ok next.Done) s t a = prefix_same _ _ (ap (λ (x : Progress). x.printed) (sym a.1))
+printed_more (Err m) s t a = prefix_same _ _ (ap (λ (x : Progress). x.printed) (sym a.2))
+
+part_same : (n : ℕ) (p q : List ℕ) → IsPrefix p q → n ≤ length p → take n q ≡ take n p
+part_same n p q more within = ap (take n) more.whole ∙ take-append-le n p more.rest within
+
+-- What was written stays so, and within what was printed.
+pub written_same : (r : Result NextAsk NoMemory) (s t : Progress) (n : ℕ) → Advances r s t → n ≤ length s.printed → take n t.printed ≡ take n s.printed
+written_same r s t n a within = part_same n s.printed t.printed (printed_more r s t a) within
+
+pub written_within : (r : Result NextAsk NoMemory) (s t : Progress) (n : ℕ) → Advances r s t → n ≤ length s.printed → n ≤ length t.printed
+written_within r s t n a within =
+    let more : IsPrefix s.printed t.printed = printed_more r s t a in
+    let grown : length t.printed ≡ length s.printed + length more.rest = ap length more.whole ∙ length-append s.printed more.rest in
+    omega (arith, grown, within)
+
+pub advanced : (r : Result NextAsk NoMemory) (o : Work) (s t : Progress) (n : ℕ) (held : Option (List ℕ)) (faults : ℕ) (end : Option EndKind) → work s n held faults end ≡ o → n ≤ length s.printed → Advances r s t → Follows t
+    → Advanced r o (work t n held faults end)
+advanced r o s t n held faults end view within a f =
+    let same : take n t.printed ≡ take n s.printed = written_same r s t n a within in
+    let did : Advanced r (work s n held faults end) (work t n held faults end) = record {
+      advances = a;
+      follows = f;
+      same = ap (λ bytes. record { session = t; written = bytes; held = held; faults = faults; end = end }) same;
+    } in
+    subst (λ x. Advanced r x (work t n held faults end)) view did
+
+-- What the sink holds is what was written.
+pub held_written : (p q : List ℕ) (n m : ℕ) (held held' : Option (List ℕ)) → q ≡ p → n ≤ m → IfSome held (λ bytes. bytes ≡ take n p) → held' ≡ appended held (take (m - n) (drop n q)) → IfSome held' (λ bytes. bytes ≡ take m p)
+held_written p q n m None held' same onward was now = subst (λ h. IfSome h (λ bytes. bytes ≡ take m p)) (sym now) tt
+held_written p q n m (Some bytes) held' same onward was now =
+    let at : n + (m - n) ≡ m = omega (arith, onward) in
+    let whole : bytes ++ take (m - n) (drop n q) ≡ take m p =
+    ap (λ xs. xs ++ take (m - n) (drop n q)) was ∙ ap (λ xs. take n p ++ take (m - n) (drop n xs)) same ∙ sym (take-add n (m - n) p) ∙ ap (λ k. take k p) at in
+    subst (λ h. IfSome h (λ bytes. bytes ≡ take m p)) (sym now) whole
+
+-- More bytes were written.
+pub flushed : (all : Bool) (o : Work) (s : Progress) (n m : ℕ) (held held' : Option (List ℕ)) (faults faults' : ℕ) (end : Option EndKind) → work s n held faults end ≡ o → n ≤ m → faults ≤ faults'
+    → OnTrue all (length s.printed ≤ m) → OnFalse all (Rises faults faults') → Flushed all o (work s m held' faults' end)
+flushed all o s n m held held' faults faults' end view onward counted whole failed =
+    let at : n + (m - n) ≡ m = omega (arith, onward) in
+    let did : Flushed all (work s n held faults end) (work s m held' faults' end) = record {
+      session = refl;
+      grown = record { rest = take (m - n) (drop n s.printed); whole = ap (λ k. take k s.printed) (sym at) ∙ take-add n (m - n) s.printed };
+      part = record { rest = drop m s.printed; whole = sym (take-append-drop m s.printed) };
+      counted = counted;
+      whole = all_of all whole;
+      failed = failed;
+    } in
+    subst (λ x. Flushed all x (work s m held' faults' end)) view did
+  where
+    all_of : (all : Bool) → OnTrue all (length s.printed ≤ m) → OnTrue all (take m s.printed ≡ s.printed)
+    all_of true within = take_all m s.printed within
+    all_of false within = tt
+
+-- The session took an answer.
+pub asked : {K : Type 0} (told : K → Keeper) (q : Ask) (x : Answer) (book : Option EditionView) (over : Bool) (o : Work) (s t : Progress) (n : ℕ) (held : Option (List ℕ)) (faults : ℕ) (end : Option EndKind) (e e' : EngineState K) (c : EndKind) (id : SessionId)
+    → work s n held faults end ≡ o → s.out ≡ Some q → t ≡ answered s.out x s → Follows t → id ≡ s.session → Replies told e e' id q x book → c ≡ end_of x → over ≡ t.ended
+    → Asked told q (if over then Some c else None) o (work t n held faults end) e e'
+asked told q x book over o s t n held faults end e e' c id view out took f number replies is_end ended =
+    let is : t ≡ answered (Some q) x s = took ∙ ap (λ out. answered out x s) out in
+    let did : Asked told q (if over then Some c else None) (work s n held faults end) (work t n held faults end) e e' = record {
+      answer = x;
+      book = book;
+      replies = subst (λ r. Replies told e e' r q x book) number replies;
+      took = ap (λ u. work u n held faults end) is;
+      follows = f;
+      ended = ap (λ b. if b then Some c else None) (ended ∙ ap (λ (u : Progress). u.ended) is) ∙ ap (λ d. if ends q x then Some d else None) is_end;
+    } in
+    subst (λ w. Asked told q (if over then Some c else None) w (work t n held faults end) e e') view did
+
+-- The session dropped its ask.
+pub quits : (o : Work) (s t : Progress) (n : ℕ) (held : Option (List ℕ)) (faults : ℕ) (end : Option EndKind) → work s n held faults end ≡ o → t ≡ quitting s.ended s → work t n held faults end ≡ record o { session = quitting o.session.ended o.session }
+quits o s t n held faults end view is =
+    subst (λ (w : Work). work t n held faults end ≡ record w { session = quitting w.session.ended w.session }) view (by s.ended is)
+  where
+    by : (b : Bool) → t ≡ quitting b s → work t n held faults end ≡ record (work s n held faults end) { session = quitting b s }
+    by true is = ap (λ u. work u n held faults end) is
+    by false is = ap (λ u. work u n held faults end) is

@@ -1,0 +1,116 @@
+-- What an answered ask leaves of the engine.
+use Rattle.std.proofs.Common.{ℕ, zero, suc, ◌≡◌, ◌<◌, ◌≤◌, Bool, true, false, List, [], ◌∷◌, length, Option, Some, None, arith, refl, sym, ◌∙◌, ap, subst}
+use Rattle.std.specs.Prelude.{slice_get, slice_set}
+use Rattle.ebr_base.specs.declared.numbers.SessionId.{SessionId}
+use Rattle.ebr_faults.specs.Faults.{Rises}
+use Rattle.ebr_ast.specs.declared.view.EditionView.{EditionView}
+use Rattle.ebr_asks.specs.declared.ask.Ask.{Ask}
+use Rattle.ebr_asks.specs.declared.ask.Ask.TheVariants as ask
+use Rattle.ebr_asks.specs.declared.answer.Answer.{Answer}
+use Rattle.ebr_asks.specs.declared.answer.Answer.TheVariants as answer
+use Rattle.ebr_record.specs.Keeper.{Keeper}
+use Rattle.ebr_database.specs.Database.{Replied}
+use Rattle.ebr_units.specs.Served.{served}
+use Rattle.ebr_session.specs.Has as session
+use Rattle.ebr_session.specs.Has.{Suits}
+use Rattle.ebr_core.specs.Asked as core
+use Rattle.ebr_core.specs.Machine.{Reply}
+use Rattle.ebr_core.specs.Engine.{Answers, EngineState, Gives, HasBook, IsAnswer, book_at, database_of, entry_of, has_given_up, with_book}
+use Rattle.ebr_worker.specs.Ends.{AnswersLeave}
+use Rattle.ebr_worker.specs.Paced.{IsSession}
+use Rattle.ebr_worker.specs.inside.Engine.{Replies}
+
+-- what a session asks is fit for the engine
+pub fit_ask : (q : Ask) → session.IsFit q → core.IsFit q
+fit_ask (ask.Ddl what text) fit = record { spelled = fit.spelled; small = fit.small }
+fit_ask q fit = tt
+
+entry_of_session : (s : SessionId) (q : Ask) (x : Answer) → (entry_of s q x).session ≡ s
+entry_of_session s q answer.Stopped = refl
+entry_of_session s q x = refl
+
+entry_of_answer : (s : SessionId) (q : Ask) (x : Answer) → (entry_of s q x).answer ≡ x
+entry_of_answer s q answer.Stopped = refl
+entry_of_answer s q x = refl
+
+-- ---- the keeper
+
+counted_so : (x : Answer) (r : Replied) (k l : Keeper) → IsAnswer x r k l → k.faults ≤ l.faults
+counted_so answer.DiskFault r k l is = is.faults
+counted_so answer.NoMemory r k l is = is.faults
+counted_so answer.Stopped r k l is = absurd is
+counted_so x r k l is = is.1.faults
+
+module _ {K : Type 0} (told : K → Keeper) where
+  counted_by : (b : Bool) (old new : K) (x : Answer) (r : Replied) → Gives told b old new x r → (told old).faults ≤ (told new).faults
+  counted_by false old new x r gives = counted_so x r (told old) (told new) gives
+  counted_by true old new x r gives = omega (arith, ap (λ k. (told k).faults) gives.1)
+
+  fault_by : (b : Bool) (old new : K) (x : Answer) (r : Replied) → Gives told b old new x r → x ≡ answer.DiskFault → Rises (told old).faults (told new).faults
+  fault_by false old new x r gives is = (subst (λ a. IsAnswer a r (told old) (told new)) is gives).cause
+  fault_by true old new x r gives is = absurd (not_both x is gives.0)
+    where
+      not_both : (a : Answer) → a ≡ answer.DiskFault → a ≡ answer.Stopped → ⊥
+      not_both a one two = cc
+
+  stopped_by : (b : Bool) (old new : K) (x : Answer) (r : Replied) → Gives told b old new x r → x ≡ answer.Stopped → b ≡ true
+  stopped_by false old new x r gives is = absurd (subst (λ a. IsAnswer a r (told old) (told new)) is gives)
+  stopped_by true old new x r gives is = refl
+
+  leaves_by : (b : Bool) (old new : K) (x : Answer) (r : Replied) → Gives told b old new x r → (b ≡ false → x ≡ answer.Done) → AnswersLeave x
+  leaves_by false old new x r gives done = subst AnswersLeave (sym (done refl)) tt
+  leaves_by true old new x r gives done = subst AnswersLeave (sym gives.0) tt
+
+-- ---- its book
+
+set_length : {X : Type 0} (xs : List X) (n : ℕ) (y : X) → length (slice_set xs n y) ≡ length xs
+set_length [] n y = refl
+set_length (z ∷ xs) zero y = refl
+set_length (z ∷ xs) (suc n) y = ap suc (set_length xs n y)
+
+set_here : {X : Type 0} (xs : List X) (n : ℕ) (y : X) → n < length xs → slice_get (slice_set xs n y) n ≡ Some y
+set_here [] n y within = absurd (omega (arith, within))
+set_here (z ∷ xs) zero y within = refl
+set_here (z ∷ xs) (suc n) y within = set_here xs n y (omega (arith, within))
+
+books_length : (books : List (Option EditionView)) (n : ℕ) (book : Option EditionView) → length (with_book books n book) ≡ length books
+books_length books zero book = refl
+books_length books (suc n) book = set_length books n book
+
+book_taken : (books : List (Option EditionView)) (n : ℕ) (book : Option EditionView) → 1 ≤ n → n ≤ length books → book_at (with_book books n book) n ≡ book
+book_taken books zero book first last = absurd (omega (arith, first))
+book_taken books (suc n) book first last = ap taken (set_here books n book (omega (arith, last)))
+  where
+    taken : Option (Option EditionView) → Option EditionView
+    taken None = None
+    taken (Some b) = b
+
+suits : (x : Answer) (book : Option EditionView) → HasBook x book → Suits (λ v e. served v) x book
+suits (answer.View v) book has = subst (λ b. Suits (λ v e. served v) (answer.View v) b) (sym has.0) (has.1, has.2)
+suits x book has = tt
+
+-- ---- the whole
+
+module _ {K : Type 0} (told : K → Keeper) (old mid : EngineState K) (s : SessionId) (q : Ask) (x : Answer) (seat : IsSession (length old.books) s) (did : Answers told old mid s q x) where
+  book_is : book_at mid.books s.0 ≡ did.book
+  book_is = ap (λ books. book_at books s.0) did.books ∙ book_taken old.books s.0 did.book seat.first seat.last
+
+  replies_taken : Replies told old (record mid { books = with_book mid.books s.0 None }) s q x (book_at mid.books s.0)
+  replies_taken = record {
+    adds = record {
+      is = did.entry;
+      of = entry_of_session s q x;
+      sessions = did.sessions;
+      books = books_length mid.books s.0 None ∙ ap length did.books ∙ books_length old.books s.0 did.book;
+      others = did.others;
+      counted = counted_by told (has_given_up old.history) old.keeper mid.keeper x (Reply (database_of old) s q) did.gives;
+      fault = λ is. fault_by told (has_given_up old.history) old.keeper mid.keeper x (Reply (database_of old) s q) did.gives (sym (entry_of_answer s q x) ∙ is);
+      stopped = λ is. stopped_by told (has_given_up old.history) old.keeper mid.keeper x (Reply (database_of old) s q) did.gives (sym (entry_of_answer s q x) ∙ is);
+    };
+    suits = suits x _ (subst (HasBook x) (sym book_is) did.has_book);
+    leaves = λ is. leaves_by told (has_given_up old.history) old.keeper mid.keeper x (Reply (database_of old) s q) did.gives (did.leaves is);
+    stays = did.stays;
+  }
+
+  pub replies : (new : EngineState K) (book : Option EditionView) → new ≡ record mid { books = with_book mid.books s.0 None } → book ≡ book_at mid.books s.0 → Replies told old new s q x book
+  replies new book is book_told = subst (λ n. Replies told old n s q x book) (sym is) (subst (Replies told old (record mid { books = with_book mid.books s.0 None }) s q x) (sym book_told) replies_taken)

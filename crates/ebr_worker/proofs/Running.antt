@@ -1,0 +1,212 @@
+-- What comes of scripts, by their workers.
+use Rattle.std.proofs.Common.{ℕ, zero, suc, ◌≡◌, ◌+◌, ◌<◌, ◌≤◌, Bool, true, false, List, [], ◌∷◌, ◌++◌, length, take, get_or, Option, Some, None, inl, inr, arith, refl, sym, ◌∙◌, ap, subst}
+use Rattle.std.specs.Prelude.{All, ◌⊎◌, IsSome, map, slice_get}
+use Rattle.std.proofs.lemmas.List.{length-append, length-map, length-take-le, map-append, take_more}
+use Rattle.ebr_base.specs.declared.numbers.SessionId.{SessionId}
+use Rattle.ebr_base.specs.declared.numbers.TheConstants.{MAX_COUNT}
+use Rattle.ebr_faults.specs.Faults.{Rises}
+use Rattle.ebr_report.specs.declared.ends.SessionEnd.{SessionEnd}
+use Rattle.ebr_asks.specs.declared.entry.Entry.{Entry}
+use Rattle.ebr_record.specs.Keeper.{Keeper}
+use Rattle.ebr_session.specs.Has.{Follows, Progress, begun}
+use Rattle.ebr_core.specs.Engine.{EngineState, database_of, no_books}
+use Rattle.ebr_core.specs.History.{IsLive, Mine}
+use Rattle.ebr_worker.specs.Matches.{has_fault}
+use Rattle.ebr_worker.specs.Paced.{IsSession, is_over}
+use Rattle.ebr_worker.specs.Runs.{AreEnds, IsHistory, nth_session}
+use Rattle.ebr_worker.specs.inside.Work.{Work}
+use Rattle.ebr_worker.specs.inside.Worker.{IsEndOf, StandsBy, Works}
+use Rattle.ebr_worker.specs.inside.Rehearsal.{AllEnded, AllFrom, AllStand, AreBegun, EndsAt, Faultless, IsBegun, IsEndAt, scripts_of}
+use Rattle.ebr_worker.proofs.Ending.{is_end}
+use Rattle.ebr_worker.proofs.First.{first_live}
+
+same_some : {X : Type 0} (a b : X) → Some a ≡ Some b → a ≡ b
+same_some a b e = cc
+
+-- ---- one element more
+
+module _ {X : Type 0} where
+  last_or : (xs : List X) (x y : X) (i : ℕ) → slice_get (xs ++ x ∷ []) i ≡ Some y → (slice_get xs i ≡ Some y) ⊎ ((i ≡ length xs) × (x ≡ y))
+  last_or [] x y zero is = inr (refl, same_some x y is)
+  last_or [] x y (suc i) is = cc
+  last_or (z ∷ xs) x y zero is = inl is
+  last_or (z ∷ xs) x y (suc i) is = elim (last_or xs x y i is) [ inl before ↦ inl before | inr (at, same) ↦ inr (ap suc at, same) ]
+
+  pub from_more : (P : ℕ → X → Type 0) (xs : List X) (x : X) → AllFrom P 0 xs → P (length xs) x → AllFrom P 0 (xs ++ x ∷ [])
+  from_more P xs x all here i y is =
+      elim (last_or xs x y i is) [ inl before ↦ all i y before | inr (at, same) ↦ subst (P (0 + i)) same (subst (λ k. P k x) (omega (arith, at)) here) ]
+
+  pub from_head : (P : ℕ → X → Type 0) (n : ℕ) (x : X) (xs : List X) → AllFrom P n (x ∷ xs) → P n x
+  from_head P n x xs all = subst (λ k. P k x) (omega arith) (all zero x refl)
+
+  pub from_tail : (P : ℕ → X → Type 0) (n : ℕ) (x : X) (xs : List X) → AllFrom P n (x ∷ xs) → AllFrom P (n + 1) xs
+  from_tail P n x xs all i y is = subst (λ k. P k y) (omega arith) (all (suc i) y is)
+
+-- ---- workers that have just begun
+
+pub begun_none : AreBegun [] []
+begun_none = record { scripts_are = refl; each = λ i w is. absurd (none i w is) }
+  where
+    none : (i : ℕ) (w : Work) → slice_get [] i ≡ Some w → ⊥
+    none i w is = cc
+
+pub begun_more : (scripts : List (List ℕ)) (ws : List Work) (script : List ℕ) (w : Work) → AreBegun scripts ws → IsBegun (length ws + 1) w → w.session.script ≡ script → AreBegun (scripts ++ script ∷ []) (ws ++ w ∷ [])
+begun_more scripts ws script w all here is = record {
+  scripts_are = map-append (λ (v : Work). v.session.script) ws (w ∷ []) ∙ ap (λ xs. xs ++ w.session.script ∷ []) all.scripts_are ∙ ap (λ s. scripts ++ s ∷ []) is;
+  each = λ i v is. subst (λ n. IsBegun n v) (omega arith) (from_more (λ i v. IsBegun (i + 1) v) ws w (λ i v is. subst (λ n. IsBegun n v) (omega arith) (all.each i v is)) here i v is);
+}
+
+pub begun_so : (n : ℕ) (script : List ℕ) (w : Work) → w.session ≡ begun (record { 0 = n }) script → Follows w.session → w.written ≡ [] → w.end ≡ None → IsBegun n w
+begun_so n script w is f written no_end = record {
+  session = is ∙ ap (begun (record { 0 = n })) (sym (ap (λ (s : Progress). s.script) is));
+  follows = f;
+  written = written;
+  no_end = no_end;
+}
+
+module _ {K : Type 0} (e : EngineState K) (none : e.history ≡ []) where
+  pub works_first : (n : ℕ) (w : Work) → IsSession e.sessions (record { 0 = n }) → e.sessions ≡ length e.books → IsBegun n w → Works w e
+  works_first n w is_session books begun_yet =
+      let s : Progress = w.session in
+      let number : s.session ≡ record { 0 = n } = ap (λ (t : Progress). t.session) begun_yet.session in
+      let mine : s.transcript ≡ [] = ap (λ (t : Progress). t.transcript) begun_yet.session in
+      record {
+        goes_on = ap (λ (t : Progress). t.ended) begun_yet.session;
+        no_quit = ap (λ (t : Progress). t.quit) begun_yet.session;
+        no_ask = ap (λ (t : Progress). t.out) begun_yet.session;
+        follows = begun_yet.follows;
+        seated = record {
+          is_session = subst (λ m. IsSession m s.session) books (subst (IsSession e.sessions) (sym number) is_session);
+          matches = ap (λ h. Mine h s.session) none ∙ ap (map _) (sym mine);
+        };
+        not_over = ap (λ h. is_over h s.session) none;
+        few = omega (arith, ap length mine);
+        written = begun_yet.written ∙ sym (ap (λ (t : Progress). t.printed) begun_yet.session);
+        live = subst (IsLive (database_of e)) (sym number) (first_live e (record { 0 = n }) none is_session);
+      }
+
+  pub all_first : (scripts : List (List ℕ)) (ws : List Work) → e.sessions ≡ length scripts → length e.books ≡ e.sessions → AreBegun scripts ws → AllStand ws e
+  all_first scripts ws sessions books begun_yet =
+      let count : length ws ≡ length scripts = sym (length-map ws (λ (w : Work). w.session.script)) ∙ ap length begun_yet.scripts_are in
+      record {
+        count = count ∙ sym sessions ∙ sym books;
+        number = λ i w is. ap (λ (t : Progress). t.session) (begun_yet.each i w is).session;
+        stand = λ i w is. subst (λ o. StandsBy o w e) (sym (begun_yet.each i w is).no_end)
+            (works_first (i + 1) w (record { first = omega arith; last = omega (arith, within ws i w is, count, sessions) }) (sym books) (begun_yet.each i w is));
+      }
+    where
+      within : (ws : List Work) (i : ℕ) (w : Work) → slice_get ws i ≡ Some w → i < length ws
+      within [] i w is = cc
+      within (v ∷ ws) zero w is = omega arith
+      within (v ∷ ws) (suc i) w is = omega (arith, within ws i w is)
+
+-- ---- workers that have ended
+
+script_at : (ws : List Work) (scripts : List (List ℕ)) (i : ℕ) (w : Work) (script : List ℕ) → scripts_of ws ≡ scripts → slice_get ws i ≡ Some w → slice_get scripts i ≡ Some script → w.session.script ≡ script
+script_at ws scripts i w script same is there = same_some w.session.script script (sym (mapped ws i w is) ∙ ap (λ xs. slice_get xs i) same ∙ there)
+  where
+    mapped : (ws : List Work) (i : ℕ) (w : Work) → slice_get ws i ≡ Some w → slice_get (scripts_of ws) i ≡ Some w.session.script
+    mapped [] i w is = cc
+    mapped (v ∷ ws) zero w is = ap Some (ap (λ (u : Work). u.session.script) (same_some v w is))
+    mapped (v ∷ ws) (suc i) w is = mapped ws i w is
+
+pub ends_first : {K : Type 0} (scripts : List (List ℕ)) (ws : List Work) (e : EngineState K) → scripts_of ws ≡ scripts → AllEnded ws e → AllFrom (EndsAt scripts e) 0 ws
+ends_first scripts ws e same all i w is =
+    let how = all.ended i w is in
+    subst (λ k. EndsAt scripts e k w) (omega arith) (record {
+      number = all.number i w is;
+      end = how.0;
+      ended = how.1;
+      over = how.2;
+      script = λ script there. script_at ws scripts i w script same is there;
+    })
+
+pub end_at : {S K : Type 0} (held : S → Option (List ℕ)) (faults : S → ℕ) (scripts : List (List ℕ)) (e : EngineState K) (i : ℕ) (w : Work) (x : SessionEnd S) → EndsAt scripts e i w → IsEndOf held faults w x → IsSome x.sink → IsEndAt held faults scripts e.history i x
+end_at held faults scripts e i w x at told sink = record {
+  sink = sink;
+  is_end = λ script there. is_end held faults w e at.end (nth_session i) script x at.ended at.over at.number (at.script script there) told;
+}
+
+-- ---- the disk
+
+no_rise : (a b : ℕ) → Rises a b → b ≡ 0 → ⊥
+no_rise a b rises none = omega (arith, rises, none)
+
+pub no_fault : {K : Type 0} (told : K → Keeper) (first e : EngineState K) → ((k : K) → (told k).faults ≡ 0) → Faultless told first e → has_fault e.history ≡ false
+no_fault told first e none faultless = by (has_fault e.history) refl
+  where
+    by : (b : Bool) → has_fault e.history ≡ b → has_fault e.history ≡ false
+    by true is = absurd (no_rise (told first.keeper).faults (told e.keeper).faults (faultless is) (none e.keeper))
+    by false is = is
+
+-- ---- the loops over workers and sinks
+
+pub end_some : {K : Type 0} (scripts : List (List ℕ)) (e : EngineState K) (i : ℕ) (w : Work) → EndsAt scripts e i w → IsSome w.end
+end_some scripts e i w at = subst (λ o. IsSome o) (sym at.ended) refl
+
+pub end_few : {K : Type 0} (scripts : List (List ℕ)) (e : EngineState K) (i : ℕ) (w : Work) → EndsAt scripts e i w → length w.session.transcript ≤ MAX_COUNT
+end_few scripts e i w at = at.over.few
+
+module _ {X : Type 0} (P : ℕ → X → Type 0) where
+  pub next_first : (n : ℕ) (xs rest : List X) (x : X) → xs ≡ x ∷ rest → AllFrom P n xs → P n x
+  next_first n xs rest x cut all = from_head P n x rest (subst (AllFrom P n) cut all)
+
+  pub next_rest : {Y : Type 0} (ys ys' : List Y) (y : Y) (xs rest : List X) (x : X) → xs ≡ x ∷ rest → ys' ≡ ys ++ y ∷ [] → AllFrom P (length ys) xs → AllFrom P (length ys') rest
+  next_rest ys ys' y xs rest x cut more all =
+      subst (λ n. AllFrom P n rest) (sym (ap length more ∙ length-append ys (y ∷ []))) (from_tail P (length ys) x rest (subst (AllFrom P (length ys)) cut all))
+
+  pub next_told : (ys ys' : List X) (y : X) → ys' ≡ ys ++ y ∷ [] → AllFrom P 0 ys → P (length ys) y → AllFrom P 0 ys'
+  next_told ys ys' y more all here = subst (AllFrom P 0) (sym more) (from_more P ys y all here)
+
+pub tail_all : {X : Type 0} (P : X → Type 0) (xs rest : List X) (x : X) → xs ≡ x ∷ rest → All P xs → All P rest
+tail_all P xs rest x cut all = λ k d within. (subst (All P) cut all) (suc k) d (omega (arith, within))
+
+pub none_told : {Y : Type 0} (Q : ℕ → Y → Type 0) (ys : List Y) → ys ≡ [] → AllFrom Q 0 ys
+none_told Q ys none = subst (AllFrom Q 0) (sym none) (λ i y is. absurd (nothing i y is))
+  where
+    nothing : {Y : Type 0} (i : ℕ) (y : Y) → slice_get [] i ≡ Some y → ⊥
+    nothing i y is = cc
+
+pub are_ends : {S : Type 0} (held : S → Option (List ℕ)) (faults : S → ℕ) (scripts : List (List ℕ)) (history history' : List Entry) (ends : List (SessionEnd S)) → history' ≡ history → IsHistory (length scripts) history
+    → AllFrom (IsEndAt held faults scripts history) 0 ends → length ends ≡ length scripts → AreEnds held faults scripts history' ends
+are_ends held faults scripts history history' ends same is_history all count =
+    subst (λ h. AreEnds held faults scripts h ends) (sym same) (record {
+      is_history = is_history;
+      count = count;
+      each = λ i script x there is. (subst (λ k. IsEndAt held faults scripts history k x) (omega arith) (all i x is)).is_end script there;
+      sinks = λ i x is. (all i x is).sink;
+    })
+
+-- One worker more was made, for the script at a place.
+pub begun_at : (scripts : List (List ℕ)) (ws ws' : List Work) (at : ℕ) (script d : List ℕ) (w : Work) (s : Progress) → at < length scripts → script ≡ get_or scripts at d → (bytes : List ℕ) → bytes ≡ script → s ≡ begun (record { 0 = at + 1 }) bytes → Follows s
+    → w.session ≡ s → w.written ≡ [] → w.end ≡ None → ws' ≡ ws ++ w ∷ [] → AreBegun (take at scripts) ws → AreBegun (take (at + 1) scripts) ws'
+begun_at scripts ws ws' at script d w s within is bytes same begins f session written no_end more all =
+    let count : length ws ≡ at = sym (length-map ws (λ (v : Work). v.session.script)) ∙ ap length all.scripts_are ∙ length-take-le at scripts (omega (arith, within)) in
+    let here : w.session ≡ begun (record { 0 = length ws + 1 }) script = session ∙ begins ∙ ap (begun (record { 0 = at + 1 })) same ∙ ap (λ n. begun (record { 0 = n + 1 }) script) (sym count) in
+    subst (AreBegun (take (at + 1) scripts)) (sym more)
+    (subst (λ xs. AreBegun xs (ws ++ w ∷ [])) (sym (take_more scripts at d within ∙ ap (λ x. take at scripts ++ x ∷ []) (sym is)))
+    (begun_more (take at scripts) ws script w all (begun_so (length ws + 1) script w here (subst Follows (sym session) f) written no_end) (ap (λ (t : Progress). t.script) here)))
+
+-- ---- the beginning
+
+pub books_count : (n : ℕ) → length (no_books n) ≡ n
+books_count zero = refl
+books_count (suc n) = ap suc (books_count n)
+
+pub begun_count : (scripts : List (List ℕ)) (ws : List Work) → AreBegun scripts ws → length ws ≡ length scripts
+begun_count scripts ws all = sym (length-map ws (λ (w : Work). w.session.script)) ∙ ap length all.scripts_are
+
+pub stand_first : {K : Type 0} (e : EngineState K) (n : ℕ) (k : K) (scripts : List (List ℕ)) (ws ws' : List Work) → e ≡ record { history = []; sessions = n; books = no_books n; keeper = k } → n ≡ length scripts → ws' ≡ ws → AreBegun scripts ws → AllStand ws' e
+stand_first {K} e n k scripts ws ws' is count same all =
+    let sessions : e.sessions ≡ n = ap (λ (f : EngineState K). f.sessions) is in
+    subst (λ xs. AllStand xs e) (sym same)
+    (all_first e (ap (λ (f : EngineState K). f.history) is) scripts ws (sessions ∙ count) (ap (λ (f : EngineState K). length f.books) is ∙ books_count n ∙ sym sessions) all)
+
+pub order_first : (scripts : List (List ℕ)) (ws ws' : List Work) (order : List SessionId) → ws' ≡ ws → AreBegun scripts ws → All (IsSession (length scripts)) order → All (IsSession (length ws')) order
+order_first scripts ws ws' order same all sessions = subst (λ n. All (IsSession n) order) (sym (ap length same ∙ begun_count scripts ws all)) sessions
+
+-- the scripts of the workers that have ended, and how many they are
+pub ended_scripts : (scripts : List (List ℕ)) (ws ws' ended : List Work) → ws' ≡ ws → AreBegun scripts ws → scripts_of ended ≡ scripts_of ws' → (scripts_of ended ≡ scripts) × (length ended ≡ length scripts)
+ended_scripts scripts ws ws' ended same all kept_so =
+    let is : scripts_of ended ≡ scripts = kept_so ∙ ap scripts_of same ∙ all.scripts_are in
+    (is, sym (length-map ended (λ (w : Work). w.session.script)) ∙ ap length is)

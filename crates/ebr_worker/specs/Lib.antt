@@ -1,0 +1,5 @@
+pub mod Matches
+pub mod Paced
+pub mod Ends
+pub mod Runs
+pub mod inside

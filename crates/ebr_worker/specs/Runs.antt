@@ -1,0 +1,36 @@
+-- What comes of scripts that are run from an empty database.
+use Rattle.std.specs.Prelude.{ℕ, ◌≡◌, ◌+◌, false, IsSome, IfSome, List, [], length, Option, Some, slice_get}
+use Rattle.ebr_base.specs.declared.numbers.SessionId.{SessionId}
+use Rattle.ebr_asks.specs.declared.entry.Entry.{Entry}
+use Rattle.ebr_report.specs.declared.ends.SessionEnd.{SessionEnd}
+use Rattle.ebr_core.specs.Machine.{Build}
+use Rattle.ebr_core.specs.History.{Legal}
+use Rattle.ebr_worker.specs.Matches.{has_fault, has_stop}
+use Rattle.ebr_worker.specs.Ends.{IsEnd}
+
+-- the sessions are numbered in the order of their scripts
+abbrev pub nth_session : ℕ → SessionId
+nth_session i = record { 0 = i + 1 }
+
+-- the sink holds nothing, where it tells
+abbrev pub IsUnwritten : {S : Type 0} → (S → Option (List ℕ)) → S → Type 0
+IsUnwritten held s = IfSome (held s) (λ bytes. bytes ≡ [])
+
+-- The history is legal from the empty database with so many sessions, and no entry of it is that the disk failed.
+pub record IsHistory (n : ℕ) (history : List Entry) : Type 0 where
+  pub legal : Legal (Build [] n) history
+  pub no_fault : has_fault history ≡ false
+
+-- Each script was run as one session, in order, with a sink of its own.
+pub record AreEnds {S : Type 0} (held : S → Option (List ℕ)) (faults : S → ℕ) (scripts : List (List ℕ)) (history : List Entry) (ends : List (SessionEnd S)) : Type 0 where
+  pub is_history : IsHistory (length scripts) history
+  pub count : length ends ≡ length scripts
+  pub each : (i : ℕ) (script : List ℕ) (e : SessionEnd S) → slice_get scripts i ≡ Some script → slice_get ends i ≡ Some e → IsEnd held faults history script (nth_session i) e
+  pub sinks : (i : ℕ) (e : SessionEnd S) → slice_get ends i ≡ Some e → IsSome e.sink
+
+-- A script was run as the one session. None of its asks is answered that the engine has stopped, since it ends before.
+pub record RanAlone {S : Type 0} (held : S → Option (List ℕ)) (faults : S → ℕ) (script : List ℕ) (history : List Entry) (e : SessionEnd S) : Type 0 where
+  pub is_history : IsHistory 1 history
+  pub is_end : IsEnd held faults history script (nth_session 0) e
+  pub sink : IsSome e.sink
+  pub no_stop : has_stop history ≡ false

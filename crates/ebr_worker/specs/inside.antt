@@ -1,0 +1,5 @@
+pub mod Engine
+pub mod Memory
+pub mod Rehearsal
+pub mod Work
+pub mod Worker

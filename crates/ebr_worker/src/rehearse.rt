@@ -1,0 +1,66 @@
+//! A rehearsal: the sessions in their turns.
+
+ghost use Rattle.std.specs.Prelude.{◌≡◌, ◌<◌, ◌≤◌, [], All, length, Some, None};
+ghost use Rattle.std.specs.List.{position};
+ghost use Rattle.ebr_worker.specs.Paced.{IsSession, Paced};
+ghost use Rattle.ebr_worker.specs.inside.Rehearsal.{AllEnded, AllStand, Faultless, Rehearses, TurnedAt, goes_on, scripts_of};
+
+use crate::worker::Worker;
+use ebr_base::SessionId;
+use ebr_core::Engine;
+use ebr_outside::Sink;
+use ebr_record::Keep;
+
+/// Runs the sessions of an engine by a written order, in which each number is a turn of that session, and then each to its end, the first one
+/// first. A turn makes one entry; that of a session that has ended is skipped.
+pub fn rehearse_core<K: Keep, S: Sink>(
+    engine: &mut Engine<K>,
+    workers: &mut [Worker<S>],
+    order: &[SessionId],
+)
+    requires stand { AllStand workers.old engine.old }
+    requires first { engine.old.history ≡ [] }
+    requires order { All (IsSession (length workers.old)) order.now }
+    ensures paced { Paced (length workers.old) order.now engine.new.history }
+    ensures ended { AllEnded workers.new engine.new }
+    ensures scripts { scripts_of workers.new ≡ scripts_of workers.old }
+    ensures sessions { engine.new.sessions ≡ engine.old.sessions }
+    ensures faultless { Faultless K.told engine.old engine.new }
+{
+    take_turns(engine, workers, order);
+    while let Some(at) = first_working(workers) {
+        turn_at(engine, workers, at);
+    }
+}
+
+/// Takes the turns of an order.
+fn take_turns<K: Keep, S: Sink>(
+    engine: &mut Engine<K>,
+    workers: &mut [Worker<S>],
+    order: &[SessionId],
+)
+    requires stand { AllStand workers.old engine.old }
+    requires first { engine.old.history ≡ [] }
+    requires order { All (IsSession (length workers.old)) order.now }
+    ensures { Rehearses K.told order.now [] workers.old workers.new engine.old engine.new }
+{
+    for session in order {
+        turn_at(engine, workers, session.0 as usize - 1);
+    }
+}
+
+/// A turn of the session at a place.
+fn turn_at<K: Keep, S: Sink>(engine: &mut Engine<K>, workers: &mut [Worker<S>], at: usize)
+    requires stand { AllStand workers.old engine.old }
+    requires within { at < length workers.old }
+    ensures { TurnedAt K.told at workers.old workers.new engine.old engine.new }
+{
+    workers[at].turn(engine);
+}
+
+/// The place of the first session that hasn't ended.
+fn first_working<S: Sink>(workers: &[Worker<S>]) -> Option<usize>
+    ensures { result ≡ position goes_on workers.now }
+{
+    workers.iter().position(|worker| worker.end().is_none())
+}

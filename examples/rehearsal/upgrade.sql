@@ -1,0 +1,24 @@
+-- Session 4: the second version, which has euros and cents in columns of their own.
+CREATE EDITION v2;
+ALTER SESSION SET EDITION = v2;
+CREATE OR REPLACE EDITIONING VIEW orders AS SELECT id, eur, ct FROM orders_t;
+CREATE TRIGGER orders_f BEFORE INSERT OR UPDATE ON orders_t FOR EACH ROW FORWARD CROSSEDITION
+BEGIN :NEW.eur := TRUNC(:NEW.price / 100); :NEW.ct := MOD(:NEW.price, 100); END;
+/
+CREATE TRIGGER orders_r BEFORE INSERT OR UPDATE ON orders_t FOR EACH ROW REVERSE CROSSEDITION
+BEGIN :NEW.price := :NEW.eur * 100 + :NEW.ct; END;
+/
+CREATE OR REPLACE PACKAGE BODY shop IS
+  sold NUMBER := 0;
+  PROCEDURE sell(i NUMBER, p NUMBER) IS
+  BEGIN INSERT INTO orders VALUES (i, TRUNC(p / 100), MOD(p, 100)); sold := sold + 1; END;
+  FUNCTION total RETURN NUMBER IS s NUMBER;
+  BEGIN SELECT SUM(eur * 100 + ct) INTO s FROM orders; RETURN s; END;
+END;
+/
+APPLY TRIGGER orders_f;
+COMMIT;
+ALTER DATABASE DEFAULT EDITION = v2;
+CALL shop.sell(5, 1250);
+SELECT * FROM orders;
+COMMIT;
