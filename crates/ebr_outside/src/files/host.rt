@@ -18,6 +18,7 @@ use std::marker::Model;
 pub struct FileHost {
     rt: HostRuntime,
     faults: u64,
+    placeholders: [Option<File>; 3],
 }
 
 impl Model for FileHost {
@@ -35,7 +36,12 @@ impl FileHost {
     pub fn new(rt: HostRuntime) -> FileHost
         ensures { result ≡ no_faults }
     {
-        FileHost { rt, faults: 0 }
+        let placeholders = [placeholder(&rt), placeholder(&rt), placeholder(&rt)];
+        FileHost {
+            rt,
+            faults: 0,
+            placeholders,
+        }
     }
 }
 
@@ -95,6 +101,12 @@ impl Host for FileHost {
     {
         OutSink::new(self.rt)
     }
+}
+
+/// A file that takes the number of a standard stream that the process was begun without. So no sink is made with the number of
+/// the standard output, where the report would be written into it.
+fn placeholder(rt: &HostRuntime) -> Option<File> {
+    File::open(rt, "/dev/null").ok()
 }
 
 /// Opens a file for reading.
