@@ -1,15 +1,16 @@
 -- What is noted of names on the way through a list, and what it finds.
-use Rattle.std.proofs.Common.{◌≡◌, ℕ, ◌+◌, Bool, true, false, cond, List, length, Some, None, refl, sym, ap, ◌∙◌}
+use Rattle.std.proofs.Common.{◌≡◌, ℕ, ◌+◌, Bool, true, false, cond, if◌then◌else◌, suc, ◌≤◌, arith, List, length, Option, Some, None, Result, Ok, Err, OnOk, refl, sym, ap, ◌∙◌, rules}
 use Rattle.std.specs.Prelude.{find, slice_get, option_and_then, nat_lt}
 use Rattle.std.specs.List.{position, position_from, position_or_len}
 use Rattle.std.specs.Option.{option_or, unwrap_or}
+use Rattle.std.specs.Result.{is_ok}
 use Rattle.std.proofs.lemmas.Bool.{ltb-false}
 use Rattle.std.proofs.lemmas.Iterator.Adapters.{position_from-zero}
 use Rattle.std.proofs.lemmas.List.Folds.{find_at}
 use Rattle.std.proofs.lemmas.Option.{slice_get_past}
 use Rattle.ebr_ast.specs.declared.unit.PackageItem.{PackageItem}
 use Rattle.ebr_ast.specs.Members.{variables_before, code_given}
-use Rattle.ebr_ast.specs.inside.Notes.{Notes, note}
+use Rattle.ebr_ast.specs.inside.Notes.{Notes, note, where_so, weight}
 
 -- the places noted so far, and those in the rest
 abbrev pub Places : {X : Type 0} → (List ℕ → X → Bool) → Notes → ℕ → List X → List X → Type 0
@@ -33,3 +34,19 @@ at_place p xs = ap (option_and_then (slice_get xs)) (sym (position_from-zero p x
 
 pub same_place : {X : Type 0} (p : X → Bool) (xs : List X) → position_from p 0 xs ≡ position p xs
 same_place p xs = sym (position_from-zero p xs)
+
+-- what is said of an answer, where there is one
+pub is_done : {T E Q : Type 0} (r : Result T E) → is_ok r ≡ true → OnOk r Q → Q
+is_done (Ok x) e q = q
+is_done (Err x) e q = search (rules, e)
+
+-- the variables before a declaration, with one item counted
+pub count_more : (d k : Bool) (o : Option ℕ) (a r : ℕ) → unwrap_or (option_or o (where_so d a)) (a + weight k + r) ≡ unwrap_or o (a + (if d then 0 else if k then suc r else r))
+count_more d k (Some x) a r = refl
+count_more true k None a r = omega (arith)
+count_more false true None a r = omega (arith)
+count_more false false None a r = omega (arith)
+
+pub few_more : (k : Bool) (a i w : ℕ) → w ≡ weight k → a ≤ i → a + w ≤ i + 1
+few_more true a i w e h = omega (arith, e, h)
+few_more false a i w e h = omega (arith, e, h)

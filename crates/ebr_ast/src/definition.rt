@@ -18,7 +18,7 @@ pub enum Statement {
 }
 
 /// A statement that changes the catalogue.
-#[derive(Debug, Drop)]
+#[derive(Drop)]
 pub enum Definition {
     /// `CREATE EDITION name AS CHILD OF parent`; without a parent it is the last edition.
     CreateEdition {
@@ -61,7 +61,7 @@ pub enum Definition {
 }
 
 /// A column in CREATE TABLE.
-#[derive(Debug, Drop)]
+#[derive(Drop)]
 pub struct ColumnTree {
     pub name: Name,
     pub ty: DeclaredType,
@@ -75,7 +75,7 @@ pub enum ColumnConstraint {
 }
 
 /// The kind of object that a DROP names.
-#[derive(Clone, Copy, Debug, PartialEq, Eq)]
+#[derive(Clone, Copy, Debug)]
 pub enum ObjectKind {
     Procedure,
     Function,

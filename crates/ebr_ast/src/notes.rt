@@ -1,4 +1,4 @@
-//! Numbers that are noted for names.
+//! What is noted for names.
 
 ghost use Rattle.std.specs.Prelude.{◌≡◌, OnOk};
 ghost use Rattle.std.specs.Option.{is_some};
@@ -7,22 +7,12 @@ ghost use Rattle.ebr_ast.specs.inside.Notes.{note, of_name, NotesFirst, NotesLas
 use ebr_base::{CloneIn, Name, NoMemory};
 use indexmap::IndexMap;
 
-/// The place of a name, or how many stand before it.
-pub fn noted(notes: &IndexMap<Name, usize>, name: &Name) -> Option<usize>
+/// What is noted of a name.
+pub fn noted<V: Copy>(notes: &IndexMap<Name, V>, name: &Name) -> Option<V>
     ensures { result ≡ note name.now notes.now.entries }
 {
     match notes.get(name) {
-        Some(number) => Some(*number),
-        None => None,
-    }
-}
-
-/// The code of a name.
-pub fn coded(notes: &IndexMap<Name, u64>, name: &Name) -> Option<u64>
-    ensures { result ≡ note name.now notes.now.entries }
-{
-    match notes.get(name) {
-        Some(code) => Some(*code),
+        Some(value) => Some(*value),
         None => None,
     }
 }
@@ -38,7 +28,7 @@ pub fn note_first(
     if has_note(notes, name) {
         return Ok(());
     }
-    put(notes, name, number)
+    note_last(notes, name, number)
 }
 
 fn has_note(notes: &IndexMap<Name, usize>, name: &Name) -> bool
@@ -47,22 +37,15 @@ fn has_note(notes: &IndexMap<Name, usize>, name: &Name) -> bool
     notes.contains_key(name)
 }
 
-/// Notes a number for a name.
-fn put(notes: &mut IndexMap<Name, usize>, name: &Name, number: usize) -> Result<(), NoMemory>
-    ensures { OnOk result (NotesLast (of_name name.now number) notes.old.entries notes.new.entries) }
+/// Notes a value for a name, in the place of an earlier one.
+pub fn note_last<V: Copy>(
+    notes: &mut IndexMap<Name, V>,
+    name: &Name,
+    value: V,
+) -> Result<(), NoMemory>
+    ensures { OnOk result (NotesLast (of_name name.now value) notes.old.entries notes.new.entries) }
 {
-    let alloc = *notes.allocator();
-    let key = name.clone_in(alloc)?;
-    notes.insert(key, number)?;
-    Ok(())
-}
-
-/// Notes a code for a name, in the place of an earlier one.
-pub fn note_code(notes: &mut IndexMap<Name, u64>, name: &Name, code: u64) -> Result<(), NoMemory>
-    ensures { OnOk result (NotesLast (of_name name.now code) notes.old.entries notes.new.entries) }
-{
-    let alloc = *notes.allocator();
-    let key = name.clone_in(alloc)?;
-    notes.insert(key, code)?;
+    let key = name.clone_in(*notes.allocator())?;
+    notes.insert(key, value)?;
     Ok(())
 }

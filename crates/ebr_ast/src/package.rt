@@ -1,19 +1,18 @@
 //! The lists of packages, with what look-ups by a name want of them.
 
-ghost use Rattle.std.specs.Prelude.{◌≡◌, IfOk, OnOk, find};
+ghost use Rattle.std.specs.Prelude.{◌≡◌, [], true, IfOk, OnOk, find};
 ghost use Rattle.std.specs.List.{position};
 ghost use Rattle.std.specs.Option.{option_copied};
+ghost use Rattle.std.specs.Result.{is_ok};
 ghost use Rattle.ebr_ast.specs.Members as spec;
 ghost use Rattle.ebr_ast.specs.inside.Notes as inside;
 
-use crate::notes::{coded, note_code, note_first, noted};
+use crate::notes::{note_first, note_last, noted};
 use crate::statement::Decl;
 use crate::unit::{PackageItem, Subprogram};
 use ebr_base::{List, Name, NoMemory, Shared};
 use indexmap::IndexMap;
 use std::alloc::Global;
-use std::fmt;
-use std::fmt::{Debug, Formatter, Write};
 use std::marker::Model;
 
 /// The items of a package's specification, which contracts see as their list. No look-up by a name goes through the list.
@@ -28,17 +27,12 @@ pub struct PackageItems {
 struct ItemNotes {
     /// The place of the first item of each name.
     places: IndexMap<Name, usize>,
-    counts: Counts,
+    /// How many variables and constants stand before the first declaration of each name.
+    before: IndexMap<Name, usize>,
+    /// How many variables and constants there are.
+    variables: usize,
     /// The code that each exception is given last.
     codes: IndexMap<Name, u64>,
-}
-
-/// How many variables and constants there are.
-#[derive(Drop)]
-struct Counts {
-    /// Those before the first declaration of each name.
-    before: IndexMap<Name, usize>,
-    all: usize,
 }
 
 impl Model for PackageItems {
@@ -54,7 +48,7 @@ impl Model for PackageItems {
 
     ghost view = { λ s. s.list };
 
-    ghost invariant = { λ s. AreNoted s.list s.notes.places.entries s.notes.counts.before.entries s.notes.counts.all s.notes.codes.entries };
+    ghost invariant = { λ s. AreNoted s.list s.notes.places.entries s.notes.before.entries s.notes.variables s.notes.codes.entries };
 }
 
 impl PackageItems {
@@ -62,7 +56,9 @@ impl PackageItems {
     pub fn shared(alloc: Global, list: List<PackageItem>) -> Result<Shared<PackageItems>, NoMemory>
         ensures { IfOk result (λ items. items ≡ list) }
     {
-        let notes = notes_of(alloc, list.as_slice())?;
+        let mut notes = no_notes(alloc);
+        let done = note_items(&mut notes, list.as_slice());
+        let (list, notes) = kept(list, notes, done)?;
         Ok(Shared::new(alloc, PackageItems { list, notes })?)
     }
 
@@ -87,47 +83,61 @@ impl PackageItems {
     pub fn variables_before(&self, name: &Name) -> usize
         ensures { result ≡ spec.variables_before name.now self.now }
     {
-        noted(&self.notes.counts.before, name).unwrap_or(self.notes.counts.all)
+        noted(&self.notes.before, name).unwrap_or(self.notes.variables)
     }
 
     /// The code that EXCEPTION_INIT gives an exception; of two the last counts.
     pub fn code_given(&self, name: &Name) -> Option<u64>
         ensures { result ≡ spec.code_given name.now self.now }
     {
-        coded(&self.notes.codes, name)
+        noted(&self.notes.codes, name)
     }
 }
 
-impl Debug for PackageItems {
-    /// The items, as a list prints them.
-    fn fmt<W: Write>(&self, f: &mut Formatter<W>) -> fmt::Result {
-        self.list.fmt(f)
-    }
-}
-
-fn notes_of(alloc: Global, items: &[PackageItem]) -> Result<ItemNotes, NoMemory>
-    ensures { IfOk result (λ notes. inside.AreNoted items.now notes.places.entries notes.counts.before.entries notes.counts.all notes.codes.entries) }
+/// A list with what is noted of it, where all was noted. It is generic, so that what it drops is dropped by one call.
+fn kept<L: Drop, N: Drop>(list: L, notes: N, done: Result<(), NoMemory>) -> Result<(L, N), NoMemory>
+    ensures both { IfOk result (λ it. it ≡ (list, notes)) }
+    ensures done { OnOk result (is_ok done ≡ true) }
 {
-    let places = places_of(alloc, items)?;
-    let counts = counts_of(alloc, items)?;
-    let codes = codes_of(alloc, items)?;
-    Ok(ItemNotes {
-        places,
-        counts,
-        codes,
-    })
+    match done {
+        Ok(()) => Ok((list, notes)),
+        Err(e) => Err(e),
+    }
+}
+
+fn no_notes(alloc: Global) -> ItemNotes
+    ensures { inside.IsBlank result.places.entries result.before.entries result.codes.entries }
+{
+    ItemNotes {
+        places: IndexMap::new(alloc),
+        before: IndexMap::new(alloc),
+        variables: 0,
+        codes: IndexMap::new(alloc),
+    }
+}
+
+/// Notes what is asked of the names of items.
+fn note_items(notes: &mut ItemNotes, items: &[PackageItem]) -> Result<(), NoMemory>
+    requires { inside.IsBlank notes.now.places.entries notes.now.before.entries notes.now.codes.entries }
+    ensures found { OnOk result (inside.HasPlaces items.now notes.new.places.entries) }
+    ensures counted { OnOk result (inside.HasCounts items.now notes.new.before.entries notes.new.variables) }
+    ensures coded { OnOk result (inside.HasCodes items.now notes.new.codes.entries) }
+{
+    note_places(&mut notes.places, items)?;
+    notes.variables = note_counts(&mut notes.before, items)?;
+    note_codes(&mut notes.codes, items)
 }
 
 // ---- places
 
-fn places_of(alloc: Global, items: &[PackageItem]) -> Result<IndexMap<Name, usize>, NoMemory>
-    ensures { IfOk result (λ places. inside.HasPlaces items.now places.entries) }
+fn note_places(places: &mut IndexMap<Name, usize>, items: &[PackageItem]) -> Result<(), NoMemory>
+    requires { places.now.entries ≡ [] }
+    ensures { OnOk result (inside.HasPlaces items.now places.new.entries) }
 {
-    let mut places = IndexMap::new(alloc);
     for (at, item) in items.iter().enumerate() {
-        note_item(&mut places, item, at)?;
+        note_item(places, item, at)?;
     }
-    Ok(places)
+    Ok(())
 }
 
 fn note_item(
@@ -160,16 +170,17 @@ fn note_declaration(
 
 // ---- counts
 
-fn counts_of(alloc: Global, items: &[PackageItem]) -> Result<Counts, NoMemory>
-    ensures { IfOk result (λ counts. inside.HasCounts items.now counts.before.entries counts.all) }
+/// The number of all variables and constants.
+fn note_counts(before: &mut IndexMap<Name, usize>, items: &[PackageItem]) -> Result<usize, NoMemory>
+    requires { before.now.entries ≡ [] }
+    ensures { IfOk result (λ all. inside.HasCounts items.now before.new.entries all) }
 {
-    let mut before = IndexMap::new(alloc);
     let mut all = 0;
     for item in items {
-        note_count(&mut before, item, all)?;
+        note_count(before, item, all)?;
         all += weight(item);
     }
-    Ok(Counts { before, all })
+    Ok(all)
 }
 
 fn note_count(
@@ -197,14 +208,14 @@ fn weight(item: &PackageItem) -> usize
 
 // ---- codes
 
-fn codes_of(alloc: Global, items: &[PackageItem]) -> Result<IndexMap<Name, u64>, NoMemory>
-    ensures { IfOk result (λ codes. inside.HasCodes items.now codes.entries) }
+fn note_codes(codes: &mut IndexMap<Name, u64>, items: &[PackageItem]) -> Result<(), NoMemory>
+    requires { codes.now.entries ≡ [] }
+    ensures { OnOk result (inside.HasCodes items.now codes.new.entries) }
 {
-    let mut codes = IndexMap::new(alloc);
     for item in items {
-        note_given(&mut codes, item)?;
+        note_given(codes, item)?;
     }
-    Ok(codes)
+    Ok(())
 }
 
 fn note_given(codes: &mut IndexMap<Name, u64>, item: &PackageItem) -> Result<(), NoMemory>
@@ -220,7 +231,7 @@ fn note_pragma(codes: &mut IndexMap<Name, u64>, declaration: &Decl) -> Result<()
     ensures { OnOk result (inside.NotesLast (λ n. spec.given n (PackageItem.Decl declaration.now)) codes.old.entries codes.new.entries) }
 {
     match declaration {
-        Decl::ExceptionInit(name, code) => note_code(codes, name, *code),
+        Decl::ExceptionInit(name, code) => note_last(codes, name, *code),
         Decl::Variable { .. } | Decl::Exception(_) | Decl::Cursor(_, _) | Decl::Autonomous => Ok(
             (),
         ),
@@ -258,7 +269,9 @@ impl Subprograms {
     pub fn of(alloc: Global, list: List<Subprogram>) -> Result<Subprograms, NoMemory>
         ensures { IfOk result (λ subprograms. subprograms ≡ list) }
     {
-        let places = subprogram_places(alloc, list.as_slice())?;
+        let mut places = IndexMap::new(alloc);
+        let done = note_subprograms(&mut places, list.as_slice());
+        let (list, places) = kept(list, places, done)?;
         Ok(Subprograms { list, places })
     }
 
@@ -287,22 +300,15 @@ impl Subprograms {
     }
 }
 
-impl Debug for Subprograms {
-    /// The subprograms, as a list prints them.
-    fn fmt<W: Write>(&self, f: &mut Formatter<W>) -> fmt::Result {
-        self.list.fmt(f)
-    }
-}
-
-fn subprogram_places(
-    alloc: Global,
+fn note_subprograms(
+    places: &mut IndexMap<Name, usize>,
     subprograms: &[Subprogram],
-) -> Result<IndexMap<Name, usize>, NoMemory>
-    ensures { IfOk result (λ places. inside.HasSubprograms subprograms.now places.entries) }
+) -> Result<(), NoMemory>
+    requires { places.now.entries ≡ [] }
+    ensures { OnOk result (inside.HasSubprograms subprograms.now places.new.entries) }
 {
-    let mut places = IndexMap::new(alloc);
     for (at, it) in subprograms.iter().enumerate() {
-        note_first(&mut places, &it.head.name, at)?;
+        note_first(places, &it.head.name, at)?;
     }
-    Ok(places)
+    Ok(())
 }

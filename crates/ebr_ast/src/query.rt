@@ -4,7 +4,7 @@ use ebr_base::{List, Name, Shared};
 use ebr_exprtree::Expr;
 
 /// A query: `SELECT list FROM sources WHERE filter ORDER BY order FOR UPDATE`.
-#[derive(Debug, Drop)]
+#[derive(Drop)]
 pub struct Query {
     pub list: SelectList,
     /// One source or more.
@@ -16,7 +16,7 @@ pub struct Query {
 }
 
 /// What a query gives.
-#[derive(Debug, Drop)]
+#[derive(Drop)]
 pub enum SelectList {
     /// `*`.
     All,
@@ -24,20 +24,20 @@ pub enum SelectList {
 }
 
 /// An item of a list, with its alias.
-#[derive(Debug, Drop)]
+#[derive(Drop)]
 pub struct Item {
     pub what: ItemKind,
     pub alias: Option<Name>,
 }
 
-#[derive(Debug, Drop)]
+#[derive(Drop)]
 pub enum ItemKind {
     Expr(Shared<Expr>),
     Aggregate(Aggregate),
 }
 
 /// A function over all rows.
-#[derive(Debug, Drop)]
+#[derive(Drop)]
 pub enum Aggregate {
     /// `COUNT(*)`.
     CountRows,
@@ -48,14 +48,14 @@ pub enum Aggregate {
 }
 
 /// Where rows come from.
-#[derive(Debug, Drop)]
+#[derive(Drop)]
 pub enum Source {
     Dual,
     Named { name: Name, alias: Option<Name> },
 }
 
 /// A key of ORDER BY.
-#[derive(Debug, Drop)]
+#[derive(Drop)]
 pub struct SortKey {
     pub key: Shared<Expr>,
     pub descending: bool,

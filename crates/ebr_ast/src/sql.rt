@@ -5,7 +5,7 @@ use ebr_base::{List, Name, Shared};
 use ebr_exprtree::Expr;
 
 /// A statement that reads or changes rows.
-#[derive(Debug, Drop)]
+#[derive(Drop)]
 pub enum SqlTree {
     Query(Shared<Query>),
     Insert(Shared<Insert>),
@@ -16,7 +16,7 @@ pub enum SqlTree {
 }
 
 /// `INSERT INTO table (columns) VALUES (values)`; without columns it is all of them.
-#[derive(Debug, Drop)]
+#[derive(Drop)]
 pub struct Insert {
     pub table: Name,
     pub columns: List<Name>,
@@ -24,7 +24,7 @@ pub struct Insert {
 }
 
 /// `UPDATE table alias SET sets WHERE filter`.
-#[derive(Debug, Drop)]
+#[derive(Drop)]
 pub struct Update {
     pub table: Name,
     pub alias: Option<Name>,
@@ -33,14 +33,14 @@ pub struct Update {
 }
 
 /// `column = value`.
-#[derive(Debug, Drop)]
+#[derive(Drop)]
 pub struct Assignment {
     pub column: Name,
     pub value: Shared<Expr>,
 }
 
 /// `DELETE FROM table alias WHERE filter`.
-#[derive(Debug, Drop)]
+#[derive(Drop)]
 pub struct Delete {
     pub table: Name,
     pub alias: Option<Name>,
@@ -48,7 +48,7 @@ pub struct Delete {
 }
 
 /// A statement that ends a transaction or goes back in it.
-#[derive(Debug, Drop)]
+#[derive(Drop)]
 pub enum Transaction {
     Commit,
     Rollback,

@@ -7,7 +7,7 @@ use ebr_exprtree::{Expr, Path};
 
 /// A block: its declarations, its statements, and the handlers of their exceptions.
 #[cycle(statement)]
-#[derive(Debug, Drop)]
+#[derive(Drop)]
 pub struct Block {
     pub declarations: List<Decl>,
     pub statements: List<Shared<Stmt>>,
@@ -16,7 +16,7 @@ pub struct Block {
 
 /// `WHEN caught THEN statements`.
 #[cycle(statement)]
-#[derive(Debug, Drop)]
+#[derive(Drop)]
 pub struct Handler {
     pub caught: Caught,
     pub statements: List<Shared<Stmt>>,
@@ -24,7 +24,7 @@ pub struct Handler {
 
 /// `IF condition THEN statements`, or the same behind ELSIF.
 #[cycle(statement)]
-#[derive(Debug, Drop)]
+#[derive(Drop)]
 pub struct Branch {
     pub condition: Shared<Expr>,
     pub statements: List<Shared<Stmt>>,
@@ -32,7 +32,7 @@ pub struct Branch {
 
 /// A statement. As an expression, it is always held behind a `Shared`.
 #[cycle(statement)]
-#[derive(Debug, Drop)]
+#[derive(Drop)]
 pub enum Stmt {
     Null,
     Assign(Target, Shared<Expr>),
@@ -58,7 +58,7 @@ pub enum Stmt {
 }
 
 /// An SQL statement inside a block.
-#[derive(Debug, Drop)]
+#[derive(Drop)]
 pub enum SqlStmt {
     /// `SELECT list INTO targets FROM ..`.
     SelectInto(Shared<Query>, List<Target>),
@@ -69,7 +69,7 @@ pub enum SqlStmt {
 }
 
 /// A statement on a cursor.
-#[derive(Debug, Drop)]
+#[derive(Drop)]
 pub enum CursorStmt {
     Open(Name),
     Fetch(Name, List<Target>),
@@ -77,7 +77,7 @@ pub enum CursorStmt {
 }
 
 /// `FOR name IN low .. high`, or with REVERSE where reversed.
-#[derive(Debug, Drop)]
+#[derive(Drop)]
 pub struct Range {
     pub name: Name,
     pub reversed: bool,
@@ -86,28 +86,28 @@ pub struct Range {
 }
 
 /// `FOR record IN` a cursor or a query.
-#[derive(Debug, Drop)]
+#[derive(Drop)]
 pub struct Rows {
     pub record: Name,
     pub from: RowsFrom,
 }
 
 /// Where a loop's rows come from.
-#[derive(Debug, Drop)]
+#[derive(Drop)]
 pub enum RowsFrom {
     Cursor(Name),
     Query(Shared<Query>),
 }
 
 /// What a handler catches.
-#[derive(Debug, Drop)]
+#[derive(Drop)]
 pub enum Caught {
     Others,
     Named(List<Path>),
 }
 
 /// What is assigned to.
-#[derive(Debug, Drop)]
+#[derive(Drop)]
 pub enum Target {
     Name(Path),
     /// `:NEW.n`.
@@ -115,7 +115,7 @@ pub enum Target {
 }
 
 /// A declaration.
-#[derive(Debug, Drop)]
+#[derive(Drop)]
 pub enum Decl {
     Variable {
         name: Name,
@@ -132,7 +132,7 @@ pub enum Decl {
 }
 
 /// The type of a variable or of a table's column, with its size as it is written.
-#[derive(Debug, Drop)]
+#[derive(Drop)]
 pub enum DeclaredType {
     Number(Option<u64>),
     Integer,

@@ -8,7 +8,7 @@ use ebr_exprtree::Op;
 use std::alloc::Global;
 
 /// A unit.
-#[derive(Debug, Drop)]
+#[derive(Drop)]
 pub enum UnitTree {
     /// A procedure or a function.
     Subprogram(Shared<Subprogram>),
@@ -22,7 +22,7 @@ pub enum UnitTree {
 }
 
 /// The head of a procedure, or of a function where it has a result.
-#[derive(Debug, Drop)]
+#[derive(Drop)]
 pub struct Head {
     pub name: Name,
     pub parameters: List<Parameter>,
@@ -30,13 +30,13 @@ pub struct Head {
 }
 
 /// A procedure or a function with its body.
-#[derive(Debug, Drop)]
+#[derive(Drop)]
 pub struct Subprogram {
     pub head: Head,
     pub body: Block,
 }
 
-#[derive(Debug, Drop)]
+#[derive(Drop)]
 pub struct Parameter {
     pub name: Name,
     /// The mode as it is written; without one it is IN.
@@ -45,7 +45,7 @@ pub struct Parameter {
 }
 
 /// Which way a parameter passes values.
-#[derive(Clone, Copy, Debug, PartialEq, Eq)]
+#[derive(Clone, Copy, Debug)]
 pub enum Mode {
     In,
     Out,
@@ -53,7 +53,7 @@ pub enum Mode {
 }
 
 /// The type of a parameter or of a function's result, which has no size.
-#[derive(Debug, Drop)]
+#[derive(Drop)]
 pub enum ParameterType {
     Number,
     Integer,
@@ -64,14 +64,14 @@ pub enum ParameterType {
 }
 
 /// What a package's specification declares.
-#[derive(Debug, Drop)]
+#[derive(Drop)]
 pub enum PackageItem {
     Decl(Decl),
     Head(Head),
 }
 
 /// A package's body. The initial part is there where it has statements.
-#[derive(Debug, Drop)]
+#[derive(Drop)]
 pub struct PackageBody {
     pub name: Name,
     pub declarations: List<Decl>,
@@ -81,7 +81,7 @@ pub struct PackageBody {
 }
 
 /// A row trigger.
-#[derive(Debug, Drop)]
+#[derive(Drop)]
 pub struct Trigger {
     pub name: Name,
     pub timing: Timing,
@@ -96,14 +96,14 @@ pub struct Trigger {
 }
 
 /// Which way a crossedition trigger carries changes: into later editions or into earlier ones.
-#[derive(Clone, Copy, Debug, PartialEq, Eq)]
+#[derive(Clone, Copy, Debug)]
 pub enum Direction {
     Forward,
     Reverse,
 }
 
 /// `EDITIONING VIEW name (names) AS SELECT items FROM table`; without names each item's own counts.
-#[derive(Debug, Drop)]
+#[derive(Drop)]
 pub struct EditioningView {
     pub name: Name,
     pub names: List<Name>,
@@ -113,7 +113,7 @@ pub struct EditioningView {
 }
 
 /// A column of the table, with its alias.
-#[derive(Debug, Drop)]
+#[derive(Drop)]
 pub struct ViewItem {
     pub column: Name,
     pub alias: Option<Name>,
@@ -122,15 +122,30 @@ pub struct ViewItem {
 impl CloneIn for UnitTree {
     fn clone_in(&self, alloc: Global) -> Result<UnitTree, NoMemory> {
         match self {
-            UnitTree::Subprogram(unit) => Ok(UnitTree::Subprogram(unit.clone_in(alloc)?)),
-            UnitTree::Package(name, items) => {
-                let (name, items) = both(alloc, name, items)?;
-                Ok(UnitTree::Package(name, items))
-            }
-            UnitTree::PackageBody(body) => Ok(UnitTree::PackageBody(body.clone_in(alloc)?)),
-            UnitTree::Trigger(trigger) => Ok(UnitTree::Trigger(trigger.clone_in(alloc)?)),
-            UnitTree::View(view) => Ok(UnitTree::View(view.clone_in(alloc)?)),
-            UnitTree::Block(block) => Ok(UnitTree::Block(block.clone_in(alloc)?)),
+            UnitTree::Subprogram(unit) => match unit.clone_in(alloc) {
+                Ok(unit) => Ok(UnitTree::Subprogram(unit)),
+                Err(e) => Err(e),
+            },
+            UnitTree::Package(name, items) => match both(alloc, name, items) {
+                Ok((name, items)) => Ok(UnitTree::Package(name, items)),
+                Err(e) => Err(e),
+            },
+            UnitTree::PackageBody(body) => match body.clone_in(alloc) {
+                Ok(body) => Ok(UnitTree::PackageBody(body)),
+                Err(e) => Err(e),
+            },
+            UnitTree::Trigger(trigger) => match trigger.clone_in(alloc) {
+                Ok(trigger) => Ok(UnitTree::Trigger(trigger)),
+                Err(e) => Err(e),
+            },
+            UnitTree::View(view) => match view.clone_in(alloc) {
+                Ok(view) => Ok(UnitTree::View(view)),
+                Err(e) => Err(e),
+            },
+            UnitTree::Block(block) => match block.clone_in(alloc) {
+                Ok(block) => Ok(UnitTree::Block(block)),
+                Err(e) => Err(e),
+            },
         }
     }
 }

@@ -12,7 +12,7 @@ use ebr_base::{Class, CloneIn, Code, ColType, Column, List, Name, NoMemory, Stop
 use std::alloc::Global;
 
 /// A column of a table, or of an editioning view, which is its base's column under another name.
-#[derive(Debug, Drop)]
+#[derive(Drop)]
 pub struct ViewColumn {
     pub name: Name,
     /// Its place among the columns of the table, counted from 0.

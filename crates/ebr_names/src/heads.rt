@@ -10,7 +10,7 @@ use std::alloc::Global;
 
 /// The heads of subprograms and the declarations that stand in a unit's text up to its body, each in order. They are lent
 /// by the unit.
-#[derive(Debug, Drop)]
+#[derive(Drop)]
 pub struct Header<'a> {
     pub heads: List<&'a Head>,
     pub decls: List<&'a Decl>,

@@ -4,7 +4,7 @@ use ebr_base::{CloneIn, NoMemory, ObjectKey};
 use std::alloc::Global;
 
 /// A subprogram of a stored unit, and the shape of a call of it.
-#[derive(Debug, Drop)]
+#[derive(Drop)]
 pub struct Callee {
     /// The procedure or function, or the body of its package.
     pub unit: ObjectKey,

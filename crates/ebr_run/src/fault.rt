@@ -4,7 +4,7 @@ use ebr_base::{CloneIn, Code, List, Name, NoMemory, ObjectKey, Shared};
 use std::alloc::Global;
 
 /// A declared exception, told by where its declaration stands.
-#[derive(Debug, Drop)]
+#[derive(Drop)]
 pub struct Exception {
     /// The object in whose text it is declared; none for a block that a session runs.
     pub unit: Option<ObjectKey>,
@@ -14,7 +14,7 @@ pub struct Exception {
 }
 
 /// What was raised. An exception that has a code is raised as this code.
-#[derive(Debug, Drop)]
+#[derive(Drop)]
 pub enum Fault {
     Code(Code),
     User(Shared<Exception>),

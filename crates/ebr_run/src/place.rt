@@ -12,7 +12,7 @@ pub enum VariableType {
 }
 
 /// Where a variable or a cursor is.
-#[derive(Debug, Drop)]
+#[derive(Drop)]
 pub enum Location {
     /// One of the running subprogram, by its place, counted from 0.
     Own(usize),
@@ -30,7 +30,7 @@ impl CloneIn for Location {
 }
 
 /// What gives a bind of a statement its value.
-#[derive(Debug, Drop)]
+#[derive(Drop)]
 pub enum Bind {
     Variable(Location),
     /// The column of `:NEW` at a place.

@@ -14,7 +14,7 @@ use ebr_sqlparse::read_query;
 use std::alloc::Global;
 
 /// What a FOR loop goes over.
-#[derive(Debug, Drop)]
+#[derive(Drop)]
 pub enum Heading {
     /// From a low bound to a high one, or with REVERSE where the first says so.
     Range(bool, Shared<Expr>, Shared<Expr>),

@@ -13,7 +13,7 @@ use std::alloc::Global;
 
 /// Statements with the handlers of their exceptions: the part of a block from BEGIN on, and that of
 /// a package's body.
-#[derive(Debug, Drop)]
+#[derive(Drop)]
 pub struct Initial {
     pub statements: List<Shared<Stmt>>,
     pub handlers: List<Handler>,

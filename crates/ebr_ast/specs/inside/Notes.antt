@@ -1,5 +1,5 @@
 -- What is noted of names beside the lists of packages.
-use Rattle.std.specs.Prelude.{◌≡◌, ℕ, Bool, cond, List, Option, Some, None}
+use Rattle.std.specs.Prelude.{◌≡◌, ℕ, Bool, cond, List, [], Option, Some, None}
 use Rattle.std.specs.List.{position_from}
 use Rattle.std.specs.Map.{lookup}
 use Rattle.std.specs.Option.{option_or, unwrap_or}
@@ -9,29 +9,32 @@ use Rattle.ebr_ast.specs.declared.unit.Subprogram.{Subprogram}
 use Rattle.ebr_ast.specs.Members.{has_name, variables_before, code_given, is_named}
 
 -- the entries of a map by names
-abbrev pub Notes : Type 0
-Notes = List (List ℕ × ℕ)
+abbrev pub Noted : Type 0 → Type 0
+Noted V = List (List ℕ × V)
 
-abbrev pub note : List ℕ → Notes → Option ℕ
+abbrev pub Notes : Type 0
+Notes = Noted ℕ
+
+abbrev pub note : {V : Type 0} → List ℕ → Noted V → Option V
 note n notes = lookup (bytes_eq n) notes
 
-abbrev pub where_so : Bool → ℕ → Option ℕ
-where_so so number = cond so (Some number) None
+abbrev pub where_so : {V : Type 0} → Bool → V → Option V
+where_so so value = cond so (Some value) None
 
--- a number of one name alone
-abbrev pub of_name : List ℕ → ℕ → List ℕ → Option ℕ
-of_name name number n = where_so (bytes_eq n name) number
+-- a value of one name alone
+abbrev pub of_name : {V : Type 0} → List ℕ → V → List ℕ → Option V
+of_name name value n = where_so (bytes_eq n name) value
 
 abbrev pub weight : Bool → ℕ
 weight so = cond so 1 0
 
--- the notes after a number was noted for names that have none
+-- the notes after numbers were noted for names that have none
 abbrev pub NotesFirst : (List ℕ → Option ℕ) → Notes → Notes → Type 0
 NotesFirst numbers old new = (n : List ℕ) → note n new ≡ option_or (note n old) (numbers n)
 
--- the notes after a number was noted for names that may have one
-abbrev pub NotesLast : (List ℕ → Option ℕ) → Notes → Notes → Type 0
-NotesLast numbers old new = (n : List ℕ) → note n new ≡ option_or (numbers n) (note n old)
+-- the notes after values were noted for names that may have one
+abbrev pub NotesLast : {V : Type 0} → (List ℕ → Option V) → Noted V → Noted V → Type 0
+NotesLast values old new = (n : List ℕ) → note n new ≡ option_or (values n) (note n old)
 
 -- the places of the first items of names
 abbrev pub HasPlaces : List PackageItem → Notes → Type 0
@@ -52,3 +55,7 @@ pub record AreNoted (items : List PackageItem) (places before : Notes) (all : �
   pub found : HasPlaces items places
   pub counted : HasCounts items before all
   pub coded : HasCodes items codes
+
+-- nothing is noted yet
+abbrev pub IsBlank : Notes → Notes → Notes → Type 0
+IsBlank places before codes = (places ≡ []) × (before ≡ []) × (codes ≡ [])

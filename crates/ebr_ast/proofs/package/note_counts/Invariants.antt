@@ -1,6 +1,6 @@
 use Rattle.std.proofs.Common.{◌≤◌, drop}
 use Rattle.ebr_ast.proofs.Noted.{Counts}
-use Rattle.ebr_ast.proofs.package.counts_of.Given as goal
+use Rattle.ebr_ast.proofs.package.note_counts.Given as goal
 
 abbrev pub invariant-loop-item : goal.invariant-loop-item
 invariant-loop-item l = record {
