@@ -1,6 +1,6 @@
 -- What all that an edition sees tells of a catalogue, and what it is after a definition or a drop of an object.
 use Rattle.std.proofs.Common.{◌≡◌, ℕ, ◌+◌, Bool, true, false, cond, not, ◌&&◌, ◌||◌, List, [], ◌∷◌, ◌++◌, length, fold, Option, Some, None, option_map, is_some, count_by, refl, sym, ap, ◌∙◌, arith}
-use Rattle.std.specs.List.{filter_map, cons_option, list_any, AllByRecursion}
+use Rattle.std.specs.List.{filter_map, cons_option, list_any}
 use Rattle.std.specs.Ordering.{match_ordering, is_eq}
 use Rattle.std.specs.declared.cmp.Ordering.{Ordering}
 use Rattle.std.specs.declared.cmp.Ordering.TheVariants.{Less, Equal, Greater}
@@ -24,6 +24,7 @@ use Rattle.ebr_cross.proofs.InOrder.{fold-push}
 use Rattle.ebr_cross.proofs.OwnKeys.{key_total, key-exact, key-same, same-turned, seen-under}
 use Rattle.ebr_cross.proofs.Placed.{Owns, seen-placed}
 use Rattle.ebr_cross.proofs.Seen.{sorted-in_order, any-fold, same-test, more-in_order, and-false}
+use Rattle.ebr_units.proofs.Unchanged.{none-seen}
 
 -- ---- keys in order
 
@@ -35,51 +36,6 @@ any-in_order p keys = any-fold p keys []
 new-in_order : (keys : List ObjectKey) (k : ObjectKey) → in_order (keys ++ k ∷ []) ≡ insert_key key_order (in_order keys) k
 unfolding in_order
 new-in_order keys k = fold-push (insert_key key_order) [] keys k
-
--- ---- a key without an entry
-
-apart-push : (p : ObjectKey → Bool) (keys : List ObjectKey) (q : ObjectKey) → list_any p (keys ++ q ∷ []) ≡ false → (p q ≡ false) × (list_any p keys ≡ false)
-apart-push p [] q h = (by (p q) h, refl)
-  where
-    by : (b : Bool) → (b || false) ≡ false → b ≡ false
-    by true h = h
-    by false h = refl
-apart-push p (k ∷ keys) q h = by (apart-push p keys q) (p k) h
-  where
-    by : (list_any p (keys ++ q ∷ []) ≡ false → (p q ≡ false) × (list_any p keys ≡ false)) → (b : Bool) → (b || list_any p (keys ++ q ∷ [])) ≡ false → (p q ≡ false) × ((b || list_any p keys) ≡ false)
-    by f true h = absurd cc
-    by f false h = f h
-
-apart-with : (k q : ObjectKey) (keys : List ObjectKey) (b : Bool) → list_any (same_key q) keys ≡ b → list_any (same_key k) (cond b keys (keys ++ q ∷ [])) ≡ false → (same_key k q ≡ false) × (list_any (same_key k) keys ≡ false)
-apart-with k q keys true t h = (by (same_key k q) refl, h)
-  where
-    by : (b : Bool) → same_key k q ≡ b → b ≡ false
-    by true s = sym t ∙ (ap (λ z. list_any (same_key z) keys) (sym (key-same k q s)) ∙ h)
-    by false s = refl
-apart-with k q keys false t h = apart-push (same_key k) keys q h
-
-not-entered : (k : ObjectKey) (entries : List (ObjectEntry Object)) (keys : List ObjectKey) → list_any (same_key k) (fold (λ ks (x : ObjectEntry Object). with_key ks x.key) keys entries) ≡ false
-    → AllByRecursion (λ (x : ObjectEntry Object). same_key k x.key ≡ false) entries × (list_any (same_key k) keys ≡ false)
-not-entered k [] keys h = (tt, h)
-not-entered k (x ∷ xs) keys h =
-    let rest = not-entered k xs (with_key keys x.key) h in
-    let here = apart-with k x.key keys (list_any (same_key x.key) keys) refl rest.1 in
-    ((here.0, rest.0), here.1)
-
-none-last : (k : ObjectKey) (d : EditionNo) (entries : List (ObjectEntry Object)) (last : Option (ObjectEntry Object)) → AllByRecursion (λ (x : ObjectEntry Object). same_key k x.key ≡ false) entries
-    → fold (λ found x. cond (is_entry_of d k x) (Some x) found) last entries ≡ last
-none-last k d [] last all = refl
-none-last k d (x ∷ xs) last all =
-    ap (λ b. fold (λ found y. cond (is_entry_of d k y) (Some y) found) (cond b (Some x) last) xs) (and-false (is_in d x) (same_key k x.key) all.0) ∙ none-last k d xs last all.1
-
-nearest-none : (at : EditionNo → Option (Option Object)) → ((d : EditionNo) → at d ≡ None) → (line : List EditionNo) → nearest at line ≡ None
-nearest-none at none [] = refl
-nearest-none at none (d ∷ ds) = ap (λ x. entry_or x (nearest at ds)) (none d) ∙ nearest-none at none ds
-
-none-seen : (c : Lists) (e : EditionNo) (k : ObjectKey) → list_any (same_key k) (keys_of c.entries) ≡ false → visible c e k ≡ None
-none-seen c e k h =
-    let apart = (not-entered k c.entries [] h).0 in
-    nearest-none (λ d. last_object c.entries d k) (λ d. ap (option_map (λ (x : ObjectEntry Object). x.object)) (none-last k d c.entries None apart)) (line_of c.editions.made e)
 
 -- ---- what is seen, among the objects of a view
 

@@ -1,4 +1,4 @@
 mod Entries
 mod Kept
 mod Made
-mod Unchanged
+pub mod Unchanged
