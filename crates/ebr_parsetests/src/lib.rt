@@ -15,6 +15,8 @@ mod evaluation;
 #[cfg(test)]
 mod expressions;
 #[cfg(test)]
+mod printed;
+#[cfg(test)]
 mod reading;
 #[cfg(test)]
 mod sample_view;

@@ -1,5 +1,6 @@
 //! What texts are read as. Trees are compared as they are printed.
 
+use crate::printed::{Printed, printed_text};
 use ebr_base::{List, MAX_COUNT, NoMemory};
 use ebr_ddlparse::{definition, read_editioning_view, read_type};
 use ebr_exprparse::{expr, read_expression};
@@ -10,7 +11,6 @@ use ebr_simpleparse::{read_caught, read_heading, read_simple};
 use ebr_sqlparse::{session, sql, transaction};
 use ebr_stmtparse::{read_block, read_body, read_call, read_declaration, read_initial};
 use std::alloc::Global;
-use std::fmt::Debug;
 use std::process::Abort;
 use std::test::Fail;
 
@@ -52,12 +52,12 @@ fn tokens_of(alloc: Global, text: &str) -> Result<List<Token>, NoMemory> {
     }
 }
 
-fn text_of<T: Debug>(alloc: Global, tree: &T) -> Result<Option<String>, NoMemory> {
-    Ok(Some(format!(in alloc; "{tree:?}")?))
+fn text_of<T: Printed>(alloc: Global, tree: &T) -> Result<Option<String>, NoMemory> {
+    Ok(Some(printed_text(alloc, tree)?))
 }
 
 /// The tree that was found.
-fn found<T: Debug + Drop>(
+fn found<T: Printed + Drop>(
     alloc: Global,
     tree: Result<Option<T>, NoMemory>,
 ) -> Result<Option<String>, NoMemory> {
@@ -69,7 +69,7 @@ fn found<T: Debug + Drop>(
 }
 
 /// The tree that was read, where no token is left.
-fn whole<T: Debug + Drop>(
+fn whole<T: Printed + Drop>(
     alloc: Global,
     read: Result<T, ReadStop>,
     left: usize,
@@ -88,7 +88,7 @@ fn whole<T: Debug + Drop>(
 }
 
 /// The tree that was read, with the number of the tokens behind it.
-fn first<T: Debug + Drop>(
+fn first<T: Printed + Drop>(
     alloc: Global,
     read: Result<T, ReadStop>,
     left: usize,
