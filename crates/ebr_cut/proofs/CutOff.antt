@@ -84,8 +84,8 @@ record UpTo (at : ℕ) (bytes : List ℕ) (tokens : List Token) : Type 0 where
 nothing : (at : ℕ) (bytes : List ℕ) → UpTo at bytes []
 nothing at bytes = record { parts = []; front = []; rest = bytes; split = refl; stand = refl; listed = refl; end = omega arith }
 
--- No token stands in a piece and behind it, or the last one ends where the last one behind the piece does, or where
--- the piece does.
+-- No token stands in a part and behind it, or the last one ends where the last one behind the part does, or where
+-- the part does.
 none_or_end : (part : Part) (at next : ℕ) (us : List Token) → (token_of part at next ++ us ≡ []) ⊎ (end_of next us ≡ end_of at (token_of part at next ++ us))
 none_or_end White at next [] = inl refl
 none_or_end White at next (u ∷ us) = inr refl

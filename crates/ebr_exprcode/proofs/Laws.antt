@@ -1,4 +1,4 @@
--- What the code of a tree is at one layer, and lists of instructions that are made piece by piece.
+-- What the code of a tree is at one layer, and lists of instructions that are made part by part.
 use Rattle.std.proofs.Common.{◌≡◌, ℕ, List, [], ◌∷◌, ◌++◌, map, length, Option, Some, None, Result, Ok, Err, OnOk, true, false, refl, sym, ap, ◌∙◌, rules}
 use Rattle.std.specs.Result.{is_ok}
 use Rattle.std.proofs.lemmas.List.{append_assoc}

@@ -8,7 +8,7 @@ ghost use Rattle.ebr_exprparse.specs.Expressions as spec;
 use crate::expression::Grammar;
 use crate::level::Level;
 use crate::trees::{Read, Tree, tree_of};
-use ebr_base::NoMemory;
+use ebr_base::{MAX_COUNT, NoMemory};
 use ebr_grammar::{ReadStop, Tokens};
 use ebr_lexer::Token;
 use std::alloc::Global;
@@ -50,7 +50,7 @@ pub fn read_expression(alloc: Global, tokens: &mut Tokens<'_>) -> Result<Tree, R
 /// None where none stands there.
 pub fn expr(alloc: Global, tokens: &[Token], at: u32) -> Result<Option<(Tree, u32)>, NoMemory>
     requires within { at ≤ length tokens.now }
-    requires small { length tokens.now < 4294967295 }
+    requires small { length tokens.now < MAX_COUNT }
     // What is found is spelled by the tokens from `at` to before its end.
     ensures found { IfOk result (λ r. IfSome r (spec.IsAt tokens.now at)) }
     // What is spelled there, before a token that does not go on with it or none, is found.

@@ -5,7 +5,7 @@ ghost use Rattle.ebr_order.specs.Order as spec;
 ghost use Rattle.ebr_order.specs.Order.{IsRead};
 
 use crate::number::session_in_front;
-use ebr_base::{List, NoMemory, SessionId};
+use ebr_base::{List, MAX_COUNT, NoMemory, SessionId};
 use std::alloc::Global;
 
 /// Why an order was not read.
@@ -29,7 +29,7 @@ impl From<NoMemory> for OrderErr {
 
 /// The sessions in the order of their turns. They are numbered from 1 on; numbers are parted by spaces and line ends.
 pub fn read_order(alloc: Global, bytes: &[u8], sessions: u32) -> Result<List<SessionId>, OrderErr>
-    requires small { length bytes.now < 4294967295 }
+    requires small { length bytes.now < MAX_COUNT }
     ensures { IsRead result sessions bytes.now }
 {
     let mut turns = List::new(alloc);

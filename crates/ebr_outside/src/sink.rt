@@ -14,15 +14,15 @@ pub trait Sink: Drop {
     /// How many calls have failed. It never falls, and stands still at its end, 2^64 - 1.
     ghost faults: { Self → ℕ };
 
-    /// Takes the first bytes of a piece that isn't empty, at least one, and says how many.
+    /// Takes the first of some bytes, at least one, and says how many.
     ///
     /// `Failed` comes only where the count of faults rose in this call, or stands at its end; then
     /// no byte was taken.
-    fn write(&mut self, piece: &[u8]) -> Result<usize, Failed>
-        requires { 0 < length piece.now }
-        ensures some { IfOk result (λ n. (0 < n) × (n ≤ length piece.now)) }
+    fn write(&mut self, bytes: &[u8]) -> Result<usize, Failed>
+        requires { 0 < length bytes.now }
+        ensures some { IfOk result (λ n. (0 < n) × (n ≤ length bytes.now)) }
         ensures grown { IfOk result (λ n.
-            held self.new ≡ appended (held self.old) (take n piece.now)) }
+            held self.new ≡ appended (held self.old) (take n bytes.now)) }
         ensures kept { OnErr result (held self.new ≡ held self.old) }
         ensures counted { faults self.old ≤ faults self.new }
         ensures failed { OnErr result (Rises (faults self.old) (faults self.new)) };

@@ -2,7 +2,7 @@
 
 ghost use Rattle.std.specs.Prelude.{◌<◌, length};
 
-use ebr_base::{List, NoMemory};
+use ebr_base::{List, MAX_COUNT, NoMemory};
 use ebr_grammar::{Kind, ReadStop, Tokens, is_same, kind_of, unreserved_words_are_names};
 use ebr_lexer::{LexStop, Token, lex};
 use std::alloc::Global;
@@ -10,7 +10,7 @@ use std::process::Abort;
 use std::test::Fail;
 
 fn tokens_of(rt: &impl Abort, alloc: Global, text: &[u8]) -> Result<List<Token>, NoMemory>
-    requires { length text.now < 4294967295 }
+    requires { length text.now < MAX_COUNT }
 {
     match lex(alloc, text) {
         Ok(tokens) => Ok(tokens),

@@ -1,4 +1,4 @@
-//! What is known where a piece of code stands.
+//! What is known at a place in code.
 
 ghost use Rattle.std.specs.Prelude.{◌≡◌, ◌-◌, ◌+◌, [], map, suc, take, drop, length, filter_map, Some, None, Option, OnOk, IfOk, option_map, find};
 ghost use Rattle.std.specs.List.{position};
@@ -33,7 +33,7 @@ use ebr_sqlcheck::ValueType;
 use std::alloc::Global;
 use std::marker::Model;
 
-/// What is known where a piece of code stands, which contracts see as an `Env`.
+/// What is known at a place in code, which contracts see as an `Env`.
 #[derive(Drop)]
 pub struct Around<'a> {
     seen: &'a Seen<'a>,

@@ -1,4 +1,4 @@
-//! The names that are declared around a piece of code.
+//! The names that are declared around a place in code.
 
 ghost use Rattle.std.specs.Prelude.{◌≡◌, ◌∷◌, ◌-◌, [], OnOk, find, map, drop, length, slice_get, option_map, option_and_then};
 ghost use Rattle.std.specs.Option.{option_copied};

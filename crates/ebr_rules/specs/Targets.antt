@@ -10,7 +10,7 @@ use Rattle.ebr_scope.specs.Names.{meant}
 use Rattle.ebr_scope.specs.Around.{Env, image_type, variable_type}
 use Rattle.ebr_rules.specs.Sites.{Site, Assigns, Fits, SetsNew, Counts, Images}
 
--- what stands in a piece of code, where this is known
+-- what stands in a part of the code, where this is known
 abbrev pub In : Type 0
 In = Env → List Site
 

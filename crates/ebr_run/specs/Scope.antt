@@ -1,4 +1,4 @@
--- What names stand for where a piece of code stands, with the place of each variable and cursor.
+-- What names stand for at a place in code, with the place of each variable and cursor.
 -- Oracle Database PL/SQL Language Reference 19c, PL/SQL Identifiers: Scope and Visibility, and Name Resolution; that a
 -- subprogram of the edition goes last, and that a package is looked up past what else has its name, is own.
 use Rattle.std.specs.Prelude.{ℕ, suc, ◌+◌, Bool, true, false, ◌&&◌, nat_le, if◌then◌else◌, codes, List, [], ◌∷◌, ◌++◌, map, find, length, Option, Some, None, option_map, option_and_then}

@@ -1,4 +1,4 @@
--- What is known where a piece of code stands.
+-- What is known at a place in code.
 use Rattle.std.specs.Prelude.{ℕ, Bool, true, false, List, [], Option, Some, None}
 use Rattle.ebr_ast.specs.declared.kinds.Timing.{Timing}
 use Rattle.ebr_ast.specs.declared.view.EditionView.{EditionView}

@@ -1,4 +1,4 @@
--- What names stand for where a piece of code stands.
+-- What names stand for at a place in code.
 -- Oracle Database PL/SQL Language Reference 19c, Scope and Visibility of Identifiers, and Name Resolution.
 use Rattle.std.specs.Prelude.{ℕ, Bool, true, false, ◌&&◌, List, find, Option, Some, None, option_map, option_and_then}
 use Rattle.std.specs.Option.{is_some}

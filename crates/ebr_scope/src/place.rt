@@ -1,4 +1,4 @@
-//! What a piece of code stands in.
+//! What a part of the code stands in.
 
 ghost use Rattle.std.specs.Prelude.{◌≡◌, Some, true, false, []};
 ghost use Rattle.ebr_ast.specs.Views.{IsInOrder};
@@ -49,7 +49,7 @@ impl<'a> Seen<'a> {
     }
 }
 
-/// What a piece of code stands in.
+/// What a part of the code stands in.
 #[derive(Clone, Copy)]
 pub struct Place<'a> {
     pub seen: &'a Seen<'a>,

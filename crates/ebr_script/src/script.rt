@@ -12,7 +12,7 @@ ghost use Rattle.ebr_script.specs.Pieces as spec;
 use crate::piece::{Piece, PieceKind};
 use crate::statement::{creation, statement};
 use ebr_ast::{Definition, Statement};
-use ebr_base::{Code, List, NoMemory};
+use ebr_base::{Code, List, MAX_COUNT, NoMemory};
 use ebr_cut::{Lead, Scanned, Span, cut, end_of, scan};
 use std::alloc::Global;
 
@@ -30,7 +30,7 @@ fn refusal(lead: Lead) -> Code
 
 /// The tokens of a text, or its first fault.
 fn scanned(alloc: Global, text: &[u8]) -> Result<Scanned, NoMemory>
-    requires { length text.now < 4294967295 }
+    requires { length text.now < MAX_COUNT }
     ensures value { IfOk result (λ s. s ≡ spec.scanned_of text.now) }
     ensures within { IfOk result (IfTokens (All (lexis.LiesWithin text.now))) }
     ensures ordered { IfOk result (IfTokens (AllPairs lexis.Precedes)) }
@@ -72,7 +72,7 @@ fn end_in(scanned: &Scanned) -> u32
 #[tactic(auto, unfolding(crate::specs::Pieces::kind_of_text))]
 fn piece(alloc: Global, script: &[u8], span: &Span) -> Result<Piece, NoMemory>
     requires within { sections.LiesWithin script.now span.now }
-    requires small { length script.now < 4294967295 }
+    requires small { length script.now < MAX_COUNT }
     ensures { IfOk result (λ p. p ≡ spec.piece_at script.now span.now) }
 {
     let scanned = scanned(alloc, ebr_cut::text_of(script, span))?;
@@ -88,7 +88,7 @@ fn piece(alloc: Global, script: &[u8], span: &Span) -> Result<Piece, NoMemory>
 
 /// Where the pieces of a script stand.
 fn spans(alloc: Global, script: &[u8]) -> Result<List<Span>, NoMemory>
-    requires { length script.now < 4294967295 }
+    requires { length script.now < MAX_COUNT }
     ensures value { IfOk result (λ ss. ss ≡ cut script.now) }
     ensures within { IfOk result (All (sections.LiesWithin script.now)) }
 {
@@ -103,7 +103,7 @@ fn spans(alloc: Global, script: &[u8]) -> Result<List<Span>, NoMemory>
 ///
 /// Its work is linear in the script.
 pub fn pieces(alloc: Global, script: &[u8]) -> Result<List<Piece>, NoMemory>
-    requires { length script.now < 4294967295 }
+    requires { length script.now < MAX_COUNT }
     // The pieces are these, which compute.
     ensures value { IfOk result (λ ps. ps ≡ spec.pieces_of script.now) }
     // The script is cut so.
@@ -121,7 +121,7 @@ pub fn pieces(alloc: Global, script: &[u8]) -> Result<List<Piece>, NoMemory>
 
 /// Reads the pieces, one after the other.
 fn read(alloc: Global, script: &[u8]) -> Result<List<Piece>, NoMemory>
-    requires { length script.now < 4294967295 }
+    requires { length script.now < MAX_COUNT }
     ensures { IfOk result (λ ps. ps ≡ spec.pieces_of script.now) }
 {
     let spans = spans(alloc, script)?;
@@ -144,7 +144,7 @@ pub fn text_of<'a>(script: &'a [u8], piece: &Piece) -> &'a [u8]
 
 /// The definition that creates an object, by its stored text; None where the text is none of an object, or has a fault.
 pub fn stored(alloc: Global, text: &[u8]) -> Result<Option<Definition>, NoMemory>
-    requires { length text.now < 4294967295 }
+    requires { length text.now < MAX_COUNT }
     // The definition is this one, which computes.
     ensures value { IfOk result (λ r. r ≡ spec.stored_definition text.now) }
     // What is found is what the text stores.
@@ -156,7 +156,7 @@ pub fn stored(alloc: Global, text: &[u8]) -> Result<Option<Definition>, NoMemory
 }
 
 fn read_stored(alloc: Global, text: &[u8]) -> Result<Option<Definition>, NoMemory>
-    requires { length text.now < 4294967295 }
+    requires { length text.now < MAX_COUNT }
     ensures { IfOk result (λ r. r ≡ spec.stored_definition text.now) }
 {
     match scanned(alloc, text)? {

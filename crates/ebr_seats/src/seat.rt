@@ -11,7 +11,7 @@ ghost use Rattle.ebr_seats.specs.Seats.{Begin, counted_seat, ended_if, first_sea
 
 use crate::carried::{MAX_CARRIED, TOO_MUCH, ask_weight};
 use ebr_asks::Ask;
-use ebr_base::{Code, EditionNo, List, NoMemory, SessionId};
+use ebr_base::{Code, EditionNo, List, MAX_COUNT, NoMemory, SessionId};
 use ebr_tx::{Savepoints, TxMark};
 use std::alloc::Global;
 use std::mem;
@@ -101,7 +101,7 @@ impl Seat {
 
     /// An autonomous transaction was opened.
     pub fn push_level(&mut self)
-        requires { self.old.levels < 4294967295 }
+        requires { self.old.levels < MAX_COUNT }
         ensures { self.new ≡ record self.old { levels = self.old.levels + 1 } }
     {
         self.levels += 1;

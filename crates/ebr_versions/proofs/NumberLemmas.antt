@@ -1,4 +1,4 @@
--- The least of some numbers, taken piece by piece.
+-- The least of some numbers, from those of their parts.
 use Rattle.std.proofs.Common.{◌≡◌, ℕ, suc, ◌+◌, ◌<◌, ◌≤◌, ◌⊎◌, inl, inr, ⊎_elim, Bool, true, false, cond, List, [], ◌∷◌, ◌++◌, Option, Some, None, min, max, map, drop, get_or, length, refl, sym, ap, ◌∙◌, subst, arith, ltb, option_map}
 use Rattle.std.specs.Prelude.{All, Contains, filter}
 use Rattle.std.specs.List.{AllByRecursion}

@@ -47,13 +47,13 @@ impl Sink for OutSink {
     ghost faults = { λ s. s.faults };
 
     /// Writes once to the system. Each error of it is a fault, and so is a write that took no byte.
-    fn write(&mut self, piece: &[u8]) -> Result<usize, Failed>
-        requires { 0 < length piece.now }
-        ensures some { IfOk result (λ n. (0 < n) × (n ≤ length piece.now)) }
+    fn write(&mut self, bytes: &[u8]) -> Result<usize, Failed>
+        requires { 0 < length bytes.now }
+        ensures some { IfOk result (λ n. (0 < n) × (n ≤ length bytes.now)) }
         ensures ok { OnOk result (self.new ≡ self.old) }
         ensures err { OnErr result (self.new ≡ one_fault_more self.old) }
     {
-        match self.out.write(piece) {
+        match self.out.write(bytes) {
             Ok(n) if n > 0 => Ok(n),
             _ => {
                 self.faults = one_more(self.faults);

@@ -52,22 +52,21 @@ impl Sink for MemSink {
 
     ghost faults = { λ s. s.calls.faults };
 
-    /// Takes the whole piece. It fails where this write is named, and where there is no memory for
-    /// the piece.
-    fn write(&mut self, piece: &[u8]) -> Result<usize, Failed>
-        requires { 0 < length piece.now }
+    /// Takes all the bytes. It fails where this write is named, and where there is no memory for them.
+    fn write(&mut self, bytes: &[u8]) -> Result<usize, Failed>
+        requires { 0 < length bytes.now }
         ensures fails { IsTrue (fails_next self.old.calls) → IsErr result }
-        ensures whole { IfOk result (λ n. n ≡ length piece.now) }
-        ensures grown { OnOk result (self.new.held ≡ self.old.held ++ piece.now) }
+        ensures whole { IfOk result (λ n. n ≡ length bytes.now) }
+        ensures grown { OnOk result (self.new.held ≡ self.old.held ++ bytes.now) }
         ensures ok { OnOk result (self.new.calls ≡ after_call self.old.calls) }
         ensures err { OnErr result
             (self.new ≡ record self.old { calls = after_fault self.old.calls }) }
     {
         self.calls.begin()?;
-        if self.bytes.extend(piece).is_err() {
+        if self.bytes.extend(bytes).is_err() {
             self.calls.count_fault();
             return Err(Failed);
         }
-        Ok(piece.len())
+        Ok(bytes.len())
     }
 }
