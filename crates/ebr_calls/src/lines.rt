@@ -1,6 +1,6 @@
 //! Lines that are printed.
 
-ghost use Rattle.std.specs.Prelude.{◌≡◌, ◌++◌, ◌≤◌, length, drop, OnOk, IfOk};
+ghost use Rattle.std.specs.Prelude.{◌≡◌, ◌++◌, OnOk};
 ghost use Rattle.ebr_calls.specs.Steps.{line_of, lines_of};
 
 use ebr_base::{Bytes, List, NoMemory, rest_from};

@@ -1,6 +1,6 @@
 //! The lines that tell how a request ended.
 
-ghost use Rattle.std.specs.Prelude.{◌≡◌, ◌++◌, ◌∷◌, [], map, OnOk};
+ghost use Rattle.std.specs.Prelude.{◌≡◌, ◌++◌, [], map, OnOk};
 ghost use Rattle.std.specs.List.{concat};
 ghost use Rattle.ebr_asks.specs.declared.answer.Answer.TheVariants as answered;
 ghost use Rattle.ebr_base.specs.Code.{code_text};

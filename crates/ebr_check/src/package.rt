@@ -1,7 +1,7 @@
 //! What a package's specification may have, and what its body must.
 
 ghost use Rattle.std.specs.Prelude.{◌≡◌, ◌∷◌, [], Some, map, filter_map};
-ghost use Rattle.std.specs.List.{list_all, list_any};
+ghost use Rattle.std.specs.List.{list_all};
 ghost use Rattle.ebr_ast.specs.Views.{unit_named};
 ghost use Rattle.ebr_names.specs.Headers.{head_in};
 ghost use Rattle.ebr_rules.specs.Sites as site;

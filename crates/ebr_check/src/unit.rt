@@ -1,6 +1,6 @@
 //! Units.
 
-ghost use Rattle.std.specs.Prelude.{◌≡◌, ◌∷◌, ◌++◌, [], map, filter_map, OnOk, IfOk, option_map};
+ghost use Rattle.std.specs.Prelude.{◌≡◌, [], map, filter_map, OnOk, IfOk, option_map};
 ghost use Rattle.ebr_base.specs.Answers.{Answers};
 ghost use Rattle.ebr_base.specs.Keys.{table_named};
 ghost use Rattle.ebr_names.specs.Columns as names;

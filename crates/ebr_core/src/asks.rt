@@ -1,6 +1,6 @@
 //! The replies to asks for transactions, of statements, and for the beginning and the end of a call.
 
-ghost use Rattle.std.specs.Prelude.{◌≡◌, ◌<◌, [], IfOk, Ok, Err, Some, None, true, is_some};
+ghost use Rattle.std.specs.Prelude.{◌≡◌, ◌<◌, IfOk, Some, true, is_some};
 ghost use Rattle.ebr_asks.specs.declared.answer.Answer.TheVariants.{Done};
 ghost use Rattle.ebr_database.specs.Database.{data_of, own_on_top, reply_commit, reply_rollback, reply_savepoint, reply_back_to, reply_push, reply_pop};
 ghost use Rattle.ebr_seats.specs.Ends.{reply_end};

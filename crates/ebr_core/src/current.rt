@@ -1,6 +1,6 @@
 //! The database as the engine holds it, and the replies to asks.
 
-ghost use Rattle.std.specs.Prelude.{◌≡◌, ◌≢◌, [], IfOk, Ok, Err, Some, None};
+ghost use Rattle.std.specs.Prelude.{◌≡◌, ◌≢◌, [], IfOk};
 ghost use Rattle.ebr_asks.specs.declared.answer.Answer.TheVariants.{Refused};
 ghost use Rattle.ebr_asks.specs.declared.ask.Ask.TheVariants.{Leave};
 ghost use Rattle.ebr_seats.specs.Tests.{first_tests};

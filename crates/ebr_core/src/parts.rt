@@ -1,6 +1,6 @@
 //! The parts of the engine, and how it answers.
 
-ghost use Rattle.std.specs.Prelude.{◌≡◌, ◌≢◌, ◌<◌, ◌≤◌, ◌+◌, ◌-◌, [], true, false, length, replicate, slice_set, IfOk, OnOk, None, Some, vec_len, vec_capacity};
+ghost use Rattle.std.specs.Prelude.{◌≡◌, ◌≢◌, ◌<◌, ◌≤◌, ◌+◌, ◌-◌, [], true, false, length, replicate, slice_set, IfOk, OnOk, None, vec_len, vec_capacity};
 ghost use Rattle.ebr_asks.specs.declared.ask.Ask.TheVariants.{Leave as leaves};
 ghost use Rattle.ebr_asks.specs.declared.answer.Answer.TheVariants.{Done as done, Stopped as stopped};
 ghost use Rattle.ebr_core.specs.Asked.{IsFit};

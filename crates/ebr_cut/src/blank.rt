@@ -1,6 +1,6 @@
 //! White bytes and comments.
 
-ghost use Rattle.std.specs.Prelude.{◌≡◌, ◌≤◌, ◌<◌, length, drop, Some, None, IfSome, IfOk};
+ghost use Rattle.std.specs.Prelude.{◌≡◌, ◌≤◌, ◌<◌, length, drop, IfSome, IfOk};
 ghost use Rattle.ebr_cut.specs.Reading.{blank_front, blanks_length};
 ghost use Rattle.ebr_cut.specs.inside.Ahead.{line_behind, end_behind, Knows, Sees};
 

@@ -1,6 +1,6 @@
 //! What a piece begins with, as its first words tell.
 
-ghost use Rattle.std.specs.Prelude.{◌≡◌, ◌≤◌, ◌<◌, length, take, map};
+ghost use Rattle.std.specs.Prelude.{◌≡◌, ◌≤◌, length, take, map};
 ghost use Rattle.std.specs.List.{prefix_len};
 ghost use Rattle.std.specs.Str.{bytes_eq};
 ghost use Rattle.ebr_base.specs.Word.{is_letter, is_word_byte, upper};

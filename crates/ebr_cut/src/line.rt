@@ -1,6 +1,6 @@
 //! Lines that hold `/` alone.
 
-ghost use Rattle.std.specs.Prelude.{◌≡◌, ◌≤◌, length, true, false};
+ghost use Rattle.std.specs.Prelude.{◌≡◌, ◌≤◌, length, false};
 ghost use Rattle.ebr_cut.specs.Lines.{rest_is_white, begins_slash, is_slash_line};
 ghost use Rattle.ebr_cut.specs.Reading.{unit_length};
 

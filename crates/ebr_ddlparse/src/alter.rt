@@ -1,6 +1,5 @@
 //! What stands behind ALTER.
 
-ghost use Rattle.std.specs.Prelude.{◌≡◌};
 ghost use Rattle.ebr_grammar.specs.Outcome.{Reads};
 ghost use Rattle.ebr_grammar.specs.Reading.{with_first};
 ghost use Rattle.ebr_ddlparse.specs.Definitions as spec;

@@ -1,6 +1,5 @@
 //! What stands behind CREATE.
 
-ghost use Rattle.std.specs.Prelude.{◌≡◌};
 ghost use Rattle.ebr_grammar.specs.Outcome.{Reads};
 ghost use Rattle.ebr_ddlparse.specs.Definitions as spec;
 

@@ -1,6 +1,5 @@
 //! Types.
 
-ghost use Rattle.std.specs.Prelude.{◌≡◌, Some};
 ghost use Rattle.ebr_grammar.specs.Outcome.{Reads};
 ghost use Rattle.ebr_grammar.specs.Reading.{with_first};
 ghost use Rattle.ebr_ddlparse.specs.Base as base;

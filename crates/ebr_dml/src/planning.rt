@@ -1,13 +1,12 @@
 //! The plan of a statement, against what an edition sees.
 
-ghost use Rattle.std.specs.Prelude.{◌≡◌, [], ◌∷◌, map, option_map, None, IfOk};
+ghost use Rattle.std.specs.Prelude.{◌≡◌, map, IfOk};
 ghost use Rattle.std.specs.Option.{option_copied};
 ghost use Rattle.ebr_base.specs.Answers.{Answers};
 ghost use Rattle.ebr_base.specs.declared.code.Code.TheVariants.{Ora};
 ghost use Rattle.ebr_base.specs.Keys.{table_named};
 ghost use Rattle.ebr_ast.specs.Views.{IsInOrder};
 ghost use Rattle.ebr_names.specs.Columns.{column_named};
-ghost use Rattle.ebr_query.specs.Places.{placed};
 ghost use Rattle.ebr_query.specs.Seen.{table_of};
 ghost use Rattle.ebr_query.specs.Results.{all};
 ghost use Rattle.ebr_dml.specs.Plans as spec;

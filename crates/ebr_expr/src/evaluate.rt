@@ -1,6 +1,6 @@
 //! The values of expressions.
 
-ghost use Rattle.std.specs.Prelude.{◌≡◌, [], map, Ok};
+ghost use Rattle.std.specs.Prelude.{[], map, Ok};
 ghost use Rattle.std.specs.List.{fold};
 ghost use Rattle.ebr_base.specs.Answers.{Answers};
 ghost use Rattle.ebr_expr.specs.Operators.{builtin_at, unsigned};

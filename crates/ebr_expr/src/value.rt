@@ -1,6 +1,6 @@
 //! Values without operands, and what is done with a value once it is computed.
 
-ghost use Rattle.std.specs.Prelude.{◌≡◌, slice_get, pos, Ok};
+ghost use Rattle.std.specs.Prelude.{slice_get, pos, Ok};
 ghost use Rattle.ebr_base.specs.Answers.{Answers};
 ghost use Rattle.ebr_base.specs.Values.{text_value};
 ghost use Rattle.ebr_value.specs.Outcomes.{whole};

@@ -1,6 +1,6 @@
 //! Calls of procedures.
 
-ghost use Rattle.std.specs.Prelude.{◌≡◌, ◌∷◌, ◌++◌, [], drop, map, Some, IfOk, OnOk};
+ghost use Rattle.std.specs.Prelude.{◌≡◌, ◌++◌, [], drop, map, Some, IfOk, OnOk};
 ghost use Rattle.ebr_run.specs.Scope as scope;
 ghost use Rattle.ebr_run.specs.Statements as run;
 ghost use Rattle.ebr_expr.specs.Operators.{builtin_at};

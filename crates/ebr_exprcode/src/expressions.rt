@@ -1,6 +1,6 @@
 //! Expressions.
 
-ghost use Rattle.std.specs.Prelude.{◌≡◌, ◌∷◌, ◌++◌, [], false, true, map, IfOk, OnOk};
+ghost use Rattle.std.specs.Prelude.{◌≡◌, ◌∷◌, ◌++◌, [], false, true, map, OnOk};
 ghost use Rattle.std.specs.Result.{is_ok};
 ghost use Rattle.ebr_code.specs.declared.instruction.Instruction.{Do, Decide};
 ghost use Rattle.ebr_code.specs.declared.instruction.Operation.TheVariants as does;

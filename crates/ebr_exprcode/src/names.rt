@@ -1,7 +1,6 @@
 //! Names as operands.
 
-ghost use Rattle.std.specs.Prelude.{◌≡◌, ◌∷◌, ◌++◌, [], None, Some, IfOk, OnOk, option_map};
-ghost use Rattle.ebr_code.specs.declared.instruction.Instruction.{Do};
+ghost use Rattle.std.specs.Prelude.{◌≡◌, ◌++◌, None, Some, IfOk, OnOk};
 ghost use Rattle.ebr_code.specs.Codes as spec;
 ghost use Rattle.ebr_run.specs.Scope as scope;
 ghost use Rattle.ebr_places.specs.Lent.{lent};

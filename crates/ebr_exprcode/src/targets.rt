@@ -1,7 +1,6 @@
 //! Targets of values.
 
-ghost use Rattle.std.specs.Prelude.{◌≡◌, ◌∷◌, ◌++◌, [], map, Some, IfOk, OnOk, option_map};
-ghost use Rattle.std.specs.Option.{option_copied};
+ghost use Rattle.std.specs.Prelude.{◌≡◌, ◌++◌, map, Some, IfOk, OnOk};
 ghost use Rattle.ebr_run.specs.Scope as scope;
 ghost use Rattle.ebr_run.specs.Statements as run;
 ghost use Rattle.ebr_run.specs.Values.{known_of};

@@ -2,7 +2,6 @@
 
 ghost use Rattle.std.specs.Prelude.{◌≡◌, ◌++◌, OnOk};
 ghost use Rattle.std.specs.Option.{option_copied};
-ghost use Rattle.ebr_editions.specs.Editions.{line_from};
 ghost use Rattle.ebr_cross.specs.Catalogue.{ForLists};
 ghost use Rattle.ebr_fire.specs.Fires.{group, actual_among, ancestors, descendants};
 ghost use Rattle.ebr_fire.specs.inside.Groups.{with_key, with_edition, with_editions};

@@ -1,6 +1,6 @@
 //! Editions: that the calls succeed with ample memory, and the rules of editions on cases worked out by hand.
 
-ghost use Rattle.std.specs.Prelude.{◌≡◌, ◌≢◌, Some, IsFalse};
+ghost use Rattle.std.specs.Prelude.{◌≢◌, Some, IsFalse};
 ghost use Rattle.ebr_editions.specs.Editions.{edition_named};
 
 use crate::answers::{is, release};

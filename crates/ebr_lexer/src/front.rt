@@ -1,6 +1,6 @@
 //! What stands in front of a text.
 
-ghost use Rattle.std.specs.Prelude.{◌≡◌, ◌≤◌, ◌<◌, length, slice_index, IfOk};
+ghost use Rattle.std.specs.Prelude.{◌≤◌, ◌<◌, length, slice_index, IfOk};
 ghost use Rattle.ebr_base.specs.Answers.{Answers};
 ghost use Rattle.ebr_lexer.specs.Reading.{front, other_front};
 

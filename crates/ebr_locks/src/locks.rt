@@ -1,6 +1,6 @@
 //! The rows that are locked, in the order in which they were.
 
-ghost use Rattle.std.specs.Prelude.{◌≡◌, ◌≤◌, ◌<◌, ◌+◌, [], length, take, find, Some, IfOk, OnOk, OnErr};
+ghost use Rattle.std.specs.Prelude.{◌≡◌, [], length, take, find, Some, IfOk, OnOk, OnErr};
 ghost use Rattle.std.specs.Option.{option_copied};
 ghost use Rattle.ebr_locks.specs.Locks.{HasRoom, AreLocks, same_row, holder_of, locks_of, others_than, take_answer, after_take, released, is_held_in};
 

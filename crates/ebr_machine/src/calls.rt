@@ -3,7 +3,6 @@
 ghost use Rattle.std.specs.Prelude.{◌≡◌, map, Some, OnOk};
 ghost use Rattle.std.specs.Prelude.{slice_get as get};
 ghost use Rattle.std.specs.Option.{option_copied};
-ghost use Rattle.ebr_run.specs.Calls as spec;
 ghost use Rattle.ebr_code.specs.Books.{Book};
 ghost use Rattle.ebr_code.specs.Runs.{formal, part_of};
 ghost use Rattle.ebr_code.specs.Instructions.{operate};

@@ -3,12 +3,11 @@
 ghost use Rattle.std.specs.Prelude.{◌≡◌, ◌<◌, ◌-◌, None, OnOk};
 ghost use Rattle.std.specs.Option.{option_copied};
 ghost use Rattle.ebr_run.specs.Packages as packages;
-ghost use Rattle.ebr_run.specs.State.{bare, then_run};
-ghost use Rattle.ebr_code.specs.Instructions.{holding, operate};
+ghost use Rattle.ebr_code.specs.Instructions.{operate};
 ghost use Rattle.ebr_code.specs.Runs.{parts_of};
 ghost use Rattle.ebr_code.specs.declared.instruction.Operation.TheVariants as does;
 ghost use Rattle.ebr_memory.specs.Packages.{made_of};
-ghost use Rattle.ebr_running.specs.Rest.{ActsIn, DoesIn, Moves, calls_at};
+ghost use Rattle.ebr_running.specs.Rest.{ActsIn, DoesIn, Moves};
 ghost use Rattle.ebr_machine.specs.inside.Callees as callees;
 
 use crate::calls::body_unit;

@@ -2,7 +2,6 @@
 
 ghost use Rattle.std.specs.Prelude.{◌≡◌, [], ◌∷◌, OnOk};
 ghost use Rattle.ebr_code.specs.Books.{Book};
-ghost use Rattle.ebr_running.specs.declared.running.Task.TheVariants as task;
 ghost use Rattle.ebr_machine.specs.inside.Callees as callees;
 ghost use Rattle.ebr_machine.specs.inside.Callees.{GoesAs, LeavesAlike};
 

@@ -1,7 +1,6 @@
 //! The numbers of sessions, in decimal.
 
-ghost use Rattle.std.specs.Prelude.{◌≡◌, ◌<◌, ◌≤◌, ◌+◌, min};
-ghost use Rattle.ebr_base.specs.Word.{is_digit};
+ghost use Rattle.std.specs.Prelude.{◌≡◌, ◌≤◌, min};
 ghost use Rattle.ebr_order.specs.Order as spec;
 
 use ebr_base::SessionId;

@@ -1,7 +1,6 @@
 //! What is known at a place in code.
 
 ghost use Rattle.std.specs.Prelude.{◌≡◌, ◌-◌, ◌+◌, [], map, suc, take, drop, length, filter_map, Some, None, Option, OnOk, IfOk, option_map, find};
-ghost use Rattle.std.specs.List.{position};
 ghost use Rattle.std.specs.Option.{option_copied};
 ghost use Rattle.ebr_ast.specs.declared.query.Query.{Query as Asked};
 ghost use Rattle.ebr_ast.specs.declared.statement.Decl.TheVariants as decl;

@@ -1,6 +1,6 @@
 //! Exceptions, and the codes that they have.
 
-ghost use Rattle.std.specs.Prelude.{◌≡◌, Some, None, IfOk, option_map};
+ghost use Rattle.std.specs.Prelude.{◌≡◌, IfOk, option_map};
 ghost use Rattle.ebr_run.specs.Scope as spec;
 ghost use Rattle.ebr_run.specs.declared.fault.Fault.TheVariants as fault;
 ghost use Rattle.ebr_places.specs.Lent.{lent};

@@ -1,6 +1,6 @@
 //! Members of packages, and subprograms that the edition sees.
 
-ghost use Rattle.std.specs.Prelude.{◌≡◌, [], Some, None, IfOk, option_map};
+ghost use Rattle.std.specs.Prelude.{◌≡◌, [], Some, IfOk, option_map};
 ghost use Rattle.std.specs.List.{filter_map, position};
 ghost use Rattle.std.specs.Option.{option_copied, unwrap_or};
 ghost use Rattle.ebr_ast.specs.Views.{unit_key};

@@ -1,6 +1,6 @@
 //! The locks of FOR UPDATE.
 
-ghost use Rattle.std.specs.Prelude.{◌≡◌, ◌∷◌, true, is_some};
+ghost use Rattle.std.specs.Prelude.{◌≡◌, true, is_some};
 ghost use Rattle.ebr_tx.specs.Data.{IsLive, own};
 ghost use Rattle.ebr_query.specs.Queries.{AddsLocks};
 ghost use Rattle.ebr_query.specs.inside.Locking.{Locks};

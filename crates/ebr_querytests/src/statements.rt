@@ -1,6 +1,6 @@
 //! Scripts of three sessions whose statements change rows, each with what it answers.
 
-ghost use Rattle.std.specs.Prelude.{◌≡◌, true, [], is_some, All, IfSome, OnOk};
+ghost use Rattle.std.specs.Prelude.{◌≡◌, true, [], is_some, All, IfSome};
 ghost use Rattle.ebr_ast.specs.Views.{IsInOrder};
 ghost use Rattle.ebr_tx.specs.Calls.{IsMarkOf};
 ghost use Rattle.ebr_tx.specs.Data.{IsLive, IsIn, own, names_of};

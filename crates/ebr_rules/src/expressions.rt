@@ -1,6 +1,6 @@
 //! Expressions in code.
 
-ghost use Rattle.std.specs.Prelude.{◌≡◌, ◌∷◌, ◌++◌, [], Some, None, map, drop, option_map};
+ghost use Rattle.std.specs.Prelude.{◌≡◌, ◌∷◌, [], Some, None, map, drop, option_map};
 ghost use Rattle.std.specs.Option.{option_copied};
 ghost use Rattle.ebr_rules.specs.Sites as site;
 ghost use Rattle.ebr_rules.specs.Expressions as spec;

@@ -1,10 +1,9 @@
 //! The names in a statement of SQL that stands in code.
 
-ghost use Rattle.std.specs.Prelude.{◌≡◌, ◌∷◌, [], map, option_map};
-ghost use Rattle.ebr_rules.specs.Sites as site;
+ghost use Rattle.std.specs.Prelude.{◌≡◌, [], map};
 ghost use Rattle.ebr_rules.specs.Embedded as spec;
 ghost use Rattle.ebr_rules.specs.Noted.{noted};
-ghost use Rattle.ebr_scope.specs.Lent.{lent, env};
+ghost use Rattle.ebr_scope.specs.Lent.{env};
 
 use crate::expressions::{fires, image_type, images};
 use crate::verdict::must;

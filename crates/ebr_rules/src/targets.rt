@@ -1,8 +1,7 @@
 //! Targets of assignments, of INTO and of FETCH.
 
-ghost use Rattle.std.specs.Prelude.{◌≡◌, ◌∷◌, [], length, drop};
+ghost use Rattle.std.specs.Prelude.{◌≡◌, [], drop};
 ghost use Rattle.std.specs.Option.{option_copied};
-ghost use Rattle.ebr_rules.specs.Sites as site;
 ghost use Rattle.ebr_rules.specs.Targets as spec;
 ghost use Rattle.ebr_rules.specs.Noted.{noted};
 ghost use Rattle.ebr_scope.specs.Lent.{env};

@@ -3,7 +3,6 @@
 ghost use Rattle.std.specs.Prelude.{◌≡◌, slice_get};
 ghost use Rattle.std.specs.Option.{option_copied};
 ghost use Rattle.ebr_base.specs.Keys.{table_named};
-ghost use Rattle.ebr_ast.specs.Views.{IsInOrder};
 ghost use Rattle.ebr_names.specs.Columns as definitions;
 ghost use Rattle.ebr_sqlcheck.specs.Targets.{column_type};
 ghost use Rattle.ebr_scope.specs.Declarations as spec;

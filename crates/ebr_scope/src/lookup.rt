@@ -1,6 +1,6 @@
 //! What names in code stand for.
 
-ghost use Rattle.std.specs.Prelude.{◌≡◌, ◌||◌, [], option_map, option_and_then, find};
+ghost use Rattle.std.specs.Prelude.{◌≡◌, [], option_map, option_and_then, find};
 ghost use Rattle.std.specs.Option.{option_copied, unwrap_or};
 ghost use Rattle.std.specs.Str.{bytes_eq};
 ghost use Rattle.ebr_scope.specs.Names as spec;

@@ -1,7 +1,6 @@
 //! What names stand for, and what may stand where.
 
-ghost use Rattle.std.specs.Prelude.{◌≡◌, option_map, length};
-ghost use Rattle.std.specs.Option.{option_copied};
+ghost use Rattle.std.specs.Prelude.{◌≡◌, option_map};
 ghost use Rattle.ebr_scope.specs.Meanings as spec;
 ghost use Rattle.ebr_scope.specs.Around.{variable_type};
 ghost use Rattle.ebr_scope.specs.Lent.{lent};

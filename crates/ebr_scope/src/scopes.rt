@@ -33,7 +33,7 @@ pub struct Scopes<'a> {
 }
 
 impl<'a> Model for Scopes<'a> {
-    ghost use Rattle.std.specs.Prelude.{List, map, reverse};
+    ghost use Rattle.std.specs.Prelude.{map, reverse};
     ghost use Rattle.ebr_scope.specs.Meanings as spec;
     ghost use Rattle.ebr_scope.specs.Lent.{lent};
     ghost use Rattle.ebr_scope.specs.inside.Kept.{IsKept};

@@ -1,9 +1,9 @@
 //! The beginning and the end of a call, the session's edition, what is counted of its asks, and its end.
 
-ghost use Rattle.std.specs.Prelude.{◌≡◌, filter, not, true, Some, None, Ok, IfSome, OnOk, OnErr};
+ghost use Rattle.std.specs.Prelude.{◌≡◌, filter, not, true, Some, None, IfSome, OnOk, OnErr};
 ghost use Rattle.ebr_asks.specs.declared.answer.Answer.TheVariants.{Done};
 ghost use Rattle.ebr_tx.specs.Data.{Data as Contents, IsLive, named_at, names_of, stack_of};
-ghost use Rattle.ebr_tx.specs.Calls.{HasLevel, IsMarkOf, after_pop, mark_of, top};
+ghost use Rattle.ebr_tx.specs.Calls.{HasLevel, IsMarkOf, after_pop, top};
 ghost use Rattle.ebr_locks.specs.Locks.{same_tx};
 ghost use Rattle.ebr_database.specs.Storable.{AllStorable};
 ghost use Rattle.ebr_database.specs.Database.{counted, data_of, own_on_top, with_session};

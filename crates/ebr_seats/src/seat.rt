@@ -1,6 +1,6 @@
 //! The seats of sessions.
 
-ghost use Rattle.std.specs.Prelude.{◌≡◌, ◌==◌, ◌<◌, ◌≤◌, ◌+◌, ◌-◌, ◌++◌, ◌∷◌, [], ℕ, min, IfOk, OnOk, Some, None, replicate, length, option_map, if◌then◌else◌};
+ghost use Rattle.std.specs.Prelude.{◌≡◌, ◌==◌, ◌<◌, ◌≤◌, ◌+◌, ◌-◌, ◌++◌, ◌∷◌, [], min, IfOk, OnOk, Some, None, replicate, option_map, if◌then◌else◌};
 ghost use Rattle.std.specs.List.{filter_map};
 ghost use Rattle.ebr_base.specs.declared.numbers.SessionId.{SessionId as Id};
 ghost use Rattle.ebr_tx.specs.Calls.{levels};

@@ -1,6 +1,6 @@
 //! The asks for transactions, for the one on top of a session's stack.
 
-ghost use Rattle.std.specs.Prelude.{◌≡◌, ◌<◌, ◌+◌, ◌-◌, ◌==◌, true, is_some, IfOk, Some, Ok, OnOk};
+ghost use Rattle.std.specs.Prelude.{◌≡◌, ◌<◌, ◌+◌, ◌-◌, ◌==◌, true, is_some, Some, Ok, OnOk};
 ghost use Rattle.ebr_tx.specs.Data.{named_at, IsLive};
 ghost use Rattle.ebr_tx.specs.Calls.{mark_of, IsMarkOf};
 ghost use Rattle.ebr_database.specs.Database.{as_answer, reply_commit, reply_rollback, reply_savepoint, reply_back_to, reply_push, reply_pop};

@@ -1,6 +1,6 @@
 //! What is done with an answer.
 
-ghost use Rattle.std.specs.Prelude.{◌≡◌, false, true};
+ghost use Rattle.std.specs.Prelude.{true};
 ghost use Rattle.ebr_base.specs.Code.{code_text};
 ghost use Rattle.ebr_calls.specs.Steps.{closing, ending};
 ghost use Rattle.ebr_calls.specs.Courses.{finishing};

@@ -1,6 +1,6 @@
 //! The pieces of a script, and what they ask.
 
-ghost use Rattle.std.specs.Prelude.{◌≡◌, ◌≤◌, [], ◌∷◌, codes, length, IfOk};
+ghost use Rattle.std.specs.Prelude.{◌≡◌, ◌≤◌, [], codes, length, IfOk};
 ghost use Rattle.ebr_script.specs.Pieces as pieces;
 ghost use Rattle.ebr_run.specs.Statements as spec;
 ghost use Rattle.ebr_session.specs.Has.{most_bytes};

@@ -1,6 +1,6 @@
 //! What a session asked and was answered.
 
-ghost use Rattle.std.specs.Prelude.{◌≡◌, ◌+◌, ◌≤◌, [], ◌∷◌, ◌++◌, length, IfOk, OnOk};
+ghost use Rattle.std.specs.Prelude.{◌≡◌, ◌+◌, [], ◌∷◌, ◌++◌, length, IfOk, OnOk};
 ghost use Rattle.ebr_session.specs.inside.Kept.{HasRoom};
 
 use ebr_asks::Exchange;

@@ -1,6 +1,6 @@
 //! The checks of INSERT, UPDATE and DELETE.
 
-ghost use Rattle.std.specs.Prelude.{◌≡◌, [], map, IfOk};
+ghost use Rattle.std.specs.Prelude.{◌≡◌, [], map};
 ghost use Rattle.ebr_base.specs.Answers.{Answers};
 ghost use Rattle.ebr_ast.specs.Views.{IsInOrder};
 ghost use Rattle.ebr_sqlcheck.specs.Checked.{each};

@@ -5,7 +5,7 @@ ghost use Rattle.ebr_base.specs.Answers.{Answers};
 ghost use Rattle.ebr_ast.specs.Views.{IsInOrder};
 ghost use Rattle.ebr_sqlcheck.specs.Checked.{each};
 ghost use Rattle.ebr_sqlcheck.specs.Names.{names_in};
-ghost use Rattle.ebr_sqlcheck.specs.Operands.{typed, wants};
+ghost use Rattle.ebr_sqlcheck.specs.Operands.{typed};
 ghost use Rattle.ebr_sqlcheck.specs.Statements as spec;
 
 use crate::aggregate::stands;

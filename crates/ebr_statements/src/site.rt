@@ -1,7 +1,5 @@
 //! What the bodies of a statement's triggers stand on.
 
-ghost use Rattle.std.specs.Prelude.{◌≡◌};
-
 use ebr_base::{List, TableId, TxId};
 use std::marker::Model;
 

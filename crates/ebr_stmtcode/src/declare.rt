@@ -1,6 +1,6 @@
 //! Declarations.
 
-ghost use Rattle.std.specs.Prelude.{◌≡◌, ◌∷◌, ◌++◌, [], Some, IfOk, OnOk};
+ghost use Rattle.std.specs.Prelude.{◌≡◌, ◌∷◌, ◌++◌, [], Some, OnOk};
 ghost use Rattle.ebr_ast.specs.declared.statement.Decl.TheVariants as decl;
 ghost use Rattle.ebr_code.specs.declared.instruction.Instruction.{Do};
 ghost use Rattle.ebr_code.specs.declared.instruction.Operation.TheVariants as does;

@@ -1,6 +1,6 @@
 //! Loops over rows.
 
-ghost use Rattle.std.specs.Prelude.{◌≡◌, ◌+◌, ◌∷◌, ◌++◌, [], None, Some, map, IfOk, OnOk, option_map};
+ghost use Rattle.std.specs.Prelude.{◌≡◌, ◌+◌, ◌∷◌, ◌++◌, [], Some, map, IfOk, OnOk, option_map};
 ghost use Rattle.ebr_ast.specs.declared.statement.RowsFrom.TheVariants as from;
 ghost use Rattle.ebr_code.specs.declared.instruction.Instruction.{Do, Loop, Closing};
 ghost use Rattle.ebr_code.specs.declared.instruction.Operation.TheVariants as does;

@@ -1,7 +1,6 @@
 //! Statements of SQL.
 
-ghost use Rattle.std.specs.Prelude.{◌≡◌, ◌∷◌, ◌++◌, [], map, length, IfOk, OnOk};
-ghost use Rattle.ebr_ast.specs.declared.sql.SqlTree.TheVariants as statement;
+ghost use Rattle.std.specs.Prelude.{◌≡◌, ◌∷◌, ◌++◌, [], map, IfOk, OnOk};
 ghost use Rattle.ebr_code.specs.declared.instruction.Lookup.TheVariants as lookup;
 ghost use Rattle.ebr_code.specs.declared.instruction.Instruction.{Do};
 ghost use Rattle.ebr_code.specs.declared.instruction.Operation.TheVariants as does;

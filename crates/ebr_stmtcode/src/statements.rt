@@ -1,6 +1,6 @@
 //! Statements and blocks.
 
-ghost use Rattle.std.specs.Prelude.{◌≡◌, ◌∷◌, ◌++◌, [], map, suc, Some, IfOk, OnOk};
+ghost use Rattle.std.specs.Prelude.{◌≡◌, ◌∷◌, ◌++◌, [], map, suc, IfOk, OnOk};
 ghost use Rattle.ebr_code.specs.declared.instruction.Instruction.{Do, Guard};
 ghost use Rattle.ebr_code.specs.declared.instruction.Operation.TheVariants as does;
 ghost use Rattle.ebr_run.specs.Scope as scope;

@@ -1,6 +1,5 @@
 //! Blocks at a cursor, for the readers of what holds blocks.
 
-ghost use Rattle.std.specs.Prelude.{◌≡◌};
 ghost use Rattle.ebr_grammar.specs.Outcome.{Reads};
 ghost use Rattle.ebr_stmtparse.specs.Statements as spec;
 

@@ -1,6 +1,6 @@
 //! Which definitions of tables are allowed, and how they are kept.
 
-ghost use Rattle.std.specs.Prelude.{◌≡◌, ◌≤◌, length, nat_eq, nat_le, IfOk};
+ghost use Rattle.std.specs.Prelude.{◌≡◌, nat_eq, nat_le, IfOk};
 ghost use Rattle.std.specs.List.{list_any};
 ghost use Rattle.std.specs.Str.{bytes_eq};
 ghost use Rattle.ebr_tables.specs.Definitions.{has_repetition, same_name, is_bad_size, is_bad_key, is_bad_table, is_bad_column, with_key_not_null};

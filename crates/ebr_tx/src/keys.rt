@@ -1,9 +1,9 @@
 //! The test of keys.
 
-ghost use Rattle.std.specs.Prelude.{◌≡◌, ◌<◌, ◌++◌, length, not, ◌&&◌, ◌||◌, ◌==◌, IfOk, IfSome, Some, None};
+ghost use Rattle.std.specs.Prelude.{◌≡◌, ◌<◌, ◌++◌, length, IfOk, IfSome, Some};
 ghost use Rattle.std.specs.List.{list_any};
 ghost use Rattle.std.specs.Option.{option_copied};
-ghost use Rattle.ebr_versions.specs.Data.{last_change, changes_row, changes_in, row_numbers, values_by, next_row, Latest, At};
+ghost use Rattle.ebr_versions.specs.Data.{last_change, changes_in, row_numbers, values_by, next_row, Latest, At};
 ghost use Rattle.ebr_versions.specs.Keys.{key_of, key_places, value_at};
 ghost use Rattle.ebr_tx.specs.Data.{some_other};
 ghost use Rattle.ebr_tx.specs.Conflicts.{has_key, gives_key, gives_key_by, another_has, is_another};

@@ -1,7 +1,7 @@
 //! How much a transaction may change.
 
 ghost use Rattle.std.specs.Prelude.{◌≡◌, ◌+◌, min, sum_by, nat_lt, length};
-ghost use Rattle.ebr_tx.specs.Limits.{is_full, limit_refusal, max_record, value_length, values_length, change_length, record_length};
+ghost use Rattle.ebr_tx.specs.Limits.{is_full, limit_refusal, max_record, value_length, values_length, change_length};
 
 use ebr_base::{Change, Code, Value};
 

@@ -3,7 +3,7 @@
 ghost use Rattle.std.specs.Prelude.{◌≡◌, ◌<◌, nat_lt, reverse, None, [], ◌∷◌, ◌++◌, length, find, filter, not, unwrap_or, OnOk, OnErr, IfOk};
 ghost use Rattle.std.specs.List.{position_or_len, list_any, flat_map, last_or};
 ghost use Rattle.std.specs.Option.{option_copied};
-ghost use Rattle.ebr_versions.specs.Data.{changes_row, is_in, greatest_number_in};
+ghost use Rattle.ebr_versions.specs.Data.{is_in, greatest_number_in};
 ghost use Rattle.ebr_tx.specs.Data.{is_named, names_of, IsIn, not_begun, changed, is_of_session, stack_of, top_of, some_other, changes_by};
 ghost use Rattle.ebr_tx.specs.Conflicts.{changes_row_by, changes_in_table};
 ghost use Rattle.ebr_tx.specs.Calls.{first_transactions, begun_at, with_change, with_savepoint, kept_to, marked, ended};

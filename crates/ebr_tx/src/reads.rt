@@ -1,9 +1,9 @@
 //! What a transaction sees.
 
-ghost use Rattle.std.specs.Prelude.{◌≡◌, ◌++◌, ◌<◌, Some, None, nat_lt, filter, option_map, is_some, IfSome};
+ghost use Rattle.std.specs.Prelude.{◌≡◌, ◌++◌, ◌<◌, nat_lt, filter, option_map, is_some, IfSome};
 ghost use Rattle.std.specs.Option.{option_copied};
-ghost use Rattle.ebr_versions.specs.Data.{last_change, changes_in, row_numbers, least, row_no};
-ghost use Rattle.ebr_tx.specs.Reads.{over, committed, seen_by, next_by};
+ghost use Rattle.ebr_versions.specs.Data.{changes_in, row_numbers, least, row_no};
+ghost use Rattle.ebr_tx.specs.Reads.{committed, seen_by, next_by};
 ghost use Rattle.ebr_tx.specs.Conflicts.{is_late};
 
 use crate::transaction::Live;

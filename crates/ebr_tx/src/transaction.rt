@@ -1,6 +1,6 @@
 //! One transaction's own lists.
 
-ghost use Rattle.std.specs.Prelude.{◌≡◌, [], ◌∷◌, ◌++◌, length, take, OnOk, OnErr, IfOk};
+ghost use Rattle.std.specs.Prelude.{◌≡◌, OnOk, OnErr};
 ghost use Rattle.ebr_tx.specs.Data.{not_begun};
 ghost use Rattle.ebr_tx.specs.Calls.{begun_at, with_change, with_savepoint, marked, kept_to, ended};
 
