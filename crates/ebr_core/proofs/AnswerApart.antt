@@ -9,7 +9,7 @@ use Rattle.ebr_asks.specs.declared.entry.Entry.{Entry}
 use Rattle.ebr_record.specs.Keeper.{Keeper}
 use Rattle.ebr_database.specs.Database.{Session, Database, session_at}
 use Rattle.ebr_core.specs.Apart.{EndsAlike, IsAnsweredApart, IsApart}
-use Rattle.ebr_core.specs.Engine.{Answers, EngineState, Gives, database_of, entry_of, first_of, has_given_up}
+use Rattle.ebr_core.specs.Engine.{AnswersAsk, EngineState, Gives, database_of, entry_of, first_of, has_given_up}
 use Rattle.ebr_core.specs.History.{After, edition_of, next}
 use Rattle.ebr_core.specs.Machine.{Build, Reply}
 use Rattle.ebr_core.proofs.Histories.{After-append}
@@ -38,5 +38,5 @@ module _ {K : Type 0} (told : K → Keeper) (old new : EngineState K) (s : Sessi
   by_answer false answer.Stopped entry sessions g = absurd g
   by_answer false a entry sessions g = replied_apart (database_of old) s q a (database_of new) g.0 (behind (entry_of s q a) entry sessions)
 
-  pub answer_apart : (a : Answer) → Answers told old new s q a → IsApart (database_of old) s q a (database_of new)
+  pub answer_apart : (a : Answer) → AnswersAsk told old new s q a → IsApart (database_of old) s q a (database_of new)
   answer_apart a h = by_answer (has_given_up old.history) a h.entry h.sessions h.gives

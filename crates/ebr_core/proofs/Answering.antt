@@ -21,7 +21,7 @@ use Rattle.ebr_core.specs.declared.current.Current.{Current}
 use Rattle.ebr_core.specs.declared.parts.Parts.{Parts}
 use Rattle.ebr_core.specs.Machine.{Build, Reply}
 use Rattle.ebr_core.specs.History.{After, AllStopped, IsLive, Legal, edition_of, next, session_edition}
-use Rattle.ebr_core.specs.Engine.{Answers, Gives, HasBook, HasLegalHistory, IsAnswer, database_of, entry_of, has_given_up, is_last, with_book}
+use Rattle.ebr_core.specs.Engine.{AnswersAsk, Gives, HasBook, HasLegalHistory, IsAnswer, database_of, entry_of, has_given_up, is_last, with_book}
 use Rattle.ebr_core.specs.inside.Held.{ComesWith, Holds, IsHeld, IsReplied}
 use Rattle.ebr_core.specs.inside.Parts.{Adds, Copies, GivesUp, Tries, HasRoom, HasStopped, IsSound, Keeps, Runs, Stands, database, entry, first, last_answer, live_count, lives, lives_at, state_of}
 use Rattle.ebr_core.proofs.Lives.{Replies, Suits, at_there, count_most, lives_is, lives_left, one_left, other_lives, reply_suits, within}
@@ -211,7 +211,7 @@ module _ {K : Type 0} (told : K → Keeper) where
       answers_by : (ask : Ask) (y : Answer) → x ≡ entry_of s ask y → IsSound told new → ((r : SessionId) → (r.0 ≡ s.0 → ⊥) → lives_at old.living.items r.0 ≡ true → lives_at living r.0 ≡ true)
           → (y ≢ answer.Stopped → ask ≢ Leave → lives_at living s.0 ≡ true) → HasLegalHistory (state_of told new) → HasBook y book
           → (ask ≡ Leave → has_given_up old.history.items ≡ false → y ≡ answer.Done)
-          → Gives told (has_given_up old.history.items) old.current.world.keeper new.current.world.keeper y (Reply db s ask) → Answers told (state_of told old) (state_of told new) s ask y
+          → Gives told (has_given_up old.history.items) old.current.world.keeper new.current.world.keeper y (Reply db s ask) → AnswersAsk told (state_of told old) (state_of told new) s ask y
       answers_by ask y same sound others stays legal has leaves gives = record {
         entry = a.entry ∙ ap (λ e. old.history.items ++ e ∷ []) same;
         legal = legal;
@@ -276,8 +276,8 @@ module _ {K : Type 0} (told : K → Keeper) where
         stands = subst (λ b. Stands told b new) (sym (a.stopped ∙ is)) stays_stopped;
       }
 
-      pub stop_answers : (ask : Ask) (y : Answer) → y ≡ answer.Stopped → Answers told (state_of told old) (state_of told new) s ask y
-      stop_answers ask y same = subst (λ y. Answers told (state_of told old) (state_of told new) s ask y) (sym same)
+      pub stop_answers : (ask : Ask) (y : Answer) → y ≡ answer.Stopped → AnswersAsk told (state_of told old) (state_of told new) s ask y
+      stop_answers ask y same = subst (λ y. AnswersAsk told (state_of told old) (state_of told new) s ask y) (sym same)
           (answers_by new _ None _ es left_len ask answer.Stopped refl stop_sound left_others (λ y' stays. absurd (y' refl)) (whole new _ None _ es left_len AllStopped stays_stopped.legal tt) refl (λ q gave. absurd (true_false (sym (given_before true is) ∙ gave)))
           (subst (λ b. Gives told b old.current.world.keeper new.current.world.keeper answer.Stopped (Reply db s ask)) (sym (given_before true is))
           (refl, ap (λ (c : Current K). c.world.keeper) current)))
@@ -310,7 +310,7 @@ module _ {K : Type 0} (told : K → Keeper) where
 
         pub reply_answers : ((r : SessionId) → (r.0 ≡ s.0 → ⊥) → lives_at old.living.items r.0 ≡ true → lives_at living r.0 ≡ true) → (y ≢ answer.Stopped → ask ≢ Leave → lives_at living s.0 ≡ true)
             → entry s ask y ≡ entry_of s ask y → HasBook y book → (ask ≡ Leave → has_given_up old.history.items ≡ false → y ≡ answer.Done) → IsAnswer y (Reply db s ask) (told old.current.world.keeper) (told new.current.world.keeper)
-            → Answers told (state_of told old) (state_of told new) s ask y
+            → AnswersAsk told (state_of told old) (state_of told new) s ask y
         reply_answers others stays same has leaves answers =
             answers_by new _ book living e len ask y same reply_sound others stays (whole new _ book living e len Legal goes_legal tt) has leaves
             (subst (λ b. Gives told b old.current.world.keeper new.current.world.keeper y (Reply db s ask)) (sym (given_before false is)) answers)
@@ -330,8 +330,8 @@ module _ {K : Type 0} (told : K → Keeper) where
         pub leave_sound : IsSound told new
         leave_sound = reply_sound Leave answer.Done None _ (entered new _ None _ a) left_len r refl left_room a.stopped left_is
 
-        pub leave_answers : (y : Answer) → y ≡ answer.Done → Answers told (state_of told old) (state_of told new) s Leave y
-        leave_answers y same = subst (λ y. Answers told (state_of told old) (state_of told new) s Leave y) (sym same)
+        pub leave_answers : (y : Answer) → y ≡ answer.Done → AnswersAsk told (state_of told old) (state_of told new) s Leave y
+        leave_answers y same = subst (λ y. AnswersAsk told (state_of told old) (state_of told new) s Leave y) (sym same)
             (reply_answers Leave answer.Done None _ (entered new _ None _ a) left_len r refl left_room a.stopped left_is left_others (λ y' stays. absurd (stays refl)) refl refl (λ q gave. refl) (r.answer, r.kept))
 
       -- another ask, with room made before
@@ -367,7 +367,7 @@ module _ {K : Type 0} (told : K → Keeper) where
           pub asked_sound : IsSound told new
           asked_sound = reply_sound ask y book old.living.items on_old refl replied (is_no_last ask y replies) enough_room (a.stopped ∙ k.stopped) same_lives
 
-          pub asked_answers : Answers told (state_of told old) (state_of told new) s ask y
+          pub asked_answers : AnswersAsk told (state_of told old) (state_of told new) s ask y
           asked_answers =
               reply_answers ask y book old.living.items on_old refl replied (is_no_last ask y replies) enough_room (a.stopped ∙ k.stopped) same_lives
               (λ r' differ is'. is') (λ y' stays'. lives_s) (entry_is s ask y replies) (has_book ask y book replies comes) (λ q gave. absurd (stays q)) (is_answer ask y (Reply db s ask) _ _ replies r.answer replied.kept)
@@ -405,8 +405,8 @@ module _ {K : Type 0} (told : K → Keeper) where
               g_entry : new.history.items ≡ old.history.items ++ entry s ask (last_answer why) ∷ []
               g_entry = on_last.entry
 
-          pub last_answers : (y : Answer) → y ≡ last_answer why → Answers told (state_of told old) (state_of told new) s ask y
-          last_answers y same = subst (λ y. Answers told (state_of told old) (state_of told new) s ask y) (sym same)
+          pub last_answers : (y : Answer) → y ≡ last_answer why → AnswersAsk told (state_of told old) (state_of told new) s ask y
+          last_answers y same = subst (λ y. AnswersAsk told (state_of told old) (state_of told new) s ask y) (sym same)
               (answers_by new _ None _ on_last refl ask (last_answer why) (last_entry s ask why) last_sound (λ r' differ is'. is') (λ y' stays'. lives_s) (whole new _ None _ on_last refl AllStopped last_legal tt) (last_book why) (λ q gave. absurd (stays q))
               (subst (λ b. Gives told b old.current.world.keeper new.current.world.keeper (last_answer why) (Reply db s ask)) (sym (given_before false is))
               (is_last_answer why (Reply db s ask) _ _ (runs is).goes (subst (λ (c : Current K). GaveUp (told old.current.world.keeper) (told c.world.keeper) (Reply db s ask).records why) (sym current) up))))

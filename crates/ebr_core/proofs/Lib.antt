@@ -9,7 +9,7 @@ mod ReadsBack
 mod SmallRecords
 mod Spellings
 mod HeldAgain
-mod Begun
+mod CallBeginning
 mod Switched
 mod StatementRecords
 mod RunStatements

@@ -98,7 +98,7 @@ Gives told true old new a r = (a ≡ Stopped) × (new ≡ old)
 
 -- What comes of an ask: its answer and one entry, in a history that is legal with it. Leave always finds its memory. Other sessions
 -- that live stay so, and the session itself unless it leaves or is answered Stopped.
-pub record Answers {K : Type 0} (told : K → Keeper) (old new : EngineState K) (s : SessionId) (ask : Ask) (a : Answer) : Type 0 where
+pub record AnswersAsk {K : Type 0} (told : K → Keeper) (old new : EngineState K) (s : SessionId) (ask : Ask) (a : Answer) : Type 0 where
   pub entry : new.history ≡ old.history ++ entry_of s ask a ∷ []
   pub legal : HasLegalHistory new
   pub sessions : new.sessions ≡ old.sessions

@@ -3,7 +3,7 @@
 ghost use Rattle.std.specs.Prelude.{◌≡◌, ◌↔◌, [], IsTrue, IfOk, None};
 ghost use Rattle.ebr_core.specs.Apart.{IsApart};
 ghost use Rattle.ebr_core.specs.Asked.{IsFit};
-ghost use Rattle.ebr_core.specs.Engine.{Answers, HasLegalHistory, IsEmpty, book_at, database_of, no_books, with_book};
+ghost use Rattle.ebr_core.specs.Engine.{AnswersAsk, HasLegalHistory, IsEmpty, book_at, database_of, no_books, with_book};
 ghost use Rattle.ebr_core.specs.History.{IsLive};
 
 use crate::current::Current;
@@ -62,7 +62,7 @@ impl<K: Keep> Engine<K> {
     pub fn answer(&mut self, s: SessionId, ask: Ask) -> Answer
         requires live { IsLive (database_of self.old) s }
         requires fit { IsFit ask }
-        ensures answers { Answers K.told self.old self.new s ask result }
+        ensures answers { AnswersAsk K.told self.old self.new s ask result }
         ensures apart { IsApart (database_of self.old) s ask result (database_of self.new) }
     {
         self.parts.answer(s, ask)

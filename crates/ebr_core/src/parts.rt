@@ -4,7 +4,7 @@ ghost use Rattle.std.specs.Prelude.{◌≡◌, ◌≢◌, ◌<◌, ◌≤◌, �
 ghost use Rattle.ebr_asks.specs.declared.ask.Ask.TheVariants.{Leave as leaves};
 ghost use Rattle.ebr_asks.specs.declared.answer.Answer.TheVariants.{Done as done, Stopped as stopped};
 ghost use Rattle.ebr_core.specs.Asked.{IsFit};
-ghost use Rattle.ebr_core.specs.Engine.{Answers, IsEmpty, book_at, no_books, with_book};
+ghost use Rattle.ebr_core.specs.Engine.{AnswersAsk, IsEmpty, book_at, no_books, with_book};
 ghost use Rattle.ebr_core.specs.History.{IsLive};
 ghost use Rattle.ebr_core.specs.Machine as spec;
 ghost use Rattle.ebr_core.specs.inside.Held.{ComesWith, ForSession, Holds, IsHeld, IsReplied};
@@ -66,7 +66,7 @@ impl<K: Keep> Parts<K> {
         requires live { IsLive (database K.told self.old) s }
         requires fit { IsFit ask }
         ensures sound { IsSound K.told self.new }
-        ensures answers { Answers K.told (state_of K.told self.old) (state_of K.told self.new) s ask result }
+        ensures answers { AnswersAsk K.told (state_of K.told self.old) (state_of K.told self.new) s ask result }
     {
         if self.stopped {
             return self.stop(s);
@@ -111,7 +111,7 @@ impl<K: Keep> Parts<K> {
         requires stays { ask ≢ leaves }
         requires fit { IsFit ask }
         ensures sound { IsSound K.told self.new }
-        ensures answers { Answers K.told (state_of K.told self.old) (state_of K.told self.new) s ask result }
+        ensures answers { AnswersAsk K.told (state_of K.told self.old) (state_of K.told self.new) s ask result }
     {
         match self.try_reply(s, &ask) {
             Ok((given, copy)) => self.give(s, ask, given, copy),

@@ -52,22 +52,22 @@ if_right false b p = p
 
 -- ---- how a spelling begins
 
-abbrev Begun : List Kind → Bool → List Token → Type 0
-Begun kinds b ts = (sees kinds ts ≡ true) ⊎ ((b ≡ true) × (ts ≡ []))
+abbrev BeginsAmong : List Kind → Bool → List Token → Type 0
+BeginsAmong kinds b ts = (sees kinds ts ≡ true) ⊎ ((b ≡ true) × (ts ≡ []))
 
 begun_token : (kinds : List Kind) (ts : List Token) (t : Token) → ts ≡ t ∷ [] → member (kind_of t) kinds ≡ true → sees kinds ts ≡ true
 unfolding sees
 begun_token kinds ts t e m = subst (λ (x : List Token). sees kinds x ≡ true) (sym e) m
 
-begun_each : {A : Type 0} (F : Form A) (kinds : List Kind) (b : Bool) → ((ts : List Token) (a : A) → F ts a → Begun kinds b ts)
-    → (all : List A) (ts : List Token) → SpellsEach F all ts → Begun kinds true ts
+begun_each : {A : Type 0} (F : Form A) (kinds : List Kind) (b : Bool) → ((ts : List Token) (a : A) → F ts a → BeginsAmong kinds b ts)
+    → (all : List A) (ts : List Token) → SpellsEach F all ts → BeginsAmong kinds true ts
 begun_each F kinds b h [] ts s = inr (refl, s)
 begun_each F kinds b h (a ∷ all) ts s =
     elim (h s.0 a s.3) [
       | inl seen ↦ inl (subst (λ (z : List Token). sees kinds z ≡ true) (sym s.2) (sees-append kinds s.0 s.1 seen))
       | inr none ↦
           let e : ts ≡ s.1 = s.2 ∙ ap (λ (z : List Token). z ++ s.1) none.1 in
-          subst (λ (z : List Token). Begun kinds true z) (sym e) (begun_each F kinds b h all s.1 s.4)
+          subst (λ (z : List Token). BeginsAmong kinds true z) (sym e) (begun_each F kinds b h all s.1 s.4)
     ]
 
 module _ {K : Type 0} {V : K → Type 0} (hints : Hints K) (given : (k : K) → Form (V k)) (starts : (k : K) (ts : List Token) (a : V k) → given k ts a → sees (hints.begins k) ts ≡ true) where
@@ -81,7 +81,7 @@ module _ {K : Type 0} {V : K → Type 0} (hints : Hints K) (given : (k : K) → 
       let q = and_true (is_clear hints h) (apart (after hints g) (first hints h)) p.1 in
       begun_both (nullable hints g) (nullable hints h) (first hints g) (first hints h) ts s.0 s.1 s.4 (begun g p.0 rights.0 s.0 s.2 s.5) (begun h q.0 rights.1 s.1 s.3 s.6)
     where
-      begun_both : (m n : Bool) (xs ys : List Kind) (ts x y : List Token) → ts ≡ x ++ y → Begun xs m x → Begun ys n y → Begun (if m then xs ++ ys else xs) (if m then n else false) ts
+      begun_both : (m n : Bool) (xs ys : List Kind) (ts x y : List Token) → ts ≡ x ++ y → BeginsAmong xs m x → BeginsAmong ys n y → BeginsAmong (if m then xs ++ ys else xs) (if m then n else false) ts
       begun_both m n xs ys ts x y e (inl p) q = inl (first_then m xs ys ts (subst (λ (z : List Token). sees xs z ≡ true) (sym e) (sees-append xs x y p)))
       begun_both m n xs ys ts x y e (inr p) (inl q) = inl (then_first m xs ys ts p.0 (subst (λ (z : List Token). sees ys z ≡ true) (sym (e ∙ ap (λ (z : List Token). z ++ y) p.1)) q))
       begun_both m n xs ys ts x y e (inr p) (inr q) = inr (if_both m n p.0 q.0, e ∙ ap (λ (z : List Token). z ++ y) p.1 ∙ q.1)
@@ -253,11 +253,11 @@ follow_or true xs ys zs rest e = let p = sees_neither xs (ys ++ zs) rest e in le
 follow_or false xs ys zs rest e = let p = sees_neither xs ys rest e in (p.0, p.1, λ is. absurd cc)
 
 -- what comes next is not what the first part goes on with
-unseen_after : (b : Bool) (goes begins : List Kind) (y rest : List Token) → apart goes begins ≡ true → Begun begins b y → (b ≡ true → sees goes rest ≡ false) → sees goes (y ++ rest) ≡ false
+unseen_after : (b : Bool) (goes begins : List Kind) (y rest : List Token) → apart goes begins ≡ true → BeginsAmong begins b y → (b ≡ true → sees goes rest ≡ false) → sees goes (y ++ rest) ≡ false
 unseen_after b goes begins y rest e (inl seen) h = sees-apart goes begins (y ++ rest) e (sees-append begins y rest seen)
 unseen_after b goes begins y rest e (inr none) h = subst (λ (z : List Token). sees goes (z ++ rest) ≡ false) (sym none.1) (h none.0)
 
-pub begun_first : (kinds : List Kind) (b : Bool) (ts : List Token) → b ≡ false → Begun kinds b ts → sees kinds ts ≡ true
+pub begun_first : (kinds : List Kind) (b : Bool) (ts : List Token) → b ≡ false → BeginsAmong kinds b ts → sees kinds ts ≡ true
 begun_first kinds b ts e (inl seen) = seen
 begun_first kinds b ts e (inr none) = absurd (not_both b none.0 e)
 

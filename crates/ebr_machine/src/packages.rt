@@ -13,7 +13,7 @@ ghost use Rattle.ebr_machine.specs.inside.Callees as callees;
 use crate::calls::body_unit;
 use ebr_base::{Class, CloneIn, Code as Refusal, EditionNo, Name, NoMemory, Shared, Stamp};
 use ebr_code::{Code, CodeBook, Fault, Reference, Unit};
-use ebr_memory::{Made, Standing};
+use ebr_memory::{Made, PackageStatus};
 use ebr_running::{Flow, Running, Task};
 use std::alloc::Global;
 
@@ -69,13 +69,13 @@ fn refer_to<B: CodeBook>(
     ensures { OnOk result (DoesIn (B.answers book.now edition) run.old run.new (callees.refers (B.answers book.now edition) (run.old.makings_left - 1) run.old.frames_left name.now)) }
 {
     let made = visible(book, edition, name);
-    match run.packages.standing(name, made) {
-        Standing::Current => Ok(()),
-        Standing::Absent => {
+    match run.packages.status(name, made) {
+        PackageStatus::Current => Ok(()),
+        PackageStatus::Absent => {
             make(run, alloc, book, edition, name, made)?;
             Ok(())
         }
-        Standing::Outdated(stateful) => {
+        PackageStatus::Outdated(stateful) => {
             run.packages.forget(name);
             if stateful {
                 run.raise(Fault::Code(Refusal::Ora(4068)));

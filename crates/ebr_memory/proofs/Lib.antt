@@ -1,3 +1,3 @@
 pub mod Cuts
-pub mod Puts
+pub mod Places
 pub mod States

@@ -17,7 +17,7 @@ pub use caught::catcher;
 pub use cursor::{Cursor, Fetched};
 pub use levels::Levels;
 pub use memory::{cursor_attribute, fetch, is_open, put_cursor, put_fault, put_variable};
-pub use package::{Made, Packages, Standing};
+pub use package::{Made, PackageStatus, Packages};
 pub use row::{affected_attribute, column, set_column};
 pub use rows::first_fits;
 pub use stack::Stack;

@@ -31,7 +31,7 @@ pub struct Made {
 
 /// How the state of a package stands to what it would be made from now.
 #[derive(Clone, Copy)]
-pub enum Standing {
+pub enum PackageStatus {
     /// There is none.
     Absent,
     /// It was made from just that.
@@ -84,12 +84,12 @@ impl Packages {
     }
 
     /// How the state of a package stands to what it would be made from now.
-    pub fn standing(&self, name: &Name, made: Made) -> Standing
-        ensures { result ≡ spec.standing (state_of name.now self.now) (made_of made) }
+    pub fn status(&self, name: &Name, made: Made) -> PackageStatus
+        ensures { result ≡ spec.status (state_of name.now self.now) (made_of made) }
     {
         match self.states.get(name) {
-            Some(state) => told(state, made),
-            None => Standing::Absent,
+            Some(state) => status_of(state, made),
+            None => PackageStatus::Absent,
         }
     }
 
@@ -204,13 +204,13 @@ fn first_state(alloc: Global, made: Made, stateful: bool) -> PackageState
     }
 }
 
-fn told(state: &PackageState, made: Made) -> Standing
-    ensures { result ≡ spec.standing_of (made_of state.now.made) state.now.stateful (made_of made) }
+fn status_of(state: &PackageState, made: Made) -> PackageStatus
+    ensures { result ≡ spec.status_of (made_of state.now.made) state.now.stateful (made_of made) }
 {
     if same_made(state.made, made) {
-        Standing::Current
+        PackageStatus::Current
     } else {
-        Standing::Outdated(state.stateful)
+        PackageStatus::Outdated(state.stateful)
     }
 }
 

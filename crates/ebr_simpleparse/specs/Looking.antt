@@ -56,9 +56,9 @@ bound_reader ts = by_test is_reversed (reads_plainly reversed_bound) (reads_plai
 -- ---- a look at one token
 
 -- what it answers, with the tokens behind
-abbrev pub told : Look → List Token → Bool
-told (look.Ends answer) ts = answer
-told (look.GoesOn depth) ts = closes depth ts
+abbrev pub answer_of : Look → List Token → Bool
+answer_of (look.Ends answer) ts = answer
+answer_of (look.GoesOn depth) ts = closes depth ts
 
 -- no more parentheses are open than this
 abbrev pub IsWithin : Look → ℕ → Type 0

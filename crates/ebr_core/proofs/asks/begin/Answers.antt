@@ -1,6 +1,6 @@
 use Rattle.std.proofs.Common.{refl}
 use Rattle.ebr_core.specs.Machine.{lists_of}
-use Rattle.ebr_core.proofs.Begun.{begun, book_current}
+use Rattle.ebr_core.proofs.CallBeginning.{begun, book_current}
 use Rattle.ebr_core.proofs.asks.begin.Goals as goal
 
 pub returns-clause-reply : goal.returns-clause-reply

@@ -1,6 +1,6 @@
 use Rattle.std.proofs.Common.{rules, ◌<◌, ◌∙◌, length, set, sym, ap}
 use Rattle.ebr_memory.specs.Levels.{with_top}
-use Rattle.ebr_memory.proofs.Puts.{put_within}
+use Rattle.ebr_memory.proofs.Places.{put_within}
 use Rattle.ebr_memory.proofs.memory.put_fault.Goals as goal
 
 pub returns-then-place-len : goal.returns-then-place-len

@@ -2,7 +2,7 @@ use Rattle.std.proofs.Common.{rules, ◌<◌, ◌≤◌, ◌∙◌, length, sym,
 use Rattle.ebr_run.specs.Cursors.{Closed}
 use Rattle.ebr_run.specs.Packages.{put}
 use Rattle.ebr_memory.specs.Levels.{with_top}
-use Rattle.ebr_memory.proofs.Puts.{nothing_at, put_over}
+use Rattle.ebr_memory.proofs.Places.{nothing_at, put_over}
 use Rattle.ebr_memory.proofs.memory.taken.Goals as goal
 
 pub returns-then-place-len-clause-others : goal.returns-then-place-len-clause-others

@@ -1,5 +1,5 @@
 use Rattle.std.proofs.Common.{subst, sym}
-use Rattle.ebr_core.specs.Engine.{Answers}
+use Rattle.ebr_core.specs.Engine.{AnswersAsk}
 use Rattle.ebr_core.specs.inside.Parts.{state_of}
 use Rattle.ebr_core.proofs.Answering.{has_room, is_held, leave_answers, leave_sound, stop_answers, stop_sound}
 use Rattle.ebr_core.proofs.parts.Parts.answer.Goals as goal
@@ -27,5 +27,5 @@ returns-in-Leave-clause-sound g c =
 pub returns-in-Leave-clause-answers : goal.returns-in-Leave-clause-answers
 returns-in-Leave-clause-answers g c =
     let k = is_held g.K.Keep.told c.args.self.now c.args.s c.requires.sound c.requires.live c.if-self.false in
-    subst (λ ask. Answers g.K.Keep.told (state_of g.K.Keep.told c.args.self.now) (state_of g.K.Keep.told c.leave.new.self) c.args.s ask c.leave.result) (sym c.in-Leave.is)
+    subst (λ ask. AnswersAsk g.K.Keep.told (state_of g.K.Keep.told c.args.self.now) (state_of g.K.Keep.told c.leave.new.self) c.args.s ask c.leave.result) (sym c.in-Leave.is)
     (leave_answers g.K.Keep.told c.args.self.now c.args.s c.requires.sound c.requires.live c.leave.new.self c.if-self.false c.leave.ensures.adds (c.leave.ensures.reply k.database k.edition k.session k.holds k.has) c.leave.result c.leave.ensures.answer)

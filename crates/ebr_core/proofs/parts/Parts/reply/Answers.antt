@@ -1,5 +1,5 @@
 use Rattle.std.proofs.Common.{subst, sym}
-use Rattle.ebr_core.specs.Engine.{Answers}
+use Rattle.ebr_core.specs.Engine.{AnswersAsk}
 use Rattle.ebr_core.specs.inside.Parts.{state_of}
 use Rattle.ebr_core.proofs.Answering.{asked_answers, asked_sound, is_held, last_answers, last_sound, room_on}
 use Rattle.ebr_core.proofs.parts.Parts.reply.Goals as goal
@@ -24,7 +24,7 @@ pub returns-in-Ok-clause-answers : goal.returns-in-Ok-clause-answers
 returns-in-Ok-clause-answers g c =
     let k = is_held g.K.Keep.told c.args.self.now c.args.s c.requires.sound c.requires.live c.requires.runs in
     let t = c.in-Ok.ensures.reply k.database k.edition k.session k.holds k.has in
-    subst (λ y. Answers g.K.Keep.told (state_of g.K.Keep.told c.args.self.now) (state_of g.K.Keep.told c.give.new.self) c.args.s c.args.ask y) (sym c.give.ensures.answer)
+    subst (λ y. AnswersAsk g.K.Keep.told (state_of g.K.Keep.told c.args.self.now) (state_of g.K.Keep.told c.give.new.self) c.args.s c.args.ask y) (sym c.give.ensures.answer)
     (asked_answers g.K.Keep.told c.args.self.now c.args.s c.requires.sound c.requires.live c.give.new.self c.requires.runs c.try_reply.new.self c.in-Ok.ensures.keeps c.args.ask c.requires.stays
     c.in-Ok.given.0 c.in-Ok.copy c.in-Ok.given.1 c.give.ensures.adds t.1 c.give.ensures.current t.0 c.in-Ok.ensures.book c.in-Ok.ensures.room)
 

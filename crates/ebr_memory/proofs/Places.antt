@@ -1,4 +1,4 @@
--- A write to a place that may not be there yet.
+-- Reads and writes at places that may not be there yet.
 use Rattle.std.proofs.Common.{◌≡◌, ℕ, zero, suc, ◌<◌, ◌≤◌, List, [], ◌∷◌, ◌++◌, length, set, refl, ap, arith}
 use Rattle.ebr_run.specs.Packages.{put, at}
 

@@ -1,4 +1,4 @@
--- A call begins.
+-- The beginning of a call.
 use Rattle.std.proofs.Common.{◌≡◌, List, [], sym, ap, subst, ◌∙◌}
 use Rattle.std.specs.Prelude.{Some, Result}
 use Rattle.ebr_base.specs.declared.numbers.EditionNo.{EditionNo}
