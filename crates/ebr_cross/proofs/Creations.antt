@@ -1,8 +1,11 @@
 -- Definitions that their tests let through.
-use Rattle.std.proofs.Common.{◌≡◌, ℕ, Bool, true, false, cond, List, [], ◌∷◌, ◌++◌, map, length, nat_lt, nat_le, Option, Some, None, is_some, Err, refl, sym, ap, ◌∙◌}
+use Rattle.std.proofs.Common.{◌≡◌, ℕ, Bool, true, false, cond, List, [], ◌∷◌, ◌++◌, map, length, nat_lt, nat_le, Option, Some, None, is_some, Ok, Err, refl, sym, ap, ◌∙◌}
 use Rattle.std.proofs.lemmas.Bool.{or_parts}
+use Rattle.ebr_base.specs.Answers.{Answers}
 use Rattle.ebr_base.specs.declared.code.Code.{Code}
 use Rattle.ebr_base.specs.declared.code.Code.TheVariants.{Ora, Ebr}
+use Rattle.ebr_base.specs.declared.code.Stop.{Stop}
+use Rattle.ebr_base.specs.declared.code.Stop.TheVariants.{Raised, NoMemory}
 use Rattle.ebr_base.specs.declared.numbers.EditionNo.{EditionNo}
 use Rattle.ebr_base.specs.declared.object.ObjectKey.{ObjectKey}
 use Rattle.ebr_base.specs.declared.table.TableDef.{TableDef}
@@ -68,16 +71,33 @@ table-put c e name columns key free good few =
     (last-test (is_some (table_in c name)) (tables.is_bad_table d) (nat_lt 64 (length (map column_of columns))) full (Ora 955) (Ebr 29) (Ebr 36) (Ebr 37) untaken.0 (allowed name columns key good) wide
     ∙ sym (last-test (is_taken c e name) (is_bad_table columns key) (nat_lt 64 (length columns)) full (Ora 955) (Ebr 29) (Ebr 36) (Ebr 37) free good few)))
 
-pub table-made : (c : Lists) (e : EditionNo) (name : List ℕ) (columns : List ColumnTree) (key : List (List ℕ)) (d : TableDef) → first_table_refusal c e name columns key ≡ None → d ≡ table_of name columns key
+-- what is answered where nothing refuses, and where something does
+unrefused : {T : Type 0} (refusal : Option Code) (x y : T) → unless_refused refusal x ≡ Ok y → (refusal ≡ None) × (y ≡ x)
+unrefused None x y h = (refl, cc)
+unrefused (Some code) x y h = absurd cc
+
+refused-by : {T : Type 0} (refusal : Option Code) (x : T) (code : Code) → unless_refused refusal x ≡ Err code → refusal ≡ Some code
+refused-by None x code h = absurd cc
+refused-by (Some other) x code h = cc
+
+pub table-made : (c : Lists) (e : EditionNo) (name : List ℕ) (columns : List ColumnTree) (key : List (List ℕ)) (d : TableDef) → unless_refused (first_table_refusal c e name columns key) (table_of name columns key) ≡ Ok d
     → made_table c d ≡ create_table c e name columns key
-table-made c e name columns key d none is =
-    let p = passed (is_taken c e name) (Ora 955) _ none in
+table-made c e name columns key d answered =
+    let so = unrefused (first_table_refusal c e name columns key) (table_of name columns key) d answered in
+    let p = passed (is_taken c e name) (Ora 955) _ so.0 in
     let q = passed (is_bad_table columns key) (Ebr 29) _ p.1 in
     let r = passed (nat_lt 64 (length columns)) (Ebr 36) _ q.1 in
-    ap (made_table c) is ∙ table-put c e name columns key p.0 q.0 r.0
+    ap (made_table c) so.1 ∙ table-put c e name columns key p.0 q.0 r.0
 
 -- what refuses before the number of tables is tested refuses
-pub table-refused : (c : Lists) (e : EditionNo) (name : List ℕ) (columns : List ColumnTree) (key : List (List ℕ)) (code : Code) → first_table_refusal c e name columns key ≡ Some code → create_table c e name columns key ≡ Err code
-table-refused c e name columns key code some =
+pub table-refused : (c : Lists) (e : EditionNo) (name : List ℕ) (columns : List ColumnTree) (key : List (List ℕ)) (code : Code) → unless_refused (first_table_refusal c e name columns key) (table_of name columns key) ≡ Err code
+    → create_table c e name columns key ≡ Err code
+table-refused c e name columns key code answered =
     ap (λ r. unless_refused r (made.Table (kept_as (next_id c.tables) (table_of name columns key))))
-    (first-of-two ((is_taken c e name, Ora 955) ∷ (is_bad_table columns key, Ebr 29) ∷ (nat_lt 64 (length columns), Ebr 36) ∷ []) ((nat_le 1000 (length c.tables.living), Ebr 37) ∷ []) code some)
+    (first-of-two ((is_taken c e name, Ora 955) ∷ (is_bad_table columns key, Ebr 29) ∷ (nat_lt 64 (length columns), Ebr 36) ∷ []) ((nat_le 1000 (length c.tables.living), Ebr 37) ∷ []) code
+    (refused-by (first_table_refusal c e name columns key) (table_of name columns key) code answered))
+
+pub table-stops : (c : Lists) (e : EditionNo) (name : List ℕ) (columns : List ColumnTree) (key : List (List ℕ)) (stop : Stop)
+    → Answers {T = TableDef} (Err stop) (unless_refused (first_table_refusal c e name columns key) (table_of name columns key)) → Answers {T = CatalogueRecord} (Err stop) (create_table c e name columns key)
+table-stops c e name columns key (Raised code) answered = table-refused c e name columns key code answered
+table-stops c e name columns key NoMemory answered = tt

@@ -2,13 +2,13 @@
 
 ghost use Rattle.std.specs.Prelude.{◌≡◌, Some, IfOk, IfSome};
 ghost use Rattle.ebr_base.specs.Answers.{Answers};
-ghost use Rattle.ebr_tables.specs.Tables.{kept_as};
+ghost use Rattle.ebr_tables.specs.Tables.{kept_as, unless_refused};
 ghost use Rattle.ebr_cross.specs.Catalogue.{ForLists, table_in};
 ghost use Rattle.ebr_columns.specs.Columns as columns_spec;
 ghost use Rattle.ebr_cross.specs.Definitions.{Applies};
 ghost use Rattle.ebr_cross.specs.Definitions as spec;
 ghost use Rattle.ebr_cross.specs.Records.{table_name};
-ghost use Rattle.ebr_cross.specs.inside.Steps.{first_table_refusal, Creates, MakesColumn, made_table, put_column, id_in};
+ghost use Rattle.ebr_cross.specs.inside.Steps.{first_table_refusal, MakesColumn, made_table, put_column, id_in};
 
 use crate::catalogue::Catalogue;
 use crate::kinds::unit_key;
@@ -52,7 +52,7 @@ impl Catalogue {
         columns: &[ColumnTree],
         key: &[Name],
     ) -> Result<TableDef, Stop>
-        ensures { ForLists self.now (λ c. Creates (first_table_refusal c e name.now columns.now key.now) (columns_spec.table_of name.now columns.now key.now) result) }
+        ensures { ForLists self.now (λ c. Answers result (unless_refused (first_table_refusal c e name.now columns.now key.now) (columns_spec.table_of name.now columns.now key.now))) }
     {
         let names = column_names(alloc, columns)?;
         let key_names = key_names(alloc, columns, key)?;

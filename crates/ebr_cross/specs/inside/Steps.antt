@@ -1,5 +1,5 @@
 -- What the steps of definitions answer.
-use Rattle.std.specs.Prelude.{◌≡◌, ℕ, Bool, true, not, is_some, nat_lt, List, [], ◌∷◌, length, Option, Some, None, option_map, Result, Ok, Err}
+use Rattle.std.specs.Prelude.{◌≡◌, ℕ, Bool, true, not, is_some, nat_lt, List, [], ◌∷◌, length, Option, option_map, Result, Ok, Err}
 use Rattle.ebr_base.specs.declared.code.Code.{Code}
 use Rattle.ebr_base.specs.declared.code.Code.TheVariants.{Ora, Ebr}
 use Rattle.ebr_base.specs.declared.code.Stop.{Stop}
@@ -29,12 +29,6 @@ first_table_refusal c e name columns key = first_refusal (
     (is_taken c e name, Ora 955)
     ∷ (is_bad_table columns key, Ebr 29)
     ∷ (nat_lt 64 (length columns), Ebr 36) ∷ [])
-
--- a value where nothing refuses, the refusal, or want of memory
-abbrev pub Creates : {T : Type 0} → Option Code → T → Result T Stop → Type 0
-Creates refusal x (Ok y) = (refusal ≡ None) × (y ≡ x)
-Creates refusal x (Err (Raised code)) = refusal ≡ Some code
-Creates refusal x (Err NoMemory) = Unit {0}
 
 -- what a definition's part makes is so; or the definition is refused by that code, or memory is wanted
 abbrev pub Makes : {T : Type 0} → (T → Type 0) → Result CatalogueRecord Code → Result T Stop → Type 0

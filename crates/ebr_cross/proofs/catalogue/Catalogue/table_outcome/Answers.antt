@@ -1,9 +1,12 @@
 use Rattle.std.proofs.Common.{subst}
 use Rattle.ebr_base.specs.Answers.{Answers}
-use Rattle.ebr_cross.proofs.Creations.{table-made}
+use Rattle.ebr_cross.proofs.Creations.{table-made, table-stops}
 use Rattle.ebr_cross.proofs.catalogue.Catalogue.table_outcome.Goals as goal
 
 pub returns-in-Ok : goal.returns-in-Ok
 returns-in-Ok c = λ lists h.
-    let p = c.in-Ok.ensures lists h in
-    subst (λ d. Answers c.table_record.result d) (table-made lists c.args.e c.args.name.now c.args.columns.now c.args.key.now c.in-Ok.def p.0 p.1) (c.table_record.ensures lists h)
+    subst (λ d. Answers c.table_record.result d) (table-made lists c.args.e c.args.name.now c.args.columns.now c.args.key.now c.in-Ok.def (c.in-Ok.ensures lists h))
+    (c.table_record.ensures lists h)
+
+pub returns-in-Err : goal.returns-in-Err
+returns-in-Err c = λ lists h. table-stops lists c.args.e c.args.name.now c.args.columns.now c.args.key.now c.in-Err.stop (c.in-Err.ensures lists h)
