@@ -1,6 +1,6 @@
 //! What comes of words, sources, hosts and reports that fail.
 
-use crate::scripts::FIRST_CALLS;
+use crate::scripts::{FIRST_CALLS, FIRST_REPLIES};
 use ebr_base::NoMemory;
 use ebr_outside::Fail;
 use ebr_server::{ExitCode, MAX_SCRIPT};
@@ -205,5 +205,12 @@ fn keeps_its_code(alloc: Global) -> Result<bool, NoMemory> {
 #[test]
 fn code_stays_where_the_last_line_is_not_written(rt: HostRuntime) -> Result<(), TestFail> {
     assert!(rt; keeps_its_code(rt.alloc())?);
+    Ok(())
+}
+
+/// With ample memory, and where nothing fails, a script is run to its end.
+#[test]
+fn always_no_memory_is_refused(rt: HostRuntime) -> Result<(), TestFail> {
+    assert!(rt; prints(rt.alloc(), FIRST_CALLS, FIRST_REPLIES)?);
     Ok(())
 }
