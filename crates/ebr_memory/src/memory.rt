@@ -16,7 +16,7 @@ use ebr_sqlcheck::ValueType;
 use std::alloc::Global;
 
 /// Puts a value into a variable; those before it that have none yet become NULL.
-#[tactic(auto, using(crate::proofs::Puts::put_filled))]
+#[tactic(auto, using(crate::proofs::Places::put_filled))]
 pub fn put_variable(
     variables: &mut Levels<Value>,
     place: usize,
@@ -35,7 +35,7 @@ pub fn put_variable(
 }
 
 /// Puts what is handled into its place.
-#[tactic(auto, using(crate::proofs::Puts::put_filled))]
+#[tactic(auto, using(crate::proofs::Places::put_filled))]
 pub fn put_fault(
     alloc: Global,
     faults: &mut Levels<Fault>,
@@ -55,7 +55,7 @@ pub fn put_fault(
 }
 
 /// Puts a cursor into its place; those before it that aren't there yet are closed.
-#[tactic(auto, using(crate::proofs::Puts::put_filled))]
+#[tactic(auto, using(crate::proofs::Places::put_filled))]
 pub fn put_cursor(
     cursors: &mut Levels<Cursor>,
     place: usize,
