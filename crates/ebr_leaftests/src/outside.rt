@@ -66,7 +66,7 @@ fn a_source_goes_on_after_a_failed_read(rt: HostRuntime) -> Result<(), std::test
     Ok(())
 }
 
-/// A piece, what its write answers, and what the sink then holds.
+/// Bytes, what their write answers, and what the sink then holds.
 type Write = (&'static [u8], Result<usize, Failed>, &'static [u8]);
 
 static WRITES: [Write; 4] = [
@@ -85,8 +85,8 @@ fn holds(sink: &MemSink, held: &[u8]) -> bool {
 }
 
 fn writes_row(sink: &mut MemSink, row: &Write) -> bool {
-    let (piece, answer, held) = *row;
-    !piece.is_empty() && sink.write(piece) == answer && holds(sink, held)
+    let (bytes, answer, held) = *row;
+    !bytes.is_empty() && sink.write(bytes) == answer && holds(sink, held)
 }
 
 fn writes(sink: &mut MemSink, rows: &[Write]) -> bool {
@@ -178,7 +178,7 @@ fn a_host_gives_the_first_file_of_a_word(rt: HostRuntime) -> Result<(), std::tes
     Ok(())
 }
 
-/// Whether the next report of a host takes the pieces so.
+/// Whether the next report of a host takes the bytes so.
 fn reports(host: &mut MemHost, rows: &[Write]) -> bool {
     let mut report = host.report();
     let reports = writes(&mut report, rows);
@@ -225,34 +225,34 @@ fn files_that_cannot_be_read_are_faults(rt: HostRuntime) -> Result<(), std::test
     Ok(())
 }
 
-/// Whether a sink takes the pieces whole, one after the other.
-fn takes<S: Sink>(sink: &mut S, pieces: &[&[u8]]) -> bool {
-    for piece in pieces {
-        if piece.is_empty() || sink.write(piece) != Ok(piece.len()) {
+/// Whether a sink takes the texts whole, one after the other.
+fn takes<S: Sink>(sink: &mut S, texts: &[&[u8]]) -> bool {
+    for text in texts {
+        if text.is_empty() || sink.write(text) != Ok(text.len()) {
             return false;
         }
     }
     true
 }
 
-/// Whether the sink that a word names takes the pieces whole.
+/// Whether the sink that a word names takes the texts whole.
 fn sink_takes<H: Host>(
     alloc: Global,
     host: &mut H,
     word: &[u8],
-    pieces: &[&[u8]],
+    texts: &[&[u8]],
 ) -> Result<bool, HostErr> {
     let word = Bytes::from_slice(alloc, word)?;
     let mut sink = host.sink(&word)?;
-    Ok(takes(&mut sink, pieces))
+    Ok(takes(&mut sink, texts))
 }
 
-/// A word, pieces, and whether the word's sink takes them whole; None where the host fails.
+/// A word, texts, and whether the word's sink takes them whole; None where the host fails.
 type Made = (&'static [u8], &'static [&'static [u8]], Option<bool>);
 
 fn makes<H: Host>(alloc: Global, host: &mut H, row: &Made) -> bool {
-    let (word, pieces, wanted) = *row;
-    match sink_takes(alloc, host, word, pieces) {
+    let (word, texts, wanted) = *row;
+    match sink_takes(alloc, host, word, texts) {
         Ok(taken) => wanted == Some(taken),
         Err(HostErr::Failed) => wanted.is_none(),
         Err(HostErr::NoMemory) => false,
