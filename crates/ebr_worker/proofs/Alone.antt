@@ -18,9 +18,7 @@ use Rattle.ebr_worker.specs.Matches.{has_fault, has_stop, is_stop}
 use Rattle.ebr_worker.specs.Paced.{is_over}
 use Rattle.ebr_worker.specs.Ends.{IsEnd}
 use Rattle.ebr_worker.specs.Runs.{IsHistory, RanAlone, nth_session}
-use Rattle.ebr_worker.specs.inside.Engine.{Adds}
-use Rattle.ebr_worker.specs.inside.Work.{Work}
-use Rattle.ebr_worker.specs.inside.Worker.{IsEndOf, Makes, StandsBy, Turned, Works}
+use Rattle.ebr_worker.specs.Work.{Adds, IsEndOf, Makes, StandsBy, Turned, Work, Works}
 use Rattle.ebr_worker.specs.inside.Rehearsal.{EndsAt, IsEndAt, RunsAlone}
 use Rattle.ebr_worker.proofs.Histories.{over_more}
 use Rattle.ebr_worker.proofs.Rehearsing.{faultless_more}

@@ -11,8 +11,7 @@ use Rattle.ebr_core.specs.Engine.{EngineState}
 use Rattle.ebr_core.specs.History.{Mine}
 use Rattle.ebr_worker.specs.Matches.{kept}
 use Rattle.ebr_worker.specs.Ends.{Came, IsEnd, is_refused}
-use Rattle.ebr_worker.specs.inside.Work.{Work}
-use Rattle.ebr_worker.specs.inside.Worker.{IsEndOf, Over}
+use Rattle.ebr_worker.specs.Work.{IsEndOf, Over, Work}
 
 -- one more, where the ask was refused
 abbrev more : ℕ → Exchange → ℕ

@@ -17,8 +17,8 @@ use Rattle.ebr_session.specs.Has.{Advances, Follows, IsPrefix, Progress, answere
 use Rattle.ebr_report.specs.declared.ends.EndKind.{EndKind}
 use Rattle.ebr_record.specs.Keeper.{Keeper}
 use Rattle.ebr_core.specs.Engine.{EngineState}
+use Rattle.ebr_worker.specs.Work.{Work}
 use Rattle.ebr_worker.specs.inside.Engine.{Replies}
-use Rattle.ebr_worker.specs.inside.Work.{Work}
 use Rattle.ebr_worker.specs.inside.Worker.{Advanced, Asked, Flushed, end_of}
 
 -- a session of whose printed bytes so many are written

@@ -20,10 +20,9 @@ use Rattle.ebr_core.specs.History.{Mine, exchange}
 use Rattle.ebr_worker.specs.Matches.{has_fault, is_fault, kept}
 use Rattle.ebr_worker.specs.Paced.{AllOver, IsFirst, IsSession, Next, Paced, ToEnds, Turn, Turns, is_over}
 use Rattle.ebr_worker.specs.Ends.{Came}
-use Rattle.ebr_worker.specs.inside.Engine.{Adds}
-use Rattle.ebr_worker.specs.inside.Work.{Work}
-use Rattle.ebr_worker.specs.inside.Worker.{Makes, Over, Seated, Stands, StandsBy, Turned}
-use Rattle.ebr_worker.specs.inside.Rehearsal.{AllEnded, AllStand, Faultless, Rehearses, TurnedAt, asks_left, goes_on, scripts_of}
+use Rattle.ebr_worker.specs.Work.{Adds, Makes, Over, Seated, Stands, StandsBy, Turned, Work}
+use Rattle.ebr_worker.specs.Rehearsal.{AllEnded, AllStand, Faultless, scripts_of}
+use Rattle.ebr_worker.specs.inside.Rehearsal.{Rehearses, TurnedAt, asks_left, goes_on}
 use Rattle.ebr_worker.proofs.Histories.{mine_more, mine_other, over_other}
 
 -- ---- workers behind an entry of another session

@@ -14,9 +14,9 @@ use Rattle.ebr_core.specs.History.{IsLive, Mine}
 use Rattle.ebr_worker.specs.Matches.{has_fault}
 use Rattle.ebr_worker.specs.Paced.{IsSession, is_over}
 use Rattle.ebr_worker.specs.Runs.{AreEnds, IsHistory, nth_session}
-use Rattle.ebr_worker.specs.inside.Work.{Work}
-use Rattle.ebr_worker.specs.inside.Worker.{IsEndOf, StandsBy, Works}
-use Rattle.ebr_worker.specs.inside.Rehearsal.{AllEnded, AllFrom, AllStand, AreBegun, EndsAt, Faultless, IsBegun, IsEndAt, scripts_of}
+use Rattle.ebr_worker.specs.Work.{IsEndOf, StandsBy, Work, Works}
+use Rattle.ebr_worker.specs.Rehearsal.{AllEnded, AllStand, Faultless, scripts_of}
+use Rattle.ebr_worker.specs.inside.Rehearsal.{AllFrom, AreBegun, EndsAt, IsBegun, IsEndAt}
 use Rattle.ebr_worker.proofs.Ending.{is_end}
 use Rattle.ebr_worker.proofs.First.{first_live}
 

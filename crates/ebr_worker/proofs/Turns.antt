@@ -26,10 +26,9 @@ use Rattle.ebr_core.specs.History.{IsLive, Mine}
 use Rattle.ebr_core.specs.History.{exchange as exchange_of}
 use Rattle.ebr_worker.specs.Matches.{ask_kept, kept}
 use Rattle.ebr_worker.specs.Paced.{IsSession, is_over}
-use Rattle.ebr_worker.specs.Ends.{AnswersLeave, Came, Quit, Ran, RanOut, RanToEnd, StopsIt, WantsMemory, printed_before_last}
-use Rattle.ebr_worker.specs.inside.Engine.{Adds}
-use Rattle.ebr_worker.specs.inside.Work.{Work}
-use Rattle.ebr_worker.specs.inside.Worker.{Advanced, Asked, Flushed, Left, Makes, MayLeave, Over, Seated, Stands, StandsBy, Stepped, Turned, Works, end_of}
+use Rattle.ebr_worker.specs.Ends.{AnswersLeave, Came, QuitWhole, Ran, RanOut, RanToEnd, StopsIt, WantsMemory, printed_before_last}
+use Rattle.ebr_worker.specs.Work.{Adds, Makes, Over, Seated, Stands, StandsBy, Turned, Work, Works}
+use Rattle.ebr_worker.specs.inside.Worker.{Advanced, Asked, Flushed, Left, MayLeave, Stepped, end_of}
 use Rattle.ebr_worker.proofs.Histories.{mine_more, over_more}
 
 -- ---- prefixes, and what is kept of exchanges
@@ -304,6 +303,12 @@ printed_so w e works =
     let s : Progress = w.session in
     subst (λ o. HasPrinted None false o s) works.no_ask (subst (λ b. HasPrinted None b s.out s) works.goes_on (subst (λ n. HasPrinted n s.ended s.out s) works.no_quit works.follows.printed))
 
+-- .. of which all is written
+written_so : {K : Type 0} (w : Work) (e : EngineState K) → Works w e → w.written ≡ printed_before_last w.session.script (answers w.session.transcript)
+written_so w e works =
+    let s : Progress = w.session in
+    works.written ∙ (printed_so w e works).0 ∙ ap (printed_before s.script (answers s.transcript)) (sym (length-map s.transcript (λ (x : Exchange). x.answer)))
+
 -- a session that found no memory, or has made too many asks
 pub may_leave : {K : Type 0} (w : Work) (e : EngineState K) → Works w e → MayLeave w.session w.written e
 may_leave w e works =
@@ -318,7 +323,7 @@ may_leave w e works =
       live = works.live;
       most = prefix_trans _ _ _ (prefix_same _ _ works.written)
           (subst (λ n. IsPrefix s.printed (SessionRun s.script (answers s.transcript) n).state.printed) works.no_quit printed.1);
-      least = prefix_same _ _ (ap (printed_before s.script (answers s.transcript)) (length-map s.transcript (λ (x : Exchange). x.answer)) ∙ sym (works.written ∙ printed.0));
+      least = prefix_same _ _ (sym (written_so w e works));
     }
 
 -- .. and is where it was
@@ -439,6 +444,7 @@ module _ {K : Type 0} (told : K → Keeper) (w quits mid new : Work) (e e' : Eng
       most = subst (λ given. IsPrefix w.written (Printed p.script given)) (sym answers_same) may.most;
       least = subst (λ given. IsPrefix (printed_before_last p.script given) w.written) (sym answers_same) may.least;
     };
+    behind = answers_same;
     makes = (leaving, adds_left);
     seated = record {
       is_session = subst (IsSession (length e'.books)) (sym number_left) (subst (λ n. IsSession n p.session) (sym adds_left.books) may.seated.is_session);
@@ -463,15 +469,15 @@ above_zero a b rises = omega (arith, rises)
 
 -- A session that has quit is over, with its cause.
 over_left_so : {K : Type 0} (told : K → Keeper) (k : EndKind) (old new : Work) (e e' : EngineState K) → Left told old new e e'
-    → (Quit old.session.script (Mine e'.history old.session.session) old.written → Came k old.session.script (Mine e'.history old.session.session) old.written) → (k ≡ ending.SinkFault → 0 < new.faults) → Over k new e'
-over_left_so told k old new e e' l by failed = record {
+    → Came k old.session.script (Mine e'.history old.session.session) old.written → (k ≡ ending.SinkFault → 0 < new.faults) → Over k new e'
+over_left_so told k old new e e' l came failed = record {
   ended = l.ended;
   seated = l.seated;
   over = ap (is_over e'.history) l.session ∙ l.over;
   few = l.few;
   came = subst (λ r. Came k new.session.script (Mine e'.history r) new.written) (sym l.session)
       (subst (λ script. Came k script (Mine e'.history old.session.session) new.written) (sym l.script)
-      (subst (Came k old.session.script (Mine e'.history old.session.session)) (sym l.written) (by l.quit)));
+      (subst (Came k old.session.script (Mine e'.history old.session.session)) (sym l.written) came));
   failed = failed;
 }
 
@@ -497,7 +503,7 @@ stepped_quit told q old mid wrote new e e' on flushed l =
     record {
       session = l.session ∙ number;
       script = l.script ∙ ap (λ (t : Progress). t.script) flushed.session ∙ ap (λ (t : Progress). t.script) on.advances.is;
-      came = over_left_so told ending.SinkFault wrote new e e' l (λ quit. quit) (λ is. subst (λ n. 0 < n) (sym l.faults) (above_zero mid.faults wrote.faults flushed.failed));
+      came = over_left_so told ending.SinkFault wrote new e e' l l.quit (λ is. subst (λ n. 0 < n) (sym l.faults) (above_zero mid.faults wrote.faults flushed.failed));
       makes = (l.makes.0, subst (λ r. Adds told r l.makes.0 e e') number l.makes.1);
       counted = omega (arith, same, l.faults, flushed.counted);
     }
@@ -505,19 +511,23 @@ stepped_quit told q old mid wrote new e e' on flushed l =
 not_sink : {A : Type 0} → ending.NoMemory ≡ ending.SinkFault → A
 not_sink same = cc
 
-pub stepped_left : {K : Type 0} (told : K → Keeper) (old new : Work) (e e' : EngineState K) → Left told old new e e' → Stepped told (Some ending.NoMemory) old new e e'
-stepped_left told old new e e' l = record {
-  session = l.session;
-  script = l.script;
-  came = over_left_so told ending.NoMemory old new e e' l (λ quit. inl quit) (λ is. not_sink is);
-  makes = l.makes;
-  counted = omega (arith, l.faults);
-}
+-- A session that found no memory, or has made too many asks, leaves with all written that it printed.
+pub stepped_left : {K : Type 0} (told : K → Keeper) (old new : Work) (e e' : EngineState K) → Works old e → Left told old new e e' → Stepped told (Some ending.NoMemory) old new e e'
+stepped_left told old new e e' works l =
+    let quit : QuitWhole old.session.script (Mine e'.history old.session.session) old.written =
+    record { quit = l.quit; whole = written_so old e works ∙ ap (printed_before_last old.session.script) (sym l.behind) } in
+    record {
+      session = l.session;
+      script = l.script;
+      came = over_left_so told ending.NoMemory old new e e' l (inl quit) (λ is. not_sink is);
+      makes = l.makes;
+      counted = omega (arith, l.faults);
+    }
 
-pub stepped_failed : {K : Type 0} (told : K → Keeper) (m : NoMemory) (old mid new : Work) (e e' : EngineState K) → Advanced (Err m) old mid → Left told mid new e e' → Stepped told (Some ending.NoMemory) old new e e'
-stepped_failed told m old mid new e e' on l =
+pub stepped_failed : {K : Type 0} (told : K → Keeper) (m : NoMemory) (old mid new : Work) (e e' : EngineState K) → Works old e → Advanced (Err m) old mid → Left told mid new e e' → Stepped told (Some ending.NoMemory) old new e e'
+stepped_failed told m old mid new e e' works on l =
     let same : mid ≡ old = on.same ∙ ap (λ s. record old { session = s }) on.advances.2 in
-    subst (λ w. Stepped told (Some ending.NoMemory) w new e e') same (stepped_left told mid new e e' l)
+    subst (λ w. Stepped told (Some ending.NoMemory) w new e e') same (stepped_left told mid new e e' (subst (λ w. Works w e) (sym same) works) l)
 
 -- A session that works hasn't ended.
 pub not_ended : {K : Type 0} (old new : Work) (e : EngineState K) → Works old e → Advanced (Ok next.Done) old new → ⊥

@@ -57,6 +57,12 @@ pub record Quit (script : List ℕ) (mine : List Exchange) (replies : List ℕ) 
   pub most : IsPrefix replies (Printed script (answers before))
   pub least : IsPrefix (printed_before_last script (answers before)) replies
 
+-- A session quit, and none of its replies was cut short: they are just what its script prints for all the answers that it was given
+-- before Leave but the last.
+pub record QuitWhole (script : List ℕ) (mine : List Exchange) (replies : List ℕ) : Type 0 where
+  pub quit : Quit script mine replies
+  pub whole : replies ≡ printed_before_last script (answers quit.before)
+
 -- A session was ended by its last answer. Its replies are all that it printed.
 pub record RanOut (By : Answer → Type 0) (script : List ℕ) (mine : List Exchange) (replies : List ℕ) : Type 0 where
   pub before : List Exchange
@@ -81,7 +87,7 @@ abbrev pub Came : EndKind → List ℕ → List Exchange → List ℕ → Type 0
 Came ending.Ended script mine replies = RanToEnd script mine replies
 Came ending.SinkFault script mine replies = Quit script mine replies
 Came ending.Stopped script mine replies = RanOut StopsIt script mine replies
-Came ending.NoMemory script mine replies = Quit script mine replies ⊎ RanOut WantsMemory script mine replies
+Came ending.NoMemory script mine replies = QuitWhole script mine replies ⊎ RanOut WantsMemory script mine replies
 
 abbrev pub refuses : Answer → Bool
 refuses (Refused code steps lines) = true

@@ -1,5 +1,4 @@
 pub mod Engine
 pub mod Memory
 pub mod Rehearsal
-pub mod Work
 pub mod Worker

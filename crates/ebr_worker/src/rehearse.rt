@@ -3,7 +3,8 @@
 ghost use Rattle.std.specs.Prelude.{◌≡◌, ◌<◌, ◌≤◌, [], All, length, Some, None};
 ghost use Rattle.std.specs.List.{position};
 ghost use Rattle.ebr_worker.specs.Paced.{IsSession, Paced};
-ghost use Rattle.ebr_worker.specs.inside.Rehearsal.{AllEnded, AllStand, Faultless, Rehearses, TurnedAt, goes_on, scripts_of};
+ghost use Rattle.ebr_worker.specs.Rehearsal.{AllEnded, AllStand, Faultless, scripts_of};
+ghost use Rattle.ebr_worker.specs.inside.Rehearsal.{Rehearses, TurnedAt, goes_on};
 
 use crate::worker::Worker;
 use ebr_base::SessionId;

@@ -4,8 +4,8 @@ ghost use Rattle.std.specs.Prelude.{◌≡◌, ◌≤◌, [], All, IfOk, IfErr, 
 ghost use Rattle.ebr_session.specs.Has.{most_bytes};
 ghost use Rattle.ebr_worker.specs.Paced.{IsSession, Paced};
 ghost use Rattle.ebr_worker.specs.Runs.{AreEnds, IsUnwritten, RanAlone};
+ghost use Rattle.ebr_worker.specs.Work.{Works};
 ghost use Rattle.ebr_worker.specs.inside.Rehearsal.{AreBegun, RunsAlone};
-ghost use Rattle.ebr_worker.specs.inside.Worker.{Works};
 
 use crate::engine::empty_engine;
 use crate::rehearse::rehearse_core;

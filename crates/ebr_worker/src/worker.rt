@@ -7,7 +7,8 @@ ghost use Rattle.ebr_core.specs.History.{IsLive};
 ghost use Rattle.ebr_session.specs.Has.{IsFit, quitting};
 ghost use Rattle.ebr_worker.specs.Ends.{is_refused};
 ghost use Rattle.ebr_worker.specs.Paced.{IsSession};
-ghost use Rattle.ebr_worker.specs.inside.Worker.{Advanced, Asked, Flushed, IsEndOf, Left, MayLeave, Stands, Stepped, Turned, Works, end_of};
+ghost use Rattle.ebr_worker.specs.Work.{IsEndOf, Stands, Turned, Works};
+ghost use Rattle.ebr_worker.specs.inside.Worker.{Advanced, Asked, Flushed, Left, MayLeave, Stepped, end_of};
 
 use crate::engine::answer;
 use ebr_asks::{Answer, Ask, Exchange};
@@ -34,7 +35,7 @@ impl<S: Sink> Model for Worker<S> {
     ghost use Rattle.std.specs.Coded.{codes};
     ghost use Rattle.ebr_asks.specs.contracts.ask.Ask as a;
     ghost use Rattle.ebr_asks.specs.contracts.entry.Exchange as x;
-    ghost use Rattle.ebr_worker.specs.inside.Work.{Work};
+    ghost use Rattle.ebr_worker.specs.Work.{Work};
 
     ghost Value = { Work };
 

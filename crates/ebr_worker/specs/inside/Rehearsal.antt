@@ -1,26 +1,19 @@
--- A rehearsal at work: all workers over one engine.
-use Rattle.std.specs.Prelude.{ℕ, ◌≡◌, ◌+◌, ◌≤◌, Bool, true, false, List, [], ◌++◌, length, map, sum_by, ◌-◌, slice_get, slice_set, Option, Some, None, IsSome, is_none}
+-- A rehearsal at work.
+use Rattle.std.specs.Prelude.{ℕ, ◌≡◌, ◌+◌, ◌≤◌, Bool, false, List, [], ◌++◌, length, sum_by, ◌-◌, slice_get, slice_set, Option, Some, None, IsSome, is_none}
 use Rattle.ebr_base.specs.declared.numbers.SessionId.{SessionId}
 use Rattle.ebr_base.specs.declared.numbers.TheConstants.{MAX_COUNT}
 use Rattle.ebr_asks.specs.declared.entry.Entry.{Entry}
-use Rattle.ebr_faults.specs.Faults.{Rises}
 use Rattle.ebr_record.specs.Keeper.{Keeper}
 use Rattle.ebr_report.specs.declared.ends.EndKind.{EndKind}
 use Rattle.ebr_report.specs.declared.ends.SessionEnd.{SessionEnd}
 use Rattle.ebr_session.specs.Has.{Follows, begun}
 use Rattle.ebr_core.specs.Engine.{EngineState, has_given_up}
-use Rattle.ebr_worker.specs.Matches.{has_fault, has_stop}
+use Rattle.ebr_worker.specs.Matches.{has_stop}
 use Rattle.ebr_worker.specs.Paced.{Turns}
 use Rattle.ebr_worker.specs.Ends.{IsEnd}
 use Rattle.ebr_worker.specs.Runs.{nth_session}
-use Rattle.ebr_worker.specs.inside.Work.{Work}
-use Rattle.ebr_worker.specs.inside.Worker.{Over, Stands, Turned}
-
--- The workers are those of the engine's sessions, in order, and each stands over it.
-pub record AllStand {K : Type 0} (ws : List Work) (e : EngineState K) : Type 0 where
-  pub count : length ws ≡ length e.books
-  pub number : (i : ℕ) (w : Work) → slice_get ws i ≡ Some w → w.session.session ≡ record { 0 = i + 1 }
-  pub stand : (i : ℕ) (w : Work) → slice_get ws i ≡ Some w → Stands w e
+use Rattle.ebr_worker.specs.Work.{Over, Stands, Turned, Work}
+use Rattle.ebr_worker.specs.Rehearsal.{AllStand, Faultless, scripts_of}
 
 -- One worker has made a turn.
 pub record TurnedAt {K : Type 0} (told : K → Keeper) (at : ℕ) (old new : List Work) (e e' : EngineState K) : Type 0 where
@@ -29,13 +22,6 @@ pub record TurnedAt {K : Type 0} (told : K → Keeper) (at : ℕ) (old new : Lis
   pub was : slice_get old at ≡ Some before
   pub now : new ≡ slice_set old at after
   pub turned : Turned told before after e e'
-
-abbrev pub scripts_of : List Work → List (List ℕ)
-scripts_of ws = map (λ (w : Work). w.session.script) ws
-
--- An entry that the disk failed stands in the history only where the keeper's count of faults rose.
-abbrev pub Faultless : {K : Type 0} → (K → Keeper) → EngineState K → EngineState K → Type 0
-Faultless told first e = has_fault e.history ≡ true → Rises (told first.keeper).faults (told e.keeper).faults
 
 -- How far a rehearsal has come, of whose order these turns are left: whatever makes the rest of the history by what is left makes the whole
 -- by the order.
@@ -51,12 +37,6 @@ pub record Rehearses {K : Type 0} (told : K → Keeper) (order left : List Sessi
 -- the session hasn't ended
 abbrev pub goes_on : Work → Bool
 goes_on w = is_none w.end
-
--- All sessions have ended.
-pub record AllEnded {K : Type 0} (ws : List Work) (e : EngineState K) : Type 0 where
-  pub count : length ws ≡ length e.books
-  pub number : (i : ℕ) (w : Work) → slice_get ws i ≡ Some w → w.session.session ≡ record { 0 = i + 1 }
-  pub ended : (i : ℕ) (w : Work) → slice_get ws i ≡ Some w → (k : EndKind) × (w.end ≡ Some k) × Over k w e
 
 -- how many asks all sessions may still make
 abbrev pub asks_left : List Work → ℕ

@@ -1,7 +1,6 @@
--- What a worker keeps from one turn to the next, and what its methods do.
-use Rattle.std.specs.Prelude.{ℕ, ◌≡◌, ◌<◌, ◌≤◌, Bool, true, false, if◌then◌else◌, List, length, Option, Some, None, IfSome, Result}
+-- What the parts of a turn do.
+use Rattle.std.specs.Prelude.{ℕ, ◌≡◌, ◌<◌, ◌≤◌, Bool, true, false, if◌then◌else◌, List, length, Option, Some, None, Result}
 use Rattle.std.specs.Bool.{OnTrue, OnFalse}
-use Rattle.std.specs.List.{count_by}
 use Rattle.ebr_base.specs.declared.clone_in.NoMemory as memory
 use Rattle.ebr_base.specs.declared.numbers.TheConstants.{MAX_COUNT}
 use Rattle.ebr_ast.specs.declared.view.EditionView.{EditionView}
@@ -13,65 +12,16 @@ use Rattle.ebr_faults.specs.Faults.{Rises}
 use Rattle.ebr_record.specs.Keeper.{Keeper}
 use Rattle.ebr_report.specs.declared.ends.EndKind.{EndKind}
 use Rattle.ebr_report.specs.declared.ends.EndKind.TheVariants as ending
-use Rattle.ebr_report.specs.declared.ends.SessionEnd.{SessionEnd}
 use Rattle.ebr_calls.specs.Courses.{AllContinue}
 use Rattle.ebr_session.specs.declared.next.NextAsk.{NextAsk}
 use Rattle.ebr_session.specs.Has.{Advances, Follows, IsPrefix, Progress, answered, answers, ends}
 use Rattle.ebr_session.specs.Sessions.{Printed}
 use Rattle.ebr_core.specs.Engine.{EngineState, database_of}
 use Rattle.ebr_core.specs.History.{IsLive, Mine}
-use Rattle.ebr_worker.specs.Matches.{Matches}
-use Rattle.ebr_worker.specs.Paced.{IsSession, is_over}
-use Rattle.ebr_worker.specs.Ends.{Came, Quit, is_refused, printed_before_last}
-use Rattle.ebr_worker.specs.inside.Engine.{Adds, Replies}
-use Rattle.ebr_worker.specs.inside.Work.{Work}
-
--- The session has a place in the engine, and its exchanges are those of the history.
-pub record Seated {K : Type 0} (s : Progress) (e : EngineState K) : Type 0 where
-  pub is_session : IsSession (length e.books) s.session
-  pub matches : Matches s.transcript e.history s.session
-
--- The session runs, and all that it printed is written.
-pub record Works {K : Type 0} (w : Work) (e : EngineState K) : Type 0 where
-  pub goes_on : w.session.ended ≡ false
-  pub no_quit : w.session.quit ≡ None
-  pub no_ask : w.session.out ≡ None
-  pub follows : Follows w.session
-  pub seated : Seated w.session e
-  pub not_over : is_over e.history w.session.session ≡ false
-  pub few : length w.session.transcript < MAX_COUNT
-  pub written : w.written ≡ w.session.printed
-  pub live : IsLive (database_of e) w.session.session
-
--- The session has ended so.
-pub record Over {K : Type 0} (k : EndKind) (w : Work) (e : EngineState K) : Type 0 where
-  pub ended : w.session.ended ≡ true
-  pub seated : Seated w.session e
-  pub over : is_over e.history w.session.session ≡ true
-  pub few : length w.session.transcript ≤ MAX_COUNT
-  pub came : Came k w.session.script (Mine e.history w.session.session) w.written
-  pub failed : k ≡ ending.SinkFault → 0 < w.faults
-
-abbrev pub StandsBy : {K : Type 0} → Option EndKind → Work → EngineState K → Type 0
-StandsBy None w e = Works w e
-StandsBy (Some k) w e = Over k w e
-
--- The session runs or has ended.
-abbrev pub Stands : {K : Type 0} → Work → EngineState K → Type 0
-Stands w e = StandsBy w.end w e
-
--- The turn of a session that has ended does nothing, and any other one makes an entry.
-abbrev pub Makes : {K : Type 0} → (K → Keeper) → Option EndKind → Work → Work → EngineState K → EngineState K → Type 0
-Makes told None old new e e' = (x : Entry) × Adds told old.session.session x e e'
-Makes told (Some k) old new e e' = (new ≡ old) × (e' ≡ e)
-
--- What a turn does.
-pub record Turned {K : Type 0} (told : K → Keeper) (old new : Work) (e e' : EngineState K) : Type 0 where
-  pub session : new.session.session ≡ old.session.session
-  pub script : new.session.script ≡ old.session.script
-  pub stands : Stands new e'
-  pub makes : Makes told old.end old new e e'
-  pub counted : old.faults ≤ new.faults
+use Rattle.ebr_worker.specs.Paced.{is_over}
+use Rattle.ebr_worker.specs.Ends.{Quit, printed_before_last}
+use Rattle.ebr_worker.specs.Work.{Adds, Seated, StandsBy, Work}
+use Rattle.ebr_worker.specs.inside.Engine.{Replies}
 
 -- What a turn of a session that runs has come to: how it ended, if it has.
 pub record Stepped {K : Type 0} (told : K → Keeper) (end : Option EndKind) (old new : Work) (e e' : EngineState K) : Type 0 where
@@ -80,8 +30,6 @@ pub record Stepped {K : Type 0} (told : K → Keeper) (end : Option EndKind) (ol
   pub came : StandsBy end new e'
   pub makes : (x : Entry) × Adds told old.session.session x e e'
   pub counted : old.faults ≤ new.faults
-
--- ---- the parts of a turn
 
 -- The session went on, and nothing was written.
 pub record Advanced (r : Result NextAsk memory.NoMemory) (old new : Work) : Type 0 where
@@ -125,9 +73,10 @@ pub record MayLeave {K : Type 0} (s : Progress) (written : List ℕ) (e : Engine
   pub most : IsPrefix written (Printed s.script (answers s.transcript))
   pub least : IsPrefix (printed_before_last s.script (answers s.transcript)) written
 
--- It has quit and left.
+-- It has quit and left, behind the answers that it had taken.
 pub record Left {K : Type 0} (told : K → Keeper) (old new : Work) (e e' : EngineState K) : Type 0 where
   pub quit : Quit old.session.script (Mine e'.history old.session.session) old.written
+  pub behind : answers quit.before ≡ answers old.session.transcript
   pub makes : (x : Entry) × Adds told old.session.session x e e'
   pub seated : Seated new.session e'
   pub over : is_over e'.history old.session.session ≡ true
@@ -137,12 +86,3 @@ pub record Left {K : Type 0} (told : K → Keeper) (old new : Work) (e e' : Engi
   pub script : new.session.script ≡ old.session.script
   pub written : new.written ≡ old.written
   pub faults : new.faults ≡ old.faults
-
--- what a worker's session came to, with its sink
-pub record IsEndOf {S : Type 0} (held : S → Option (List ℕ)) (faults : S → ℕ) (w : Work) (e : SessionEnd S) : Type 0 where
-  pub session : e.session ≡ w.session.session
-  pub requests : e.requests ≡ length w.session.transcript
-  pub refused : e.refused ≡ count_by is_refused w.session.transcript
-  pub end : w.end ≡ Some e.end
-  pub holds : IfSome e.sink (λ sink. IfSome (held sink) (λ bytes. bytes ≡ w.written))
-  pub counted : IfSome e.sink (λ sink. faults sink ≡ w.faults)

@@ -1,7 +1,7 @@
 use Rattle.std.proofs.Common.{◌≡◌, ◌∷◌, length, ap, arith, rules}
 use Rattle.std.specs.Vec.Iter.{into_iter_items}
 use Rattle.ebr_worker.specs.Runs.{IsUnwritten}
-use Rattle.ebr_worker.specs.inside.Work.{Work}
+use Rattle.ebr_worker.specs.Work.{Work}
 use Rattle.ebr_worker.proofs.Running.{begun_at, tail_all}
 use Rattle.ebr_worker.proofs.run.workers_of.Goals as goal
 

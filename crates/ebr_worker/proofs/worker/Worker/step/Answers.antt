@@ -1,6 +1,6 @@
 use Rattle.std.proofs.Common.{◌≡◌, ◌+◌, ◌<◌, length, Ok, ap, ◌∙◌, arith, subst}
 use Rattle.ebr_base.specs.declared.numbers.TheConstants.{MAX_COUNT}
-use Rattle.ebr_worker.specs.inside.Work.{Work}
+use Rattle.ebr_worker.specs.Work.{Work}
 use Rattle.ebr_worker.specs.inside.Worker.{Advanced}
 use Rattle.ebr_worker.proofs.Turns.{stepped_asked}
 use Rattle.ebr_worker.proofs.worker.Worker.step.Goals as goal
