@@ -512,22 +512,23 @@ not_sink : {A : Type 0} → ending.NoMemory ≡ ending.SinkFault → A
 not_sink same = cc
 
 -- A session that found no memory, or has made too many asks, leaves with all written that it printed.
-pub stepped_left : {K : Type 0} (told : K → Keeper) (old new : Work) (e e' : EngineState K) → Works old e → Left told old new e e' → Stepped told (Some ending.NoMemory) old new e e'
-stepped_left told old new e e' works l =
+pub stepped_left : {K : Type 0} (told : K → Keeper) (k : EndKind) (old new : Work) (e e' : EngineState K) → k ≡ ending.NoMemory → Works old e → Left told old new e e' → Stepped told (Some k) old new e e'
+stepped_left told k old new e e' is works l =
     let quit : QuitWhole old.session.script (Mine e'.history old.session.session) old.written =
     record { quit = l.quit; whole = written_so old e works ∙ ap (printed_before_last old.session.script) (sym l.behind) } in
-    record {
+    subst (λ c. Stepped told (Some c) old new e e') (sym is) (record {
       session = l.session;
       script = l.script;
-      came = over_left_so told ending.NoMemory old new e e' l (inl quit) (λ is. not_sink is);
+      came = over_left_so told ending.NoMemory old new e e' l (inl quit) (λ same. not_sink same);
       makes = l.makes;
       counted = omega (arith, l.faults);
-    }
+    })
 
-pub stepped_failed : {K : Type 0} (told : K → Keeper) (m : NoMemory) (old mid new : Work) (e e' : EngineState K) → Works old e → Advanced (Err m) old mid → Left told mid new e e' → Stepped told (Some ending.NoMemory) old new e e'
-stepped_failed told m old mid new e e' works on l =
+pub stepped_failed : {K : Type 0} (told : K → Keeper) (k : EndKind) (m : NoMemory) (old mid new : Work) (e e' : EngineState K) → k ≡ ending.NoMemory → Works old e → Advanced (Err m) old mid → Left told mid new e e'
+    → Stepped told (Some k) old new e e'
+stepped_failed told k m old mid new e e' is works on l =
     let same : mid ≡ old = on.same ∙ ap (λ s. record old { session = s }) on.advances.2 in
-    subst (λ w. Stepped told (Some ending.NoMemory) w new e e') same (stepped_left told mid new e e' (subst (λ w. Works w e) (sym same) works) l)
+    subst (λ w. Stepped told (Some k) w new e e') same (stepped_left told k mid new e e' is (subst (λ w. Works w e) (sym same) works) l)
 
 -- A session that works hasn't ended.
 pub not_ended : {K : Type 0} (old new : Work) (e : EngineState K) → Works old e → Advanced (Ok next.Done) old new → ⊥

@@ -1,6 +1,6 @@
 //! A rehearsal: the sessions in their turns.
 
-ghost use Rattle.std.specs.Prelude.{◌≡◌, ◌<◌, ◌≤◌, [], All, length, Some, None};
+ghost use Rattle.std.specs.Prelude.{◌≡◌, ◌<◌, [], All, length};
 ghost use Rattle.std.specs.List.{position};
 ghost use Rattle.ebr_worker.specs.Paced.{IsSession, Paced};
 ghost use Rattle.ebr_worker.specs.Rehearsal.{AllEnded, AllStand, Faultless, scripts_of};
