@@ -6,15 +6,10 @@ use Rattle.std.specs.List.{list_any}
 use Rattle.std.proofs.lemmas.List.{map-append}
 use Rattle.std.proofs.lemmas.List.Elements.{filter-append}
 use Rattle.ebr_base.specs.declared.numbers.SessionId.{SessionId}
-use Rattle.ebr_asks.specs.declared.ask.Ask.{Ask}
-use Rattle.ebr_asks.specs.declared.ask.Ask.TheVariants as ask
-use Rattle.ebr_asks.specs.declared.answer.Answer.{Answer}
-use Rattle.ebr_asks.specs.declared.answer.Answer.TheVariants as answer
 use Rattle.ebr_asks.specs.declared.entry.Entry.{Entry}
 use Rattle.ebr_asks.specs.declared.entry.Exchange.{Exchange}
 use Rattle.ebr_session.specs.Has.{ends}
 use Rattle.ebr_core.specs.History.{Mine, exchange, is_of}
-use Rattle.ebr_worker.specs.Matches.{ask_kept}
 use Rattle.ebr_worker.specs.Paced.{has_ended, is_over}
 
 same_number : (m n : ℕ) → m ≡ n → (m == n) ≡ true
@@ -66,12 +61,3 @@ over_more h x s of runs = ap has_ended (mine_more h x s of) ∙ any_more (λ (y 
 
 pub over_other : (h : List Entry) (x : Entry) (s r : SessionId) → x.session ≡ s → (r.0 ≡ s.0 → ⊥) → is_over (h ++ x ∷ []) r ≡ is_over h r
 over_other h x s r of other = ap has_ended (mine_other h x s r of other)
-
--- what is kept of an ask tells as well whether it ended a session
-pub ends_kept : (q : Ask) (x : Answer) → ends (ask_kept q x) x ≡ ends q x
-ends_kept q answer.Stopped = stopped_ends q
-  where
-    stopped_ends : (q : Ask) → true ≡ ends q answer.Stopped
-    stopped_ends ask.Leave = refl
-    stopped_ends q = refl
-ends_kept q x = refl

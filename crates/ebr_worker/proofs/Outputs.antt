@@ -1,62 +1,26 @@
 -- What a worker's fields say of its work.
-use Rattle.std.proofs.Common.{ℕ, ◌≡◌, ◌+◌, ◌-◌, ◌≤◌, Bool, true, false, List, [], ◌++◌, length, take, drop, Option, Some, None, Result, Ok, Err, arith, refl, sym, ◌∙◌, ap, subst, append-nil, length-append}
+use Rattle.std.proofs.Common.{ℕ, ◌≡◌, ◌+◌, ◌-◌, ◌≤◌, Bool, true, false, List, ◌++◌, length, take, drop, Option, Some, None, arith, refl, sym, ◌∙◌, ap, subst}
 use Rattle.std.specs.Prelude.{IfSome, if◌then◌else◌}
 use Rattle.std.specs.Bool.{OnTrue, OnFalse}
 use Rattle.std.proofs.Math.Seq.{take-add}
-use Rattle.std.proofs.lemmas.List.{take-append-drop, take-append-le, take_all}
-use Rattle.ebr_base.specs.declared.clone_in.NoMemory.{NoMemory}
+use Rattle.std.proofs.lemmas.List.{take-append-drop, take_all}
 use Rattle.ebr_base.specs.declared.numbers.SessionId.{SessionId}
 use Rattle.ebr_ast.specs.declared.view.EditionView.{EditionView}
 use Rattle.ebr_faults.specs.Faults.{Rises}
 use Rattle.ebr_outside.specs.Sink.{appended}
 use Rattle.ebr_asks.specs.declared.ask.Ask.{Ask}
 use Rattle.ebr_asks.specs.declared.answer.Answer.{Answer}
-use Rattle.ebr_session.specs.declared.next.NextAsk.{NextAsk}
-use Rattle.ebr_session.specs.declared.next.NextAsk.TheVariants as next
-use Rattle.ebr_session.specs.Has.{Advances, Follows, IsPrefix, Progress, answered, ends, quitting}
+use Rattle.ebr_session.specs.Has.{Follows, Progress, answered, ends, quitting}
 use Rattle.ebr_report.specs.declared.ends.EndKind.{EndKind}
 use Rattle.ebr_record.specs.Keeper.{Keeper}
 use Rattle.ebr_core.specs.Engine.{EngineState}
 use Rattle.ebr_worker.specs.Work.{Work}
 use Rattle.ebr_worker.specs.inside.Engine.{Replies}
-use Rattle.ebr_worker.specs.inside.Worker.{Advanced, Asked, Flushed, end_of}
+use Rattle.ebr_worker.specs.inside.Worker.{Asked, Flushed, end_of}
 
 -- a session of whose printed bytes so many are written
 abbrev pub work : Progress → ℕ → Option (List ℕ) → ℕ → Option EndKind → Work
 work s n held faults end = record { session = s; written = take n s.printed; held = held; faults = faults; end = end }
-
-prefix_same : (p q : List ℕ) → p ≡ q → IsPrefix p q
-prefix_same p q same = record { rest = []; whole = sym (append-nil q) ∙ ap (λ xs. xs ++ []) (sym same) }
-
--- a session that goes on prints more
-printed_more : (r : Result NextAsk NoMemory) (s t : Progress) → Advances r s t → IsPrefix s.printed t.printed
-printed_more (Ok (next.Ask q)) s t a = a.more
-printed_more (Ok next.Done) s t a = prefix_same _ _ (ap (λ (x : Progress). x.printed) (sym a.1))
-printed_more (Err m) s t a = prefix_same _ _ (ap (λ (x : Progress). x.printed) (sym a.2))
-
-part_same : (n : ℕ) (p q : List ℕ) → IsPrefix p q → n ≤ length p → take n q ≡ take n p
-part_same n p q more within = ap (take n) more.whole ∙ take-append-le n p more.rest within
-
--- What was written stays so, and within what was printed.
-pub written_same : (r : Result NextAsk NoMemory) (s t : Progress) (n : ℕ) → Advances r s t → n ≤ length s.printed → take n t.printed ≡ take n s.printed
-written_same r s t n a within = part_same n s.printed t.printed (printed_more r s t a) within
-
-pub written_within : (r : Result NextAsk NoMemory) (s t : Progress) (n : ℕ) → Advances r s t → n ≤ length s.printed → n ≤ length t.printed
-written_within r s t n a within =
-    let more : IsPrefix s.printed t.printed = printed_more r s t a in
-    let grown : length t.printed ≡ length s.printed + length more.rest = ap length more.whole ∙ length-append s.printed more.rest in
-    omega (arith, grown, within)
-
-pub advanced : (r : Result NextAsk NoMemory) (o : Work) (s t : Progress) (n : ℕ) (held : Option (List ℕ)) (faults : ℕ) (end : Option EndKind) → work s n held faults end ≡ o → n ≤ length s.printed → Advances r s t → Follows t
-    → Advanced r o (work t n held faults end)
-advanced r o s t n held faults end view within a f =
-    let same : take n t.printed ≡ take n s.printed = written_same r s t n a within in
-    let did : Advanced r (work s n held faults end) (work t n held faults end) = record {
-      advances = a;
-      follows = f;
-      same = ap (λ bytes. record { session = t; written = bytes; held = held; faults = faults; end = end }) same;
-    } in
-    subst (λ x. Advanced r x (work t n held faults end)) view did
 
 -- What the sink holds is what was written.
 pub held_written : (p q : List ℕ) (n m : ℕ) (held held' : Option (List ℕ)) → q ≡ p → n ≤ m → IfSome held (λ bytes. bytes ≡ take n p) → held' ≡ appended held (take (m - n) (drop n q)) → IfSome held' (λ bytes. bytes ≡ take m p)

@@ -44,12 +44,6 @@ module _ {X : Type 0} where
 
 -- ---- workers that have just begun
 
-pub begun_none : AreBegun [] []
-begun_none = record { scripts_are = refl; each = λ i w is. absurd (none i w is) }
-  where
-    none : (i : ℕ) (w : Work) → slice_get [] i ≡ Some w → ⊥
-    none i w is = cc
-
 pub begun_more : (scripts : List (List ℕ)) (ws : List Work) (script : List ℕ) (w : Work) → AreBegun scripts ws → IsBegun (length ws + 1) w → w.session.script ≡ script → AreBegun (scripts ++ script ∷ []) (ws ++ w ∷ [])
 begun_more scripts ws script w all here is = record {
   scripts_are = map-append (λ (v : Work). v.session.script) ws (w ∷ []) ∙ ap (λ xs. xs ++ w.session.script ∷ []) all.scripts_are ∙ ap (λ s. scripts ++ s ∷ []) is;

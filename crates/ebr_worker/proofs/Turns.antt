@@ -1,12 +1,11 @@
 -- What a turn makes of what the worker keeps.
-use Rattle.std.proofs.Common.{ℕ, ◌≡◌, ◌+◌, ◌<◌, Bool, true, false, List, [], ◌∷◌, ◌++◌, length, take, Option, Some, None, Ok, Err, inl, inr, arith, refl, sym, ◌∙◌, ap, subst, append-nil, append_assoc}
-use Rattle.std.specs.Prelude.{map, IfSome, IsSome, if◌then◌else◌}
+use Rattle.std.proofs.Common.{ℕ, ◌≡◌, ◌+◌, ◌<◌, Bool, true, false, List, [], ◌∷◌, ◌++◌, length, take, Option, Some, None, Ok, Err, inl, inr, arith, refl, sym, ◌∙◌, ap, subst}
+use Rattle.std.specs.Prelude.{map, IfSome, if◌then◌else◌}
 use Rattle.std.proofs.Math.Seq.{take-append_seam}
 use Rattle.std.proofs.lemmas.List.{map-append, length-append, length-map}
 use Rattle.ebr_base.specs.declared.clone_in.NoMemory.{NoMemory}
 use Rattle.ebr_base.specs.declared.numbers.SessionId.{SessionId}
 use Rattle.ebr_base.specs.declared.numbers.TheConstants.{MAX_COUNT}
-use Rattle.ebr_faults.specs.Faults.{Rises}
 use Rattle.ebr_asks.specs.declared.ask.Ask.{Ask}
 use Rattle.ebr_asks.specs.declared.ask.Ask.TheVariants as ask
 use Rattle.ebr_asks.specs.declared.answer.Answer.{Answer}
@@ -27,17 +26,11 @@ use Rattle.ebr_core.specs.History.{exchange as exchange_of}
 use Rattle.ebr_worker.specs.Matches.{ask_kept, kept}
 use Rattle.ebr_worker.specs.Paced.{IsSession, is_over}
 use Rattle.ebr_worker.specs.Ends.{AnswersLeave, Came, QuitWhole, Ran, RanOut, RanToEnd, StopsIt, WantsMemory, printed_before_last}
-use Rattle.ebr_worker.specs.Work.{Adds, Makes, Over, Seated, Stands, StandsBy, Turned, Work, Works}
+use Rattle.ebr_worker.specs.Work.{Adds, Over, Seated, StandsBy, Work, Works}
 use Rattle.ebr_worker.specs.inside.Worker.{Advanced, Asked, Flushed, Left, MayLeave, Stepped, end_of}
 use Rattle.ebr_worker.proofs.Histories.{mine_more, over_more}
 
--- ---- prefixes, and what is kept of exchanges
-
-prefix_same : (p q : List ℕ) → p ≡ q → IsPrefix p q
-prefix_same p q same = record { rest = []; whole = sym (append-nil q) ∙ ap (λ xs. xs ++ []) (sym same) }
-
-prefix_trans : (p q r : List ℕ) → IsPrefix p q → IsPrefix q r → IsPrefix p r
-prefix_trans p q r pq qr = record { rest = pq.rest ++ qr.rest; whole = qr.whole ∙ (ap (λ xs. xs ++ qr.rest) pq.whole ∙ append_assoc p pq.rest qr.rest) }
+-- ---- what is kept of exchanges
 
 answers_kept : (mine : List Exchange) → answers (map kept mine) ≡ answers mine
 answers_kept [] = refl
@@ -309,51 +302,6 @@ written_so w e works =
     let s : Progress = w.session in
     works.written ∙ (printed_so w e works).0 ∙ ap (printed_before s.script (answers s.transcript)) (sym (length-map s.transcript (λ (x : Exchange). x.answer)))
 
--- a session that found no memory, or has made too many asks
-pub may_leave : {K : Type 0} (w : Work) (e : EngineState K) → Works w e → MayLeave w.session w.written e
-may_leave w e works =
-    let s : Progress = w.session in
-    let printed : HasPrinted None false None s = printed_so w e works in
-    record {
-      goes_on = works.goes_on;
-      went_on = went_on_so s works.follows works.goes_on;
-      seated = works.seated;
-      not_over = works.not_over;
-      few = works.few;
-      live = works.live;
-      most = prefix_trans _ _ _ (prefix_same _ _ works.written)
-          (subst (λ n. IsPrefix s.printed (SessionRun s.script (answers s.transcript) n).state.printed) works.no_quit printed.1);
-      least = prefix_same _ _ (sym (written_so w e works));
-    }
-
--- .. and is where it was
-pub may_leave_failed : {K : Type 0} (m : NoMemory) (old new : Work) (e : EngineState K) → Works old e → Advanced (Err m) old new → MayLeave new.session new.written e
-may_leave_failed m old new e works on =
-    subst (λ s. MayLeave s new.written e) (sym on.advances.2)
-    (subst (λ bytes. MayLeave old.session bytes e) (sym (ap (λ (w : Work). w.written) on.same)) (may_leave old e works))
-
--- one whose sink failed before its ask
-pub may_leave_asking : {K : Type 0} (q : Ask) (old mid new : Work) (e : EngineState K) → Works old e → length old.session.transcript + 1 < MAX_COUNT → Advanced (Ok (next.Ask q)) old mid → Flushed false mid new → MayLeave new.session new.written e
-may_leave_asking q old mid new e works few on wrote =
-    let s : Progress = mid.session in
-    let out : Asking q s e = asking q old mid e works few on in
-    let printed : s.printed ≡ (run_of s).state.printed =
-    subst (λ o. HasPrinted None false o s) out.out (subst (λ b. HasPrinted None b s.out s) out.goes_on (subst (λ n. HasPrinted n s.ended s.out s) out.no_quit out.follows.printed)) in
-    let whole : s.printed ≡ Printed s.script (answers s.transcript) = printed ∙ ap (λ n. (SessionRun s.script (answers s.transcript) n).state.printed) out.no_quit in
-    let was : IsPrefix (printed_before_last s.script (answers s.transcript)) mid.written =
-    subst (λ (t : Progress). IsPrefix (printed_before_last t.script (answers t.transcript)) mid.written) (sym on.advances.is)
-    (subst (IsPrefix (printed_before_last old.session.script (answers old.session.transcript))) (sym (ap (λ (w : Work). w.written) on.same)) (may_leave old e works).least) in
-    subst (λ t. MayLeave t new.written e) (sym wrote.session) (record {
-      goes_on = out.goes_on;
-      went_on = went_on_so s out.follows out.goes_on;
-      seated = out.seated;
-      not_over = out.not_over;
-      few = omega (arith, out.few);
-      live = out.live;
-      most = subst (IsPrefix new.written) (ap (λ (t : Progress). t.printed) wrote.session ∙ whole) wrote.part;
-      least = prefix_trans _ _ _ was wrote.grown;
-    })
-
 -- A session quits, goes on to Leave, and has it answered.
 module _ {K : Type 0} (told : K → Keeper) (w quits mid new : Work) (e e' : EngineState K) (q : Ask) (c : Option EndKind) (may : MayLeave w.session w.written e) (quit_is : quits ≡ record w { session = quitting w.session.ended w.session })
     (on : Advanced (Ok (next.Ask q)) quits mid) (did : Asked told q c mid new e e') where
@@ -461,12 +409,6 @@ module _ {K : Type 0} (told : K → Keeper) (w quits mid new : Work) (e e' : Eng
 
 -- ---- turns
 
-rises_same : (a b c d : ℕ) → b ≡ a → d ≡ c → Rises b c → Rises a d
-rises_same a b c d from_a to_d rises = subst (λ n. Rises n d) from_a (subst (Rises b) (sym to_d) rises)
-
-above_zero : (a b : ℕ) → Rises a b → 0 < b
-above_zero a b rises = omega (arith, rises)
-
 -- A session that has quit is over, with its cause.
 over_left_so : {K : Type 0} (told : K → Keeper) (k : EndKind) (old new : Work) (e e' : EngineState K) → Left told old new e e'
     → Came k old.session.script (Mine e'.history old.session.session) old.written → (k ≡ ending.SinkFault → 0 < new.faults) → Over k new e'
@@ -496,18 +438,6 @@ stepped_asked told q c old mid wrote new e e' works few on flushed did =
       counted = omega (arith, same, kept_so, flushed.counted);
     }
 
-pub stepped_quit : {K : Type 0} (told : K → Keeper) (q : Ask) (old mid wrote new : Work) (e e' : EngineState K) → Advanced (Ok (next.Ask q)) old mid → Flushed false mid wrote → Left told wrote new e e' → Stepped told (Some ending.SinkFault) old new e e'
-stepped_quit told q old mid wrote new e e' on flushed l =
-    let same : mid.faults ≡ old.faults = ap (λ (v : Work). v.faults) on.same in
-    let number : wrote.session.session ≡ old.session.session = ap (λ (t : Progress). t.session) flushed.session ∙ ap (λ (t : Progress). t.session) on.advances.is in
-    record {
-      session = l.session ∙ number;
-      script = l.script ∙ ap (λ (t : Progress). t.script) flushed.session ∙ ap (λ (t : Progress). t.script) on.advances.is;
-      came = over_left_so told ending.SinkFault wrote new e e' l l.quit (λ is. subst (λ n. 0 < n) (sym l.faults) (above_zero mid.faults wrote.faults flushed.failed));
-      makes = (l.makes.0, subst (λ r. Adds told r l.makes.0 e e') number l.makes.1);
-      counted = omega (arith, same, l.faults, flushed.counted);
-    }
-
 not_sink : {A : Type 0} → ending.NoMemory ≡ ending.SinkFault → A
 not_sink same = cc
 
@@ -529,56 +459,3 @@ pub stepped_failed : {K : Type 0} (told : K → Keeper) (k : EndKind) (m : NoMem
 stepped_failed told k m old mid new e e' is works on l =
     let same : mid ≡ old = on.same ∙ ap (λ s. record old { session = s }) on.advances.2 in
     subst (λ w. Stepped told (Some k) w new e e') same (stepped_left told k mid new e e' is (subst (λ w. Works w e) (sym same) works) l)
-
--- A session that works hasn't ended.
-pub not_ended : {K : Type 0} (old new : Work) (e : EngineState K) → Works old e → Advanced (Ok next.Done) old new → ⊥
-not_ended old new e works on = is_true old.session.ended works.goes_on on.advances.0
-
--- The turn of a session that runs.
-pub turned_stepped : {K : Type 0} (told : K → Keeper) (c : Option EndKind) (old mid new : Work) (e e' : EngineState K) → old.end ≡ None → Stepped told c old mid e e' → new ≡ record mid { end = c } → Turned told old new e e'
-turned_stepped told c old mid new e e' runs stepped is =
-    subst (λ w. Turned told old w e e') (sym is) (record {
-      session = stepped.session;
-      script = stepped.script;
-      stands = by c stepped.came;
-      makes = subst (λ o. Makes told o old (record mid { end = c }) e e') (sym runs) stepped.makes;
-      counted = stepped.counted;
-    })
-  where
-    by : (o : Option EndKind) → StandsBy o mid e' → StandsBy o (record mid { end = c }) e'
-    by None works = record {
-      goes_on = works.goes_on;
-      no_quit = works.no_quit;
-      no_ask = works.no_ask;
-      follows = works.follows;
-      seated = works.seated;
-      not_over = works.not_over;
-      few = works.few;
-      written = works.written;
-      live = works.live;
-    }
-    by (Some k) over = record {
-      ended = over.ended;
-      seated = over.seated;
-      over = over.over;
-      few = over.few;
-      came = over.came;
-      failed = over.failed;
-    }
-
--- .. and of one that has ended
-pub turned_over : {K : Type 0} (told : K → Keeper) (w : Work) (e : EngineState K) → IsSome w.end → Stands w e → Turned told w w e e
-turned_over told w e ended stands = record {
-  session = refl;
-  script = refl;
-  stands = stands;
-  makes = by w.end ended;
-  counted = omega arith;
-}
-  where
-    by : (o : Option EndKind) → IsSome o → Makes told o w w e e
-    by None is = cc
-    by (Some k) is = (refl, refl)
-
-pub works_so : {K : Type 0} (w : Work) (e : EngineState K) → w.end ≡ None → Stands w e → Works w e
-works_so w e runs stands = subst (λ o. StandsBy o w e) runs stands
