@@ -1,7 +1,9 @@
 //! What sessions and trigger bodies ask of the engine, what it answers, and the entries of a history.
 //!
-//! The crates above use the types, and `Allows` of `specs/Allows.antt`: which answers an ask may get. Statements,
-//! definitions and views stand behind `Shared`, so that a copy of an ask or of an answer copies no tree.
+//! What is used above: the types, and the contract of `CloneIn` for `Ask` and `Answer`: a copy is equal. Statements, definitions
+//! and views stand behind `Shared`, so that a copy of an ask or of an answer copies no tree.
+//!
+//! That copies succeed with ample memory is tested alone.
 #![tactic(auto)]
 
 mod answer;

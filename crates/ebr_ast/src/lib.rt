@@ -1,4 +1,9 @@
 //! Syntax trees of SQL and PL/SQL, and what an edition sees of the catalogue.
+//!
+//! What is used above: the types, and the contracts of `PackageItems` and `Subprograms`, whose look-ups by name give what going
+//! through the list would. A tree is copied by its `Shared`.
+//!
+//! That these are made and copied with ample memory is tested alone (`ebr_parsetests`).
 #![tactic(auto)]
 
 mod definition;

@@ -2,6 +2,8 @@
 //!
 //! A column wins over a variable. The crates above use `query`, `insert`, `update` and `delete`, which make exactly the
 //! statements that `ebr_run/specs/Binds.antt` defines, with what gives each bind its value, in the order of the binds.
+//!
+//! That calls succeed with ample memory is tested alone, by programs that run (`ebr_machinetests`).
 #![tactic(auto)]
 
 mod copy;

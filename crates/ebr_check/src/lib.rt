@@ -1,7 +1,7 @@
 //! The checks of a unit or a block against what an edition sees.
 //!
 //! What is used above: `check` finds the `verdict` of `specs/Verdict.antt`, the least number of a rule that doesn't hold, and
-//! none exactly where the unit `is_valid`. `Reads` of `specs/Reads.antt` is which names that may depend on.
+//! none exactly where the unit `is_valid`.
 //!
 //! That calls succeed with ample memory is tested alone (`ebr_parsetests`).
 #![tactic(auto)]

@@ -1,8 +1,11 @@
 //! Slot code: what a machine runs, the compiled units that hold it, and the trait of the books that hold these.
 //!
-//! Code is structured: the branches of IF, the bodies of loops, guarded statements and right operands are lists of
-//! instructions inside an instruction, so that no instruction jumps. What code does is `RunCode` of `specs/Runs.antt`, in
-//! the words in which `ebr_run` says what trees do. The asks and answers of runs are those of `ebr_asks`.
+//! What is used above: `RunCode` of `specs/Runs.antt`, which says what code does in the words in which `ebr_run` says what trees
+//! do, `Codes` of `specs/Units.antt`, which says what code a tree has, and the contract of `CodeBook`, the trait of books. Code
+//! is structured: the branches of IF, the bodies of loops, guarded statements and right operands are lists of instructions inside
+//! an instruction, so that no instruction jumps.
+//!
+//! These are types and definitions; there is no code here to be tested.
 #![tactic(auto)]
 
 mod book;

@@ -3,6 +3,8 @@
 //! What is used above: `commit`, `roll_back`, `savepoint`, `back_to`, `push_autonomous` and `pop_autonomous` do what
 //! `specs/Transact.antt` says of the transaction on a session's stack, and leave what transactions have changed storable
 //! (`AllStorable`); `commit` has a record kept by a `Keep`.
+//!
+//! That calls succeed with ample memory, over a keeper that keeps, is tested alone (`ebr_servertests`).
 #![tactic(auto)]
 
 mod failure;

@@ -3,6 +3,8 @@
 //! The crates above use `expression`, `call_statement`, and `target_place` with `store`, which add exactly the code that
 //! `ebr_code/specs/Codes.antt` defines at the end of a list; what is known around the code is an `Around` of `ebr_places`.
 //! A name that stands for nothing that belongs there has the code `Broken`. Want of memory alone is refused.
+//!
+//! That calls succeed with ample memory is tested alone, by programs that run (`ebr_machinetests`).
 #![tactic(auto)]
 
 mod calls;

@@ -1,6 +1,9 @@
-//! Syntax trees of expressions.
+//! Syntax trees of expressions. They stand apart from the trees of statements, so that what reads or computes expressions needs
+//! no more.
 //!
-//! They stand apart from the trees of statements, so that what reads or computes expressions needs no more.
+//! What is used above: the types, with the `==` of those that hold no tree. A tree is copied by the `Shared` that holds it.
+//!
+//! Nothing here is only tested.
 #![tactic(auto)]
 
 mod expression;

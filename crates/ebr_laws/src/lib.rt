@@ -2,7 +2,7 @@
 //!
 //! The crates above use the law `one_meaning`: over a book that has the code of what an edition sees, a run of a unit's code
 //! is seen to do just what `Run` says of the unit. The laws of expressions, statements, blocks and units that it rests on
-//! stand in `proofs/`.
+//! stand in `proofs/`. Nothing here is only tested.
 #![tactic(auto)]
 
 ghost use Rattle.ebr_ast.specs.declared.unit.UnitTree.{UnitTree};

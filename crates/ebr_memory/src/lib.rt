@@ -1,5 +1,11 @@
 //! What a run keeps: variables, cursors, what handlers handle and operands, for each running subprogram, and the states of
 //! packages.
+//!
+//! What is used above: the methods of `Levels`, `Stacks`, `Cursor` and `Packages`, and calls over them (`put_variable`, `fetch`,
+//! `catcher` and their like), each by an equation over plain lists, most of it in the words by which `ebr_run` says what becomes
+//! of a run's state.
+//!
+//! That calls succeed with ample memory is tested alone, by programs that run (`ebr_machinetests`).
 #![tactic(auto)]
 
 mod caught;

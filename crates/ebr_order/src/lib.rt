@@ -2,7 +2,7 @@
 //!
 //! What is used above: `read_order`, which gives the sessions in their turns, or the place of the first byte that is wrong.
 //!
-//! Tables of orders are run in `ebr_reporttests`.
+//! That orders are read where memory is ample is tested alone (`ebr_leaftests`).
 #![tactic(auto)]
 
 mod number;

@@ -1,8 +1,8 @@
-//! What is written at the end of a run: the summary of its sessions, and lines. Each writes to a sink until a write fails, and takes
-//! no memory.
+//! What is written at the end of a run: the summary of its sessions, and lines. Each writes to a sink until a write fails, and
+//! takes no memory.
 //!
-//! What is used above: `offer`, which writes bytes from a place on, `write_line`, and `write_summary`. Each says what the sink holds
-//! then, and that a write failed only where the sink's count of faults rose.
+//! What is used above: `offer`, which writes bytes from a place on, `write_line`, and `write_summary`. Each says what the sink
+//! holds then, and that a write failed only where the sink's count of faults rose. Nothing of it is only tested.
 #![tactic(auto)]
 
 mod ends;

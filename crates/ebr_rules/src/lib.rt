@@ -1,7 +1,10 @@
 //! The rules of valid units, and what is judged in expressions and in statements of SQL in code.
 //!
-//! `specs/Rules.antt` has the twelve rules, each a test of places (`specs/Sites.antt`). A call here goes through the places of
-//! its part in reading order, and keeps the least number of a rule that one of them breaks: `noted` of `specs/Noted.antt`.
+//! `specs/Rules.antt` has the twelve rules, each a test of places (`specs/Sites.antt`). What is used above: `expression`, `query`,
+//! `insert`, `update`, `delete`, `into` and `target` go through the places of their part in reading order, and keep the least
+//! number of a rule that one of them breaks: `noted` of `specs/Noted.antt`.
+//!
+//! That calls succeed with ample memory is tested alone (`ebr_parsetests`).
 #![tactic(auto)]
 
 mod around;

@@ -3,6 +3,8 @@
 //! The crates above use `Run` of `specs/Run.antt`: what a unit does, over the view of its edition, with the answers that it
 //! is given. It is a definition, and no code stands behind it here; the types of this crate are what its words and those of
 //! slot code share: where a variable or a cursor is, what type it has, what is called and what was raised.
+//!
+//! That copies of these succeed with ample memory is tested alone (`ebr_machinetests`).
 #![tactic(auto)]
 
 mod callee;

@@ -1,7 +1,9 @@
-//! Names in code: what is declared around a piece of code, and what names stand for there.
+//! Names in code: what is declared around a part of the code, and what names stand for there.
 //!
 //! What is used above: `meant`, `plain`, `called`, `applied` and `raised` are the words of these names of `specs/Names.antt`
 //! over what the edition sees and the declared names (`Scopes`, the innermost first).
+//!
+//! That calls succeed with ample memory is tested alone (`ebr_parsetests`).
 #![tactic(auto)]
 
 mod column;

@@ -2,6 +2,8 @@
 //!
 //! What the server uses is `pieces`: the pieces are those that the relation `Cut` allows, in one way. A stored text is
 //! read again by `stored`.
+//!
+//! That calls succeed with ample memory is tested alone (`ebr_servertests`).
 #![tactic(auto)]
 
 mod piece;

@@ -3,8 +3,10 @@
 //! and the last line.
 //!
 //! The program uses `serve`, whose contract is the headline: the history is legal, each session's asks are those of its
-//! script, and its sink holds what the script prints; for `try` that is the report. That calls succeed where memory is ample
-//! is tested in `ebr_servertests` and `ebr_rehearsaltests`.
+//! script, and its sink, which for `try` is the report, holds what the script prints, or a part of it where a write failed or
+//! the session left early.
+//!
+//! That calls succeed with ample memory is tested alone (`ebr_servertests`, `ebr_cases`).
 #![tactic(auto)]
 
 mod codes;

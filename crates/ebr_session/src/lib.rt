@@ -6,7 +6,7 @@
 //! `SessionRun` of `specs/Sessions.antt`: the asks, what was printed and whether the session has ended are those of the run of
 //! the script with the answers that the transcript has.
 //!
-//! Only want of memory is free.
+//! That calls succeed with ample memory is tested alone (`ebr_servertests`, `ebr_cases`).
 #![tactic(auto)]
 
 mod after;

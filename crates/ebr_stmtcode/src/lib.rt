@@ -3,6 +3,8 @@
 //! The crates above use `block`, `guarded`, `declaration` and `declarations`, which add exactly the code that
 //! `ebr_code/specs/Codes.antt` defines at the end of a list. Declarations make their names known in the `Around` of
 //! `ebr_places`; blocks and statements leave it as it was. Want of memory alone is refused.
+//!
+//! That calls succeed with ample memory is tested alone, by programs that run (`ebr_machinetests`).
 #![tactic(auto)]
 
 mod choices;
