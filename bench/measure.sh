@@ -1,8 +1,10 @@
 #!/bin/sh
-# Makes the tables "Measured" of docs/PROFILE.md: for each kind of script and each size the processor time and the memory
-# that `ebrd` takes, best of three runs. Run by hand; it wants GNU time. Nothing here is a test.
+# Makes the tables "Measured" of docs/PROFILE.md, but the last one: for each kind of script and each size the processor time,
+# the least of some runs, and the memory that `ebrd` takes; and, where valgrind is there, instructions. Run it by hand, as
+# `bench/measure.sh` at the top of the repository; it wants GNU time and bash. Nothing here is a test.
 set -eu
 top=$(dirname -- "$(readlink -f -- "$0")")/..
+program=$top/crates/ebrd/out/ebrd
 work=$(mktemp -d)
 trap 'rm -rf "$work"' EXIT
 "$top/ebrd" try /dev/null
@@ -64,6 +66,7 @@ rows() {
     }'
 }
 
+# script SIZE KIND: a script of a kind, as large as the size allows
 script() {
     case $2 in
         sum) repeated "$1" 'SELECT 1' ' + b' ' FROM t;' ;;
@@ -88,11 +91,31 @@ turns() {
     awk -v count="$1" 'BEGIN { print 1; for (i = 1; i <= count; i++) print "1 2 3" }' >"$work/order"
 }
 
-# measured WORDS: the least processor time in seconds of three runs, and the memory in MB
+# loop_of LOOP: a function, and a block with a loop that may call it
+loop_of() {
+    printf 'CREATE FUNCTION f(x NUMBER) RETURN NUMBER IS BEGIN RETURN x + 1; END;\n/\n'
+    printf 'DECLARE x NUMBER := 0; BEGIN %s; END;\n/\n' "$1"
+}
+
+# measured RUNS WORDS: the least processor time in seconds of so many runs, and the memory in MB
 measured() {
-    for _ in 1 2 3; do
-        /usr/bin/time -f '%U %S %M' "$top/crates/ebrd/out/ebrd" "$@" 2>&1 >/dev/null
+    runs=$1
+    shift
+    for _ in $(seq "$runs"); do
+        /usr/bin/time -f '%U %S %M' "$program" "$@" 2>&1 >/dev/null
     done | awk '{ t = $1 + $2; if (NR == 1 || t < least) least = t; memory = $3 } END { printf "%.2f s, %d MB", least, memory / 1024 }'
+}
+
+# least RUNS SCRIPT: the least processor time of so many runs in ms; for runs so short that other work on the machine shows
+least() {
+    for _ in $(seq "$1"); do
+        bash -c 'TIMEFORMAT="%3U %3S"; time "$0" try "$1" >/dev/null' "$program" "$2" 2>&1
+    done | awk '{ t = ($1 + $2) * 1000; if (NR == 1 || t < least) least = t } END { printf "%.0f", least }'
+}
+
+# instructions SCRIPT: how many instructions a run takes
+instructions() {
+    valgrind --tool=callgrind --callgrind-out-file=/dev/null "$program" try "$1" 2>&1 >/dev/null | awk '/Collected/ { print $NF }'
 }
 
 echo '| Script | 256 KiB | 512 KiB | 1 MiB |'
@@ -101,7 +124,7 @@ for kind in blocks units queries sum ifs semicolons called; do
     printf '| %s' "$kind"
     for size in 262144 524288 1048576; do
         script "$size" "$kind" >"$work/$kind.sql"
-        printf ' | %s' "$(measured try "$work/$kind.sql")"
+        printf ' | %s' "$(measured 3 try "$work/$kind.sql")"
     done
     echo ' |'
 done
@@ -113,10 +136,24 @@ for kind in made called_after called_at_once; do
     printf '| %s' "$kind"
     for count in 1024 2048 4096; do
         procedures "$count" "$kind" >"$work/$kind.sql"
-        printf ' | %s' "$(measured try "$work/$kind.sql")"
+        printf ' | %s' "$(measured 3 try "$work/$kind.sql")"
     done
     echo ' |'
 done
+
+echo
+echo '| Loop | Steps | Time | A step |'
+echo '|---|---|---|---|'
+while read -r steps loop; do
+    loop_of "$loop" >"$work/loop.sql"
+    awk -v loop="$loop" -v steps="$steps" -v ms="$(least 7 "$work/loop.sql")" \
+        'BEGIN { printf "| `%s` | %d | %d ms | %.2f us |\n", loop, steps, ms, ms * 1000 / steps }'
+done <<'LOOPS'
+999981 FOR i IN 1 .. 499990 LOOP NULL; END LOOP
+999981 FOR i IN 1 .. 499990 LOOP x := x + i * 2 - 1; END LOOP
+999981 WHILE x < 499990 LOOP x := x + 1; END LOOP
+999991 FOR i IN 1 .. 333330 LOOP x := f(i); END LOOP
+LOOPS
 
 # kinds SIZES KINDS: a line for each kind
 kinds() {
@@ -124,7 +161,7 @@ kinds() {
         printf '| %s' "$kind"
         for count in $1; do
             rows "$count" "$kind" >"$work/$kind.sql"
-            printf ' | %s' "$(measured try "$work/$kind.sql")"
+            printf ' | %s' "$(measured 3 try "$work/$kind.sql")"
         done
         echo ' |'
     done
@@ -140,13 +177,6 @@ echo '| Script | 5,000 rows | 10,000 rows | 20,000 rows |'
 echo '|---|---|---|---|'
 kinds '5000 10000 20000' statements
 
-# measured_often FILE: the least processor time of forty runs, in ms; for runs so short that other work on the machine shows
-measured_often() {
-    for _ in $(seq 40); do
-        bash -c 'TIMEFORMAT="%3U %3S"; time "$0" try "$1" >/dev/null' "$top/crates/ebrd/out/ebrd" "$1" 2>&1
-    done | awk '{ t = ($1 + $2) * 1000; if (NR == 1 || t < least) least = t } END { printf "%d ms", least }'
-}
-
 echo
 echo '| Script | 1,000 rows | 2,000 rows |'
 echo '|---|---|---|'
@@ -154,10 +184,24 @@ for kind in block update empty before after; do
     printf '| %s' "$kind"
     for count in 1000 2000; do
         rows "$count" "$kind" >"$work/$kind.sql"
-        printf ' | %s' "$(measured_often "$work/$kind.sql")"
+        printf ' | %s ms' "$(least 40 "$work/$kind.sql")"
     done
     echo ' |'
 done
+
+# The block as it is; the UPDATE over the block; the triggers over the UPDATE.
+if command -v valgrind >/dev/null; then
+    echo
+    echo '| 1,000 rows | instructions for a row |'
+    echo '|---|---|'
+    before=0
+    for kind in block update empty before after; do
+        rows 1000 "$kind" >"$work/$kind.sql"
+        count=$(instructions "$work/$kind.sql")
+        printf '| %s | %d |\n' "$kind" $(((count - before) / 1000))
+        case $kind in block | update) before=$count ;; esac
+    done
+fi
 
 echo
 echo '| Each of three sessions | 1,000 statements | 2,000 statements |'
@@ -166,7 +210,7 @@ for kind in queries inserts; do
     printf '| %s' "$kind"
     for count in 1000 2000; do
         turns "$count" "$kind"
-        printf ' | %s' "$(measured rehearse journal "$work/order" "$work/1.sql" "$work/2.sql" "$work/3.sql")"
+        printf ' | %s' "$(measured 20 rehearse journal "$work/order" "$work/1.sql" "$work/2.sql" "$work/3.sql")"
     done
     echo ' |'
 done
