@@ -1,9 +1,8 @@
-//! What sessions and trigger bodies ask of the engine, what it answers, and the entries of a history.
+//! What sessions and trigger bodies ask of the engine, what it answers, and the entries of a history. By the contract of
+//! `CloneIn` a copy of an ask or of an answer is equal; that copies succeed with ample memory is tested alone.
 //!
-//! What is used above: the types, and the contract of `CloneIn` for `Ask` and `Answer`: a copy is equal. Statements, definitions
-//! and views stand behind `Shared`, so that a copy of an ask or of an answer copies no tree.
-//!
-//! That copies succeed with ample memory is tested alone.
+//! The crates above use the types. Statements, definitions and views stand behind `Shared`, so that a copy of an ask or of an
+//! answer copies no tree.
 #![tactic(auto)]
 
 mod answer;
