@@ -51,7 +51,7 @@ Cause DiskFault old new = Rises old.faults new.faults
 Cause Stopped old new = old.stopped ≡ true
 Cause NoMemory old new = Unit {0}
 
--- The engine gave up while these records were to be kept: at most the first of them are there after a stop.
+-- The engine gave up while these records were to be kept: at most the first of them are there after a stop, where the keeper tells.
 pub record GaveUp (old new : Keeper) (made : List Record) (why : Halt) : Type 0 where
   pub faults : old.faults ≤ new.faults
   pub moment : old.moment ≤ new.moment
