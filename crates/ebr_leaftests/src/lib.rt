@@ -24,9 +24,13 @@ mod names;
 #[cfg(test)]
 mod operators;
 #[cfg(test)]
+mod order;
+#[cfg(test)]
 mod outside;
 #[cfg(test)]
 mod records;
+#[cfg(test)]
+mod summary;
 #[cfg(test)]
 mod tables;
 #[cfg(test)]

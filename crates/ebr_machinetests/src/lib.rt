@@ -1,4 +1,5 @@
-//! Tests of the compiler and the machine: programs from their texts, run over answers that are given.
+//! Tests of the compiler and the machine: programs from their texts, run over answers that are given. And of the firing of triggers:
+//! definitions from their texts, in several editions, and what a change then fires.
 //!
 //! They stand together above those crates, so that each of them is proved once.
 #![tactic(auto)]
@@ -9,6 +10,8 @@ mod bodies;
 mod edition;
 #[cfg(test)]
 mod editions;
+#[cfg(test)]
+mod firing;
 #[cfg(test)]
 mod given;
 #[cfg(test)]

@@ -1,7 +1,9 @@
 //! Which triggers fire, in which order, and in which edition their bodies run. Oracle Database Development Guide 19c,
 //! Crossedition Triggers; which crossedition triggers fire, and the order, are own.
 
-use crate::asked::first_fault;
+mod asked;
+
+use asked::first_fault;
 use std::rt::HostRuntime;
 use std::test::Fail;
 
