@@ -1,6 +1,8 @@
-//! Tests of the pieces of scripts, and of `serve` over a host in memory, byte for byte.
+//! Tests of the engine, of the pieces of scripts, and of `serve` over a host in memory, byte for byte.
 #![tactic(auto)]
 
+#[cfg(test)]
+mod asks;
 #[cfg(test)]
 mod blocks;
 #[cfg(test)]
