@@ -4,7 +4,7 @@ use crate::scripts::{FIRST_CALLS, FIRST_REPLIES};
 use ebr_base::NoMemory;
 use ebr_outside::Fail;
 use ebr_server::{ExitCode, MAX_SCRIPT};
-use ebr_trial::{Faults, NO_FAULTS, TRY, ended, prints, release, served};
+use ebr_trial::{Faults, NO_FAULTS, Stop, TRY, ended, prints, release, served};
 use std::alloc::Global;
 use std::test::Fail as TestFail;
 
@@ -14,14 +14,6 @@ fn at(call: u32) -> Option<Fail> {
         at: call,
         onward: false,
     })
-}
-
-/// How a run ends in which no session began.
-#[derive(Clone, Copy)]
-struct Stop {
-    code: ExitCode,
-    status: u8,
-    report: &'static [u8],
 }
 
 const USAGE: Stop = Stop {
@@ -55,9 +47,7 @@ fn stops(
     stop: Stop,
 ) -> Result<bool, NoMemory> {
     let outcome = served(alloc, words, script, faults)?;
-    let stops = ended(&outcome, stop.code, stop.report)
-        && outcome.code.status() == stop.status
-        && outcome.history.is_empty();
+    let stops = stop.is(&outcome);
     release(outcome);
     Ok(stops)
 }

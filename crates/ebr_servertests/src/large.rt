@@ -1,22 +1,10 @@
-//! As many steps, printed bytes and calls as there may be, and more.
+//! As many printed bytes and calls as there may be, and more.
 
 use ebr_base::{Bytes, NoMemory};
 use ebr_server::{ExitCode, MAX_SCRIPT};
 use ebr_trial::{MemOutcome, NO_FAULTS, TRY, prints, release, served};
 use std::alloc::Global;
 use std::test::Fail;
-
-#[test]
-fn the_millionth_step_is_the_last(rt: HostRuntime) -> Result<(), Fail> {
-    assert!(rt;
-        prints(
-            rt.alloc(),
-            b"BEGIN LOOP NULL; END LOOP; END;\n/\nBEGIN BEGIN LOOP NULL; END LOOP; EXCEPTION WHEN OTHERS THEN NULL; END; END;\n/\n",
-            b"EBR-0007\nEBR-0007\n"
-        )?
-    );
-    Ok(())
-}
 
 /// Whether a script was run to its end, with replies of so many bytes that end so.
 fn prints_much(outcome: &MemOutcome, bytes: usize, end: &[u8]) -> bool {

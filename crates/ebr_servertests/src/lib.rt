@@ -1,16 +1,11 @@
 //! Tests of the engine, of the pieces of scripts, and of `serve` over a host in memory, byte for byte.
+//!
+//! Scripts with their replies stand in the files that `ebr_cases` runs. Here is what they can't show: faults, histories, words, texts of
+//! many bytes, and bytes that a text file hides.
 #![tactic(auto)]
 
 #[cfg(test)]
 mod asks;
-#[cfg(test)]
-mod blocks;
-#[cfg(test)]
-mod calls;
-#[cfg(test)]
-mod definitions;
-#[cfg(test)]
-mod editions;
 #[cfg(test)]
 mod faults;
 #[cfg(test)]
@@ -24,10 +19,10 @@ mod pieces;
 #[cfg(test)]
 mod records;
 #[cfg(test)]
+mod rehearsals;
+#[cfg(test)]
 mod script;
 #[cfg(test)]
 mod scripts;
-#[cfg(test)]
-mod validity;
 #[cfg(test)]
 mod worked;

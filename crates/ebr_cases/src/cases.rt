@@ -1,0 +1,136 @@
+//! The cases of a file, one after the other.
+
+use crate::rehearsal::Rehearsal;
+use crate::script::Script;
+use crate::text::TEXT;
+use ebr_base::{Bytes, NoMemory};
+use std::alloc::Global;
+
+/// What stands in front of a case and its title.
+const CASE: &str = "\n=== ";
+
+/// What a file came to.
+#[derive(Drop)]
+pub struct Checked {
+    /// Lines that tell it.
+    pub told: Bytes,
+    /// Whether there is a case, and each came to what is written.
+    pub right: bool,
+}
+
+/// Whether what stands in front of the first case sets up nothing.
+fn is_nothing(setup: &str) -> bool {
+    !setup.contains(TEXT)
+}
+
+/// Runs a case of one script. None where the texts are no such case.
+fn script_runs(
+    alloc: Global,
+    setup: &str,
+    case: &str,
+    told: &mut Bytes,
+) -> Result<Option<bool>, NoMemory> {
+    let mut script = Script::new(alloc);
+    if !is_nothing(setup) && !script.add(setup)? {
+        return Ok(None);
+    }
+    if !script.add(case)? {
+        return Ok(None);
+    }
+    Ok(Some(script.runs(alloc, told)?))
+}
+
+/// Runs a case of several scripts. None where the texts are no such case.
+fn rehearsal_runs(
+    alloc: Global,
+    setup: &str,
+    case: &str,
+    told: &mut Bytes,
+) -> Result<Option<bool>, NoMemory> {
+    let mut rehearsal = Rehearsal::new(alloc);
+    if !is_nothing(setup) && !rehearsal.add(alloc, setup)? {
+        return Ok(None);
+    }
+    if !rehearsal.add(alloc, case)? {
+        return Ok(None);
+    }
+    Ok(Some(rehearsal.runs(alloc, told)?))
+}
+
+/// Whether a case came to what is written. What it came to is told where it didn't.
+fn is_as_written(
+    alloc: Global,
+    setup: &str,
+    case: &str,
+    told: &mut Bytes,
+) -> Result<bool, NoMemory> {
+    if title_of(case).contains('\n') {
+        told.extend(b"more than a line in front of the first heading\n")?;
+        return Ok(false);
+    }
+    if let Some(right) = script_runs(alloc, setup, case, told)? {
+        return Ok(right);
+    }
+    if let Some(right) = rehearsal_runs(alloc, setup, case, told)? {
+        return Ok(right);
+    }
+    told.extend(b"neither a script with its replies nor a rehearsal\n")?;
+    Ok(false)
+}
+
+/// What stands in front of the first heading of a case.
+fn title_of(case: &str) -> &str {
+    match case.split_once(TEXT) {
+        Some((title, _)) => title,
+        None => case,
+    }
+}
+
+/// Whether a case came to what is written. It is told behind its title where it didn't.
+fn is_right(alloc: Global, setup: &str, case: &str, told: &mut Bytes) -> Result<bool, NoMemory> {
+    let mut what = Bytes::new(alloc);
+    if is_as_written(alloc, setup, case, &mut what)? {
+        return Ok(true);
+    }
+    told.extend(b"=== ")?;
+    told.extend(title_of(case).as_bytes())?;
+    told.push(b'\n')?;
+    told.extend(what.as_slice())?;
+    Ok(false)
+}
+
+/// The line that tells how many of so many cases came to something else.
+fn count_line(alloc: Global, name: &str, cases: u32, wrong: u32) -> Result<String, NoMemory> {
+    if cases == 0 {
+        return Ok(format!(in alloc; "{name}: no case\n")?);
+    }
+    if wrong == 0 {
+        return Ok(format!(in alloc; "{name}: {cases} as written\n")?);
+    }
+    Ok(format!(in alloc; "{name}: {wrong} of {cases} came to something else\n")?)
+}
+
+/// Runs the cases of a file, which has a newline in front of its first line and none at its end.
+fn check_cases(alloc: Global, name: &str, file: &str) -> Result<Checked, NoMemory> {
+    let mut told = Bytes::new(alloc);
+    let mut cases = 0u32;
+    let mut wrong = 0u32;
+    let mut pieces = file.split(CASE);
+    let setup = pieces.next().unwrap_or("");
+    for case in pieces {
+        cases = cases.saturating_add(1);
+        if !is_right(alloc, setup, case, &mut told)? {
+            wrong = wrong.saturating_add(1);
+        }
+    }
+    told.extend(count_line(alloc, name, cases, wrong)?.as_bytes())?;
+    let right = cases > 0 && wrong == 0;
+    Ok(Checked { told, right })
+}
+
+/// Runs the cases of a file.
+pub fn check_file(alloc: Global, name: &str, file: &str) -> Result<Checked, NoMemory> {
+    let lines = file.strip_suffix('\n').unwrap_or(file);
+    let lines = format!(in alloc; "\n{lines}")?;
+    check_cases(alloc, name, lines.as_str())
+}
