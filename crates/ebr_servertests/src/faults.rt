@@ -9,7 +9,7 @@ use std::alloc::Global;
 use std::test::Fail as TestFail;
 
 /// The call of this number fails.
-fn at(call: u32) -> Option<Fail> {
+pub fn at(call: u32) -> Option<Fail> {
     Some(Fail {
         at: call,
         onward: false,
@@ -81,7 +81,7 @@ fn words_that_are_no_command_are_usage(rt: HostRuntime) -> Result<(), TestFail> 
 const TOO_MANY: usize = MAX_SCRIPT + 1;
 
 /// A script of so many blanks.
-fn blanks(alloc: Global, count: usize) -> Result<Vec<u8>, NoMemory> {
+pub fn blanks(alloc: Global, count: usize) -> Result<Vec<u8>, NoMemory> {
     Ok(vec![in alloc; b' '; count]?)
 }
 

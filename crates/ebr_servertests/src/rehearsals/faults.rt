@@ -1,5 +1,6 @@
 //! What comes of sources, hosts, sinks and reports that fail.
 
+use crate::faults::{at, blanks};
 use ebr_base::{Bytes, List, NoMemory};
 use ebr_outside::{Fail, MemFile};
 use ebr_server::{ExitCode, MAX_SCRIPT};
@@ -9,14 +10,6 @@ use ebr_trial::{
 };
 use std::alloc::Global;
 use std::test::Fail as TestFail;
-
-/// The call of this number fails.
-fn at(call: u32) -> Option<Fail> {
-    Some(Fail {
-        at: call,
-        onward: false,
-    })
-}
 
 /// The call of this number fails, and each one behind it.
 fn onward(call: u32) -> Option<Fail> {
@@ -119,11 +112,6 @@ fn a_word_without_bytes_is_a_host_fault(rt: HostRuntime) -> Result<(), TestFail>
         )?
     );
     Ok(())
-}
-
-/// Blanks so many times.
-fn blanks(alloc: Global, count: usize) -> Result<Vec<u8>, NoMemory> {
-    Ok(vec![in alloc; b' '; count]?)
 }
 
 /// An order and two scripts of blanks, each of which is read in several pieces. A read of the source of this word fails.
