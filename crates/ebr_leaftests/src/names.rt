@@ -8,7 +8,7 @@ use ebr_base::{
     Bytes, Class, ColType, Column, EditionNo, List, Name, NoMemory, ObjectKey, Shared, Stamp,
     TableDef, TableId,
 };
-use ebr_names::{columns, header, is_in_order, resolve};
+use ebr_names::{Header, ViewColumn, columns, header, is_in_order, resolve};
 use std::alloc::Global;
 use std::fmt::Debug;
 use std::test::Fail;
@@ -377,7 +377,7 @@ enum Question {
     Header(Class, &'static str),
 }
 
-/// A question, and how its answer prints itself.
+/// A question, and its answer as a text.
 type Row = (Question, &'static str);
 
 fn printed<T: Debug>(alloc: Global, value: &T) -> Result<String, NoMemory> {
@@ -392,18 +392,66 @@ fn meaning(alloc: Global, v: &EditionView, n: &Name) -> Result<String, NoMemory>
     printed(alloc, &resolve(v, n))
 }
 
+fn column_text(alloc: Global, column: &ViewColumn) -> Result<String, NoMemory> {
+    let name = &column.name;
+    let place = column.place;
+    let ty = column.ty;
+    Ok(format!(in alloc; "{name:?} {place} {ty:?};")?)
+}
+
+fn columns_text(alloc: Global, columns: &[ViewColumn]) -> Result<String, NoMemory> {
+    let mut text = String::new(alloc);
+    for column in columns {
+        text.push_str(column_text(alloc, column)?.as_str())?;
+    }
+    Ok(text)
+}
+
+/// Each column's name, place and type, or what refuses the name.
 fn columns_of(alloc: Global, v: &EditionView, n: &Name) -> Result<String, NoMemory> {
     if !is_in_order(v) {
         return Err(NoMemory);
     }
-    printed(alloc, &columns(alloc, v, n))
+    match columns(alloc, v, n) {
+        Ok(found) => columns_text(alloc, found.as_slice()),
+        Err(stop) => printed(alloc, &stop),
+    }
+}
+
+fn head_text(alloc: Global, head: &Head) -> Result<String, NoMemory> {
+    let name = &head.name;
+    let parameters = head.parameters.len();
+    let result = head.result.is_some();
+    Ok(format!(in alloc; "{name:?} {parameters} {result};")?)
+}
+
+fn declaration_text(alloc: Global, declaration: &Decl) -> Result<String, NoMemory> {
+    match declaration {
+        Decl::Exception(name) => Ok(format!(in alloc; "exception {name:?};")?),
+        _ => Ok(String::from_str(alloc, "other;")?),
+    }
+}
+
+/// Each head's name, how many parameters it has and whether it has a result; and then each declaration.
+fn header_text(alloc: Global, header: &Header<'_>) -> Result<String, NoMemory> {
+    let mut text = String::new(alloc);
+    for head in header.heads.as_slice() {
+        text.push_str(head_text(alloc, head)?.as_str())?;
+    }
+    for declaration in header.decls.as_slice() {
+        text.push_str(declaration_text(alloc, declaration)?.as_str())?;
+    }
+    Ok(text)
 }
 
 fn header_of(alloc: Global, v: &EditionView, key: &ObjectKey) -> Result<String, NoMemory> {
     if !is_in_order(v) {
         return Err(NoMemory);
     }
-    printed(alloc, &header(alloc, v, key))
+    match header(alloc, v, key)? {
+        Some(found) => header_text(alloc, &found),
+        None => Ok(String::from_str(alloc, "none")?),
+    }
 }
 
 fn key(alloc: Global, class: Class, text: &str) -> Result<ObjectKey, NoMemory> {
@@ -454,37 +502,37 @@ fn names_mean_units_before_tables(rt: HostRuntime) -> Result<(), Fail> {
 static COLUMNS: [Row; 13] = [
     (
         Question::Columns("BY_ALIAS"),
-        r#"Ok([ViewColumn { name: "ID", place: 0, ty: Num(9) }, ViewColumn { name: "NAME", place: 1, ty: Text(60) }])"#,
+        r#""ID" 0 Num(9);"NAME" 1 Text(60);"#,
     ),
     (
         Question::Columns("BY_LIST"),
-        r#"Ok([ViewColumn { name: "K", place: 0, ty: Num(9) }, ViewColumn { name: "YEAR", place: 2, ty: Num(4) }])"#,
+        r#""K" 0 Num(9);"YEAR" 2 Num(4);"#,
     ),
     (
         Question::Columns("BY_NAME"),
-        r#"Ok([ViewColumn { name: "ID", place: 0, ty: Num(9) }, ViewColumn { name: "BORN", place: 2, ty: Num(4) }])"#,
+        r#""ID" 0 Num(9);"BORN" 2 Num(4);"#,
     ),
     (
         Question::Columns("PERSON"),
-        r#"Ok([ViewColumn { name: "ID", place: 0, ty: Num(9) }, ViewColumn { name: "BORN", place: 2, ty: Num(4) }])"#,
+        r#""ID" 0 Num(9);"BORN" 2 Num(4);"#,
     ),
     (
         Question::Columns("PERSON_T"),
-        r#"Ok([ViewColumn { name: "ID", place: 0, ty: Num(9) }, ViewColumn { name: "FULL_NAME", place: 1, ty: Text(60) }, ViewColumn { name: "BORN", place: 2, ty: Num(4) }])"#,
+        r#""ID" 0 Num(9);"FULL_NAME" 1 Text(60);"BORN" 2 Num(4);"#,
     ),
     // The base is looked up among tables alone.
     (
         Question::Columns("TAX_V"),
-        r#"Ok([ViewColumn { name: "ID", place: 0, ty: Num(9) }, ViewColumn { name: "BORN", place: 2, ty: Num(4) }])"#,
+        r#""ID" 0 Num(9);"BORN" 2 Num(4);"#,
     ),
-    (Question::Columns("ON_UNIT"), "Err(Raised(Ora(942)))"),
-    (Question::Columns("ON_VIEW"), "Err(Raised(Ora(942)))"),
-    (Question::Columns("NO_BASE"), "Err(Raised(Ora(942)))"),
-    (Question::Columns("LOST"), "Err(Raised(Ora(904)))"),
+    (Question::Columns("ON_UNIT"), "Raised(Ora(942))"),
+    (Question::Columns("ON_VIEW"), "Raised(Ora(942))"),
+    (Question::Columns("NO_BASE"), "Raised(Ora(942))"),
+    (Question::Columns("LOST"), "Raised(Ora(904))"),
     // What has no columns hides the table of its name.
-    (Question::Columns("TAX"), "Err(Raised(Ora(942)))"),
-    (Question::Columns("CNT"), "Err(Raised(Ora(942)))"),
-    (Question::Columns("NOPE"), "Err(Raised(Ora(942)))"),
+    (Question::Columns("TAX"), "Raised(Ora(942))"),
+    (Question::Columns("CNT"), "Raised(Ora(942))"),
+    (Question::Columns("NOPE"), "Raised(Ora(942))"),
 ];
 
 #[test]
@@ -494,24 +542,15 @@ fn columns_are_mapped_by_name(rt: HostRuntime) -> Result<(), Fail> {
 }
 
 static HEADERS: [Row; 6] = [
-    (
-        Question::Header(Class::Unit, "SHOW"),
-        r#"Ok(Some(Header { heads: [Head { name: "SHOW", parameters: [], result: None }], decls: [] }))"#,
-    ),
+    (Question::Header(Class::Unit, "SHOW"), r#""SHOW" 0 false;"#),
     (
         Question::Header(Class::Unit, "CNT"),
-        r#"Ok(Some(Header { heads: [Head { name: "BUMP", parameters: [], result: None }], decls: [Exception("E")] }))"#,
+        r#""BUMP" 0 false;exception "E";"#,
     ),
-    (
-        Question::Header(Class::Body, "CNT"),
-        "Ok(Some(Header { heads: [], decls: [] }))",
-    ),
-    (
-        Question::Header(Class::Unit, "PERSON"),
-        "Ok(Some(Header { heads: [], decls: [] }))",
-    ),
-    (Question::Header(Class::Unit, "ORPHAN"), "Ok(None)"),
-    (Question::Header(Class::Trigger, "CNT"), "Ok(None)"),
+    (Question::Header(Class::Body, "CNT"), ""),
+    (Question::Header(Class::Unit, "PERSON"), ""),
+    (Question::Header(Class::Unit, "ORPHAN"), "none"),
+    (Question::Header(Class::Trigger, "CNT"), "none"),
 ];
 
 #[test]
