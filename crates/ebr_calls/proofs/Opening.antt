@@ -7,7 +7,7 @@ use Rattle.ebr_machine.specs.declared.next.Next.{Next}
 use Rattle.ebr_machine.specs.declared.next.Next.TheVariants as next
 use Rattle.ebr_machine.specs.declared.machine.Machine.{Machine}
 use Rattle.ebr_machine.specs.Has.{IsAsk, SaysAsk}
-use Rattle.ebr_calls.specs.inside.Levels.{OpensBy, OpensAt}
+use Rattle.ebr_calls.specs.Levels.{OpensBy, OpensAt}
 
 pub opens_nothing : (q : Ask) (l : Levels) → q ≢ ask.PushAuto → ((failed : Bool) → q ≢ ask.PopAuto failed) → l.if_done ≡ l.now → l.otherwise ≡ l.now → OpensBy q l
 opens_nothing ask.PushAuto l a b d o = absurd (a refl)

@@ -1,4 +1,4 @@
 pub mod Steps
 pub mod Asked
 pub mod Courses
-pub mod inside
+pub mod Levels

@@ -13,7 +13,7 @@ ghost use Rattle.ebr_code.specs.Units.{Codes};
 ghost use Rattle.ebr_machine.specs.Has.{IsAsk, IsOut, SaysAsk};
 ghost use Rattle.ebr_calls.specs.Steps.{Step, lines_of, run_valid, then_run};
 ghost use Rattle.ebr_calls.specs.Courses.{Comes, Continues, Course, GoesOn, IsIn, Place, place, with_answer};
-ghost use Rattle.ebr_calls.specs.inside.Levels.{OpensBy};
+ghost use Rattle.ebr_calls.specs.Levels.{OpensBy};
 
 use crate::levels::Levels;
 use crate::lines::print_lines;

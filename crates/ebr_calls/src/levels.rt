@@ -3,7 +3,7 @@
 ghost use Rattle.std.specs.Prelude.{◌≡◌, IfOk};
 ghost use Rattle.ebr_asks.specs.declared.ask.Ask as asked;
 ghost use Rattle.ebr_calls.specs.Steps.{open_after};
-ghost use Rattle.ebr_calls.specs.inside.Levels.{OpensBy, OpensAt};
+ghost use Rattle.ebr_calls.specs.Levels.{OpensBy, OpensAt};
 
 use ebr_asks::{Answer, Ask};
 use ebr_base::NoMemory;

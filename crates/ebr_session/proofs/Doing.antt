@@ -19,7 +19,7 @@ use Rattle.ebr_machine.specs.declared.next.Next.{Next}
 use Rattle.ebr_machine.specs.declared.next.Next.TheVariants as next
 use Rattle.ebr_machine.specs.Has.{IsAsk, IsOut, SaysAsk}
 use Rattle.ebr_calls.specs.declared.levels.Levels.{Levels}
-use Rattle.ebr_calls.specs.inside.Levels.{OpensBy}
+use Rattle.ebr_calls.specs.Levels.{OpensBy}
 use Rattle.ebr_calls.specs.Asked.{IsOfRun}
 use Rattle.ebr_calls.specs.Steps.{Step, line_of, most_steps, printing, result_lines, then_run}
 use Rattle.ebr_calls.specs.Courses.{Comes, Course, GoesOn, finishing, Place, place, state_at}

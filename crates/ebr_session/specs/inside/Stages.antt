@@ -7,7 +7,7 @@ use Rattle.ebr_code.specs.Books.{Book}
 use Rattle.ebr_machine.specs.declared.machine.Machine.{Machine}
 use Rattle.ebr_machine.specs.Has.{IsOut}
 use Rattle.ebr_calls.specs.declared.levels.Levels.{Levels}
-use Rattle.ebr_calls.specs.inside.Levels.{OpensBy}
+use Rattle.ebr_calls.specs.Levels.{OpensBy}
 use Rattle.ebr_calls.specs.Steps.{Step, asked, leaving, then_run}
 use Rattle.ebr_calls.specs.Courses.{Asks, Course, GoesOn, IsIn, Place, place}
 use Rattle.ebr_session.specs.declared.work.Stage.{Stage}

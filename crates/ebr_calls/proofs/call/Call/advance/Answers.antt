@@ -2,7 +2,7 @@ use Rattle.std.proofs.Common.{◌≡◌, ◌++◌, IfOk, rules, subst, sym, ap, 
 use Rattle.ebr_calls.specs.declared.levels.Levels.{Levels}
 use Rattle.ebr_machine.specs.declared.machine.Machine.{Machine}
 use Rattle.ebr_machine.specs.Has.{SaysAsk}
-use Rattle.ebr_calls.specs.inside.Levels.{OpensAt}
+use Rattle.ebr_calls.specs.Levels.{OpensAt}
 use Rattle.ebr_calls.proofs.Opening.{opened_by}
 use Rattle.ebr_calls.proofs.Runs.{comes, moved}
 use Rattle.ebr_calls.proofs.call.Call.advance.Goals as goal
