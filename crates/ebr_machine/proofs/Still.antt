@@ -18,7 +18,8 @@ use Rattle.ebr_running.specs.declared.running.Running.{Running}
 use Rattle.ebr_machine.specs.declared.next.Next.{Next}
 use Rattle.ebr_machine.specs.declared.machine.Machine.{Machine}
 use Rattle.ebr_running.specs.Rest.{Saved, outer, resume, awake, after, state_of, saved_of, rest_of, IsStill, stands}
-use Rattle.ebr_machine.specs.Has.{says, within, Has, Shows, shown, asks_of, IsDone, standing_of, SaysAsk, Prints}
+use Rattle.ebr_machine.specs.Has.{within, Has, Shows, shown, asks_of, IsDone, standing_of, SaysAsk, Prints}
+use Rattle.ebr_machine.specs.inside.Says.{says}
 use Rattle.ebr_running.specs.Lines.{Extends}
 use Rattle.ebr_running.proofs.Growing.{stands_grow}
 

@@ -3,13 +3,10 @@ use Rattle.std.specs.Prelude.{◌≡◌, ℕ, if◌then◌else◌, List, [], ◌
 use Rattle.ebr_base.specs.declared.value.Value.{Value}
 use Rattle.ebr_asks.specs.declared.ask.Ask.{Ask}
 use Rattle.ebr_asks.specs.declared.answer.Answer.{Answer}
-use Rattle.ebr_run.specs.declared.fault.Fault.{Fault}
-use Rattle.ebr_run.specs.Faults.{final_code}
 use Rattle.ebr_run.specs.Packages.{PackageState}
 use Rattle.ebr_run.specs.Run as run
 use Rattle.ebr_run.specs.Run.{Seen, Standing, new_of, seen}
 use Rattle.ebr_code.specs.Books.{Book}
-use Rattle.ebr_running.specs.declared.running.Flow.{Flow}
 use Rattle.ebr_running.specs.declared.running.Flow.TheVariants as flow
 use Rattle.ebr_running.specs.declared.running.Running.{Running}
 use Rattle.ebr_machine.specs.declared.next.End.{End}
@@ -86,10 +83,3 @@ SaysAsk (next.Done e) out = Unit {0}
 -- The new lines begin with the old ones.
 pub record Prints (old new : Machine) : Type 0 where
   pub more : Extends old.inner.lines new.inner.lines
-
--- what a machine says where it has stopped
-abbrev pub says : Flow → Fault → Ask → Next
-says flow.Waiting f q = next.Ask q
-says flow.Raised f q = next.Done (end.Raised (final_code f))
-says (flow.Stopped c) f q = next.Done (end.Raised c)
-says e f q = next.Done end.Returned

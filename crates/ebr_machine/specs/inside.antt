@@ -1,3 +1,4 @@
 pub mod Callees
 pub mod Rows
 pub mod Turns
+pub mod Says

@@ -7,7 +7,7 @@ ghost use Rattle.ebr_asks.specs.declared.answer.Answer as answered;
 ghost use Rattle.ebr_run.specs.Faults as faults;
 ghost use Rattle.ebr_code.specs.Books.{Book};
 ghost use Rattle.ebr_running.specs.Rest as rest;
-ghost use Rattle.ebr_machine.specs.Has as has;
+ghost use Rattle.ebr_machine.specs.inside.Says as inside;
 ghost use Rattle.ebr_running.specs.Rest.{FollowsIn, IsRunning, IsStill, rest_of};
 
 use crate::begin::go_on;
@@ -86,7 +86,7 @@ fn run_on<B: CodeBook>(
 
 /// What it says where it has stopped.
 fn say(run: &Running, alloc: Global) -> Result<Next, NoMemory>
-    ensures { IfOk result (λ next. next ≡ has.says run.now.flow run.now.fault run.now.ask) }
+    ensures { IfOk result (λ next. next ≡ inside.says run.now.flow run.now.fault run.now.ask) }
 {
     match run.flow {
         Flow::Waiting => Ok(Next::Ask(run.ask.clone_in(alloc)?)),
@@ -106,7 +106,7 @@ pub fn go<B: CodeBook>(
 ) -> Result<Next, NoMemory>
     ensures stands { OnOk result ((asks : Sequence asked.Ask) (given : Sequence answered.Answer) → rest_of (B.answers book.now edition) run.new asks given ≡ rest.stands (B.answers book.now edition) run.old arrived asks given) }
     ensures still { OnOk result (IsStill run.new.flow run.new.tasks) }
-    ensures says { IfOk result (λ next. next ≡ has.says run.new.flow run.new.fault run.new.ask) }
+    ensures says { IfOk result (λ next. next ≡ inside.says run.new.flow run.new.fault run.new.ask) }
 {
     start(run, arrived)?;
     run_on(run, alloc, book, edition)?;

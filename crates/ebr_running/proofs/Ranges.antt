@@ -5,7 +5,7 @@ use Rattle.ebr_base.specs.declared.value.Value.TheVariants as value
 use Rattle.ebr_run.specs.State.{State, Outcome, Runs, step, after_turn, counting}
 use Rattle.ebr_run.specs.Values.{with_variable}
 use Rattle.ebr_run.specs.Statements.{between, in_turn, number_of_turn}
-use Rattle.ebr_running.specs.Rest.{ends_of, others_of}
+use Rattle.ebr_running.specs.inside.Ranges.{ends_of, others_of}
 
 chosen : (b : Bool) (x y z : Outcome) → b ≡ false → y ≡ z → (if b then x else y) ≡ z
 chosen true x y z h e = cc

@@ -1,5 +1,5 @@
 -- What is left of a run: what the tasks do with how what is above them ends.
-use Rattle.std.specs.Prelude.{◌≡◌, ◌⊎◌, ℕ, ◌-◌, ℤ, pos, ◌+ℤ◌, ◌-ℤ◌, int_lt, Bool, true, false, if◌then◌else◌, List, [], ◌∷◌, drop, map, Option, Some, None, option_map}
+use Rattle.std.specs.Prelude.{◌≡◌, ◌⊎◌, ℕ, ◌-◌, Bool, true, false, List, [], ◌∷◌, drop, map, Option, Some, None, option_map}
 use Rattle.ebr_base.specs.declared.value.Value.{Value}
 use Rattle.ebr_asks.specs.declared.ask.Ask.{Ask}
 use Rattle.ebr_asks.specs.declared.ask.Ask.TheVariants as ask
@@ -249,16 +249,6 @@ first_flow false = flow.Normal
 abbrev pub beginning : Option Subprogram → Flow × List Task
 beginning None = (flow.Stopped (Ebr 0), [])
 beginning (Some s) = (first_flow s.autonomous, first_tasks s.autonomous s.function s.code [])
-
--- ---- loops over numbers
-
-abbrev pub ends_of : Bool → ℤ → ℤ → ℤ × ℤ
-ends_of true low high = (low, high -ℤ pos 1)
-ends_of false low high = (low +ℤ pos 1, high)
-
--- the ends of the turns behind the first one
-abbrev pub others_of : Bool → ℤ → ℤ → ℤ × ℤ
-others_of reversed low high = if int_lt low high then ends_of reversed low high else (pos 1, pos 0)
 
 -- ---- calls
 

@@ -7,7 +7,8 @@ ghost use Rattle.ebr_code.specs.Instructions as code;
 ghost use Rattle.ebr_code.specs.Instructions.{act, meaning_of};
 ghost use Rattle.ebr_code.specs.declared.instruction.Instruction.TheOpen as form;
 ghost use Rattle.ebr_running.specs.declared.running.Task.TheVariants as task;
-ghost use Rattle.ebr_running.specs.Rest.{Acts, DoesIn, Follows, IsRunning, calls, others_of};
+ghost use Rattle.ebr_running.specs.Rest.{Acts, DoesIn, Follows, IsRunning, calls};
+ghost use Rattle.ebr_running.specs.inside.Ranges.{others_of};
 
 use crate::moves::following;
 use crate::running::{Flow, Running, Task};

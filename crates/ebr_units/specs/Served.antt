@@ -1,16 +1,11 @@
 -- What a book of an edition answers, and how many units it has.
-use Rattle.std.specs.Prelude.{ℕ, List, count_by, Option, option_map}
+use Rattle.std.specs.Prelude.{ℕ, List, count_by, option_map}
 use Rattle.ebr_ast.specs.declared.view.EditionView.{EditionView}
 use Rattle.ebr_ast.specs.declared.view.Object.{Object}
 use Rattle.ebr_check.specs.Verdict.{is_valid}
-use Rattle.ebr_run.specs.Units.{if_valid, valid_unit, stamp_in}
-use Rattle.ebr_code.specs.declared.book.Unit as compiled
+use Rattle.ebr_run.specs.Units.{valid_unit, stamp_in}
 use Rattle.ebr_code.specs.Books.{Book}
 use Rattle.ebr_code.specs.Units.{unit_code}
-
--- the compiled unit of an object, where it is valid
-abbrev pub unit_in : EditionView → Object → Option compiled.Unit
-unit_in v o = option_map (unit_code v) (if_valid v o.tree)
 
 -- the compiled unit of each visible object that is valid, and the stamp of each visible one
 abbrev pub served : EditionView → Book

@@ -7,8 +7,8 @@ ghost use Rattle.std.specs.Option.{option_copied};
 ghost use Rattle.ebr_ast.specs.Views.{IsInOrder, object_of};
 ghost use Rattle.ebr_base.specs.Keys.{same_key, key_order};
 ghost use Rattle.ebr_laws.specs.Served.{HasCodeOf};
-ghost use Rattle.ebr_units.specs.Served.{served, unit_in, valid_among, valid_count};
-ghost use Rattle.ebr_units.specs.inside.Entries.{entry, key_in};
+ghost use Rattle.ebr_units.specs.Served.{served, valid_among, valid_count};
+ghost use Rattle.ebr_units.specs.inside.Entries.{entry, key_in, unit_in};
 
 use ebr_ast::{EditionView, Object};
 use ebr_base::{Class, CloneIn, EditionNo, List, Name, NoMemory, Shared, Stamp};
