@@ -19,7 +19,7 @@ use Rattle.ebr_editions.proofs.Entries.{edition_itself, key-itself}
 use Rattle.ebr_cross.specs.Catalogue.{Lists, HaveOwnKeys, View, in_order, visible}
 use Rattle.ebr_cross.specs.Definitions.{has_other_view, is_view_on, shows_table}
 use Rattle.ebr_cross.specs.Records.{with_object}
-use Rattle.ebr_cross.specs.inside.Places.{placed}
+use Rattle.ebr_cross.specs.Places.{placed}
 use Rattle.ebr_cross.proofs.InOrder.{fold-push}
 use Rattle.ebr_cross.proofs.OwnKeys.{key_total, key-exact, key-same, same-turned, seen-under}
 use Rattle.ebr_cross.proofs.Placed.{Owns, seen-placed}

@@ -44,7 +44,7 @@ use Rattle.ebr_database.specs.Transact.{Done, back_to, commit, keep_changes, kep
 use Rattle.ebr_seats.specs.Ends.{closed_from_top}
 use Rattle.ebr_exec.specs.Places.{Names, Place}
 use Rattle.ebr_exec.specs.Statements.{Ran, Statements, carries, ended, query_ran, refused, rows_given}
-use Rattle.ebr_exec.specs.inside.Over.{Over}
+use Rattle.ebr_exec.specs.Over.{Over}
 use Rattle.ebr_exec.proofs.Rows.{written_over}
 use Rattle.ebr_run.specs.Run.{Seen}
 use Rattle.ebr_bodies.specs.Ready.{Ready}

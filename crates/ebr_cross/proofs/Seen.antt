@@ -23,7 +23,8 @@ use Rattle.ebr_editions.specs.Held.{ForEntries}
 use Rattle.ebr_cross.specs.Catalogue.{Lists, ForLists, HaveOwnKeys, IsViewOf, View, in_order, kept, visible}
 use Rattle.ebr_cross.specs.Kinds.{key_of}
 use Rattle.ebr_cross.specs.Records.{with_child, with_object, with_record}
-use Rattle.ebr_cross.specs.inside.Places.{as_list, placed, with_seen, Shows, StandAround}
+use Rattle.ebr_cross.specs.Places.{as_list, placed}
+use Rattle.ebr_cross.specs.inside.Places.{with_seen, Shows, StandAround}
 use Rattle.ebr_cross.proofs.InOrder.{fold-push}
 use Rattle.ebr_cross.proofs.NewEdition.{line-before-leaf}
 use Rattle.ebr_cross.proofs.OwnKeys.{key_total, key-exact, same-order, same-turned, seen-under, own-kept}

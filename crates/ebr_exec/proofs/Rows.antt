@@ -14,7 +14,7 @@ use Rattle.ebr_dml.specs.declared.plan.Work.{Work}
 use Rattle.ebr_dml.specs.declared.plan.Work.TheVariants.{Set, Remove}
 use Rattle.ebr_dml.specs.declared.taken.Taken.{Taken}
 use Rattle.ebr_dml.specs.Tests.{first_code, insert_tests, update_tests, delete_tests, update, removal, tested, written, written_to}
-use Rattle.ebr_exec.specs.inside.Over.{Over}
+use Rattle.ebr_exec.specs.Over.{Over}
 use Rattle.ebr_exec.proofs.Undone.{over_change}
 
 abbrev data_or : Data → Result Data Code → Data

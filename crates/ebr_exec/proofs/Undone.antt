@@ -13,7 +13,7 @@ use Rattle.ebr_tx.specs.declared.savepoints.TxMark.{TxMark}
 use Rattle.ebr_tx.specs.Data.{Transaction, Data, is_named, not_begun, changed}
 use Rattle.ebr_tx.specs.Calls.{after_begin, begun_at, after_change, with_change, mark_of, marked, after_mark, IsMarkOf}
 use Rattle.ebr_query.specs.Queries.{AddsLocks}
-use Rattle.ebr_exec.specs.inside.Over.{Over}
+use Rattle.ebr_exec.specs.Over.{Over}
 
 itself : (t : TxId) → same_tx t t ≡ true
 itself t = and_from (t.session.0 == t.session.0) (t.depth == t.depth) (eq-eqb t.session.0 t.session.0 refl) (eq-eqb t.depth t.depth refl)

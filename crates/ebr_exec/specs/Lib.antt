@@ -2,4 +2,4 @@ pub mod Places
 pub mod Narrow
 pub mod Statements
 pub mod Shows
-pub mod inside
+pub mod Over

@@ -10,7 +10,8 @@ use Rattle.std.proofs.lemmas.Option.{same_Some}
 use Rattle.std.proofs.lemmas.Slice.Eq.{bytes_eq-Decides}
 use Rattle.std.proofs.Math.Seq.{get_or-append_seam}
 use Rattle.ebr_scope.specs.declared.nest.Nested as inside
-use Rattle.ebr_scope.specs.inside.Nests.{Key, key, place, Places, joined, place_in, IsNest, Notes, restored}
+use Rattle.ebr_scope.specs.inside.Nests.{key, Places, joined, place_in, IsNest, Notes, restored}
+use Rattle.ebr_scope.specs.Nests.{Key, place}
 
 -- a name that isn't there is in vain given a value
 pub set-absent : (n : List ℕ) (to : Option ℕ) (es : Places) → lookup (bytes_eq n) es ≡ None → set_value (bytes_eq n) es to ≡ es

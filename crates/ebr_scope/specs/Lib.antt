@@ -5,3 +5,4 @@ pub mod Names
 pub mod Around
 pub mod Lent
 pub mod inside
+pub mod Nests

@@ -3,7 +3,8 @@
 ghost use Rattle.std.specs.Prelude.{◌≡◌, ◌∷◌, ◌++◌, ◌-◌, [], IsTrue, OnOk, true, drop, length};
 ghost use Rattle.std.specs.Map.{set_value};
 ghost use Rattle.std.specs.Str.{bytes_eq};
-ghost use Rattle.ebr_scope.specs.inside.Nests.{place, place_in, Notes, restored};
+ghost use Rattle.ebr_scope.specs.inside.Nests.{place_in, Notes, restored};
+ghost use Rattle.ebr_scope.specs.Nests.{place};
 
 use ebr_base::{CloneIn, Name, NoMemory};
 use indexmap::IndexMap;
@@ -29,7 +30,8 @@ pub struct Nest<'a> {
 impl<'a> Model for Nest<'a> {
     ghost use Rattle.std.specs.Prelude.{List, map, reverse};
     ghost use Rattle.std.specs.Coded.{codes};
-    ghost use Rattle.ebr_scope.specs.inside.Nests.{Key, key, IsNest};
+    ghost use Rattle.ebr_scope.specs.inside.Nests.{key, IsNest};
+    ghost use Rattle.ebr_scope.specs.Nests.{Key};
 
     ghost Value = { List Key };
 

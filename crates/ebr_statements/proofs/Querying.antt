@@ -19,7 +19,7 @@ use Rattle.ebr_database.proofs.AllStays.{begun}
 use Rattle.ebr_exec.specs.Places.{Place, Under}
 use Rattle.ebr_exec.specs.Shows.{Runs}
 use Rattle.ebr_exec.specs.Statements.{Ran, carries, query_ran}
-use Rattle.ebr_exec.specs.inside.Over.{Over}
+use Rattle.ebr_exec.specs.Over.{Over}
 use Rattle.ebr_exec.proofs.Undone.{over_over, over_begun, over_locks}
 use Rattle.ebr_statements.specs.inside.Given.{rows_within, GivesRows}
 

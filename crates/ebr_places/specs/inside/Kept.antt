@@ -5,7 +5,7 @@ use Rattle.ebr_scope.specs.Meanings as known
 use Rattle.ebr_run.specs.Scope.{is_subprogram}
 use Rattle.ebr_places.specs.Lent.{lent}
 use Rattle.ebr_places.specs.declared.names.Entry as inside
-use Rattle.ebr_scope.specs.inside.Nests.{Key}
+use Rattle.ebr_scope.specs.Nests.{Key}
 
 abbrev pub told : inside.Entry → known.Entry
 told e = record { name = e.name.now; meaning = checked.lent e.meaning; fields = e.fields }

@@ -4,7 +4,7 @@ use Rattle.std.specs.Option.{is_some}
 use Rattle.ebr_scope.specs.declared.scopes.Entry as inside
 use Rattle.ebr_scope.specs.Lent.{lent}
 use Rattle.ebr_scope.specs.Meanings.{head_in}
-use Rattle.ebr_scope.specs.inside.Nests.{Key}
+use Rattle.ebr_scope.specs.Nests.{Key}
 
 -- each is found by its name
 abbrev pub named : inside.Entry → Key

@@ -1,17 +1,9 @@
 -- Where the innermost of a name stands in a nest, and how the code's map stands to it.
-use Rattle.std.specs.Prelude.{ℕ, List, [], ◌∷◌, Bool, ◌&&◌, cond, if◌then◌else◌, map, length, Option, Some, None, ◌≡◌}
+use Rattle.std.specs.Prelude.{ℕ, List, [], ◌∷◌, Bool, ◌&&◌, cond, map, Option, Some, None, ◌≡◌}
 use Rattle.std.specs.Map.{lookup, set_value}
 use Rattle.std.specs.Str.{bytes_eq}
 use Rattle.ebr_scope.specs.declared.nest.Nested as inside
-
--- a name, with whether it is one to be found
-abbrev pub Key : Type 0
-Key = List ℕ × Bool
-
--- the place, counted from the outermost, of the innermost one of a name
-abbrev pub place : List ℕ → List Key → Option ℕ
-place n [] = None
-place n (k ∷ ks) = if k.1 && bytes_eq n k.0 then Some (length ks) else place n ks
+use Rattle.ebr_scope.specs.Nests.{Key, place}
 
 abbrev pub key : inside.Nested → Key
 key e = (e.name.now, e.counts)

@@ -1,7 +1,7 @@
 use Rattle.std.proofs.Common.{drop, ◌+◌, ◌++◌, sym, ap, ◌∙◌}
 use Rattle.ebr_base.specs.Keys.{key_order}
 use Rattle.ebr_ast.specs.Views.{key_of}
-use Rattle.ebr_cross.specs.inside.Places.{as_list}
+use Rattle.ebr_cross.specs.Places.{as_list}
 use Rattle.ebr_cross.proofs.OwnKeys.{key_total}
 use Rattle.ebr_cross.proofs.Placed.{around-found, around-between}
 use Rattle.ebr_cross.proofs.changed.around.Goals as goal
