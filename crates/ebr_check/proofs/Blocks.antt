@@ -15,7 +15,7 @@ use Rattle.ebr_rules.specs.Sites.{Site, Declares, Pragmas, Handles}
 use Rattle.ebr_rules.specs.Noted.{noted}
 use Rattle.ebr_rules.specs.Targets.{In}
 use Rattle.ebr_rules.proofs.Laws.{noted_append}
-use Rattle.ebr_check.specs.Caught as written
+use Rattle.ebr_check.specs.inside.Caught as written
 use Rattle.ebr_check.specs.Statements.{Handling, each, in_statement, in_body, in_handler, caught_of, inside_of, handlers, decls_sites, with_decls}
 use Rattle.ebr_check.proofs.Laws.{body-out, handler-out}
 

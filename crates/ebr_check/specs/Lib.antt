@@ -1,4 +1,3 @@
-pub mod Caught
 pub mod Statements
 pub mod Units
 pub mod Verdict

@@ -5,7 +5,7 @@ ghost use Rattle.std.specs.List.{list_any};
 ghost use Rattle.ebr_rules.specs.Sites as site;
 ghost use Rattle.ebr_rules.specs.Rules as rules;
 ghost use Rattle.ebr_rules.specs.Noted.{noted};
-ghost use Rattle.ebr_check.specs.Caught.{caught_of};
+ghost use Rattle.ebr_check.specs.inside.Caught.{caught_of};
 
 use ebr_ast::{Caught, Handler, Path};
 use ebr_base::{List, Name, NoMemory, rest_from};

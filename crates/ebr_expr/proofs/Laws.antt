@@ -18,7 +18,8 @@ use Rattle.ebr_value.specs.declared.form.BinOp.TheVariants as op
 use Rattle.ebr_value.specs.declared.form.Place.TheVariants.{Sql}
 use Rattle.ebr_value.specs.Outcomes.{Outcome}
 use Rattle.ebr_value.specs.Forms.{function}
-use Rattle.ebr_expr.specs.Evaluation.{Eval, Term, term_of, form, term, added, of_one, of_two, not_if, of_values, among}
+use Rattle.ebr_expr.specs.Evaluation.{Eval, Term, form, term, added, of_one, of_two, not_if, of_values, among}
+use Rattle.ebr_expr.specs.inside.Terms.{term_of}
 
 pub Eval-out : (e : Expr) (row binds : List Value) → Eval e row binds ≡ form row binds (map-Expr Expr Addend Outcome Term (λ x. Eval x row binds) (λ t. term_of t row binds) (out-Expr e))
 unfolding Eval term_of

@@ -10,10 +10,9 @@ use Rattle.ebr_base.specs.declared.value.Value.{Value}
 use Rattle.ebr_base.specs.declared.value.Value.TheVariants as value
 use Rattle.ebr_base.specs.Values.{text_value}
 use Rattle.ebr_exprtree.specs.declared.expression.Expr.{Expr}
-use Rattle.ebr_exprtree.specs.declared.expression.Addend.{Addend}
 use Rattle.ebr_exprtree.specs.declared.expression.Expr.TheOpen.{Expr-F, Addend-F}
 use Rattle.ebr_exprtree.specs.declared.expression.Expr.TheOpen as expr
-use Rattle.ebr_exprtree.specs.declared.expression.Expr.TheFolds.{fold-Expr, fold-Addend}
+use Rattle.ebr_exprtree.specs.declared.expression.Expr.TheFolds.{fold-Expr}
 use Rattle.ebr_value.specs.declared.form.BinOp.{BinOp}
 use Rattle.ebr_value.specs.declared.form.BinOp.TheVariants as op
 use Rattle.ebr_value.specs.declared.form.Builtin.{Builtin}
@@ -121,7 +120,3 @@ term t = record { operator = added_by t.operator; operand = t.term }
 -- The value of an expression for a row and for binds, or the first code that is raised.
 unfoldable pub Eval : Expr → List Value → List Value → Outcome
 Eval e row binds = fold-Expr Outcome Term (form row binds) term e
-
--- A term of a sum, with its value or its code.
-unfoldable pub term_of : Addend → List Value → List Value → Term
-term_of t row binds = fold-Addend Outcome Term (form row binds) term t

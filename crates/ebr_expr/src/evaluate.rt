@@ -4,7 +4,8 @@ ghost use Rattle.std.specs.Prelude.{[], map, Ok};
 ghost use Rattle.std.specs.List.{fold};
 ghost use Rattle.ebr_base.specs.Answers.{Answers};
 ghost use Rattle.ebr_expr.specs.Operators.{builtin_at, unsigned};
-ghost use Rattle.ebr_expr.specs.Evaluation.{Eval, term_of, on, of_one, of_two, added, not_if, among, values, called};
+ghost use Rattle.ebr_expr.specs.Evaluation.{Eval, on, of_one, of_two, added, not_if, among, values, called};
+ghost use Rattle.ebr_expr.specs.inside.Terms.{term_of};
 
 use crate::operand::Operand;
 use crate::operator::{added_by, builtin, compared_by, decided};

@@ -3,3 +3,4 @@ pub mod Joined
 pub mod Locking
 pub mod Numbers
 pub mod Streams
+pub mod Terms

@@ -7,7 +7,8 @@ use Rattle.ebr_rules.specs.Sites.{Site}
 use Rattle.ebr_rules.specs.Rules.{rules as the_rules}
 use Rattle.ebr_rules.specs.Noted.{noted, judged}
 use Rattle.ebr_rules.specs.Expressions.{Read, Term, reads, reads_term, reading_of, term_of}
-use Rattle.ebr_rules.specs.Embedded.{InSql, mention, mention_term, mentions, mentions_in_term}
+use Rattle.ebr_rules.specs.Embedded.{InSql, mention, mention_term, mentions}
+use Rattle.ebr_rules.specs.inside.Terms.{mentions_in_term}
 
 pub noted_append : (xs ys : List Site) (l : Option ℕ) → noted (xs ++ ys) l ≡ noted ys (noted xs l)
 noted_append [] ys l = refl

@@ -5,10 +5,9 @@ use Rattle.std.specs.Prelude.{List, [], ◌∷◌, ◌++◌, map, Option, Some, 
 use Rattle.ebr_base.specs.declared.code.Code.{Code}
 use Rattle.ebr_exprtree.specs.declared.expression.Path.{Path}
 use Rattle.ebr_exprtree.specs.declared.expression.Expr.{Expr}
-use Rattle.ebr_exprtree.specs.declared.expression.Addend.{Addend}
 use Rattle.ebr_exprtree.specs.declared.expression.Expr.TheOpen.{Expr-F, Addend-F}
 use Rattle.ebr_exprtree.specs.declared.expression.Expr.TheOpen as expr
-use Rattle.ebr_exprtree.specs.declared.expression.Expr.TheFolds.{fold-Expr, fold-Addend}
+use Rattle.ebr_exprtree.specs.declared.expression.Expr.TheFolds.{fold-Expr}
 use Rattle.ebr_ast.specs.declared.query.Aggregate.{Aggregate}
 use Rattle.ebr_ast.specs.declared.query.Aggregate.TheVariants as aggregate
 use Rattle.ebr_ast.specs.declared.query.Item.{Item}
@@ -84,9 +83,6 @@ mention_term t = t.term
 
 unfoldable pub mentions : Expr → InSql
 mentions = fold-Expr InSql InSql mention mention_term
-
-unfoldable pub mentions_in_term : Addend → InSql
-mentions_in_term = fold-Addend InSql InSql mention mention_term
 
 -- ---- statements
 

@@ -5,3 +5,4 @@ pub mod Targets
 pub mod Columns
 pub mod Rules
 pub mod Noted
+pub mod inside

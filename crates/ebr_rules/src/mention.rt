@@ -2,6 +2,7 @@
 
 ghost use Rattle.std.specs.Prelude.{◌≡◌, [], map};
 ghost use Rattle.ebr_rules.specs.Embedded as spec;
+ghost use Rattle.ebr_rules.specs.inside.Terms as inside;
 ghost use Rattle.ebr_rules.specs.Noted.{noted};
 ghost use Rattle.ebr_scope.specs.Lent.{env};
 
@@ -109,7 +110,7 @@ fn term_mentions(
     known: &Scopes<'_>,
     least: &mut Option<u8>,
 )
-    ensures { least.new ≡ noted (spec.each (map spec.mentions_in_term terms.now) relations.now (env place.now known.now)) least.old }
+    ensures { least.new ≡ noted (spec.each (map inside.mentions_in_term terms.now) relations.now (env place.now known.now)) least.old }
 {
     for addend in terms.as_slice() {
         mentions(addend.term.get(), relations, place, known, least);

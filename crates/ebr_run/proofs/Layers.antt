@@ -13,7 +13,8 @@ use Rattle.ebr_ast.specs.declared.statement.Stmt.TheOpen.{Stmt-F, Block-F, Branc
 use Rattle.ebr_ast.specs.declared.statement.Stmt.TheViews.{roll-Stmt, roll-Block, roll-Branch, roll-Handler}
 use Rattle.ebr_ast.specs.declared.statement.Stmt.TheFolds.{fold-roll-Stmt, fold-roll-Block, fold-roll-Branch, fold-roll-Handler, map-Stmt, map-Block, map-Branch, map-Handler}
 use Rattle.ebr_run.specs.Expressions.{Reading, Term, reads, term, reading_of, term_of}
-use Rattle.ebr_run.specs.Statements.{Meaning, Handling, act, in_block, branch, handler, meaning_of, block_meaning, handling_of, branch_of}
+use Rattle.ebr_run.specs.Statements.{Meaning, Handling, act, in_block, branch, handler, meaning_of, block_meaning, handling_of}
+use Rattle.ebr_run.specs.inside.Branches.{branch_of}
 
 pub reading-roll : (d : Expr-F Expr Addend) → reading_of (roll-Expr d) ≡ reads (map-Expr Expr Addend Reading Term reading_of term_of d)
 unfolding reading_of term_of

@@ -10,3 +10,4 @@ pub mod Statements
 pub mod Calls
 pub mod Units
 pub mod Run
+pub mod inside

@@ -16,7 +16,6 @@ use Rattle.ebr_ast.specs.declared.sql.SqlTree.TheVariants as statement
 use Rattle.ebr_ast.specs.declared.sql.Transaction.{Transaction}
 use Rattle.ebr_ast.specs.declared.sql.Transaction.TheVariants as transaction
 use Rattle.ebr_ast.specs.declared.statement.Block.{Block}
-use Rattle.ebr_ast.specs.declared.statement.Branch.{Branch}
 use Rattle.ebr_ast.specs.declared.statement.Caught.{Caught}
 use Rattle.ebr_ast.specs.declared.statement.Caught.TheVariants as caught_by
 use Rattle.ebr_ast.specs.declared.statement.CursorStmt.{CursorStmt}
@@ -33,7 +32,7 @@ use Rattle.ebr_ast.specs.declared.statement.SqlStmt.TheVariants as sql
 use Rattle.ebr_ast.specs.declared.statement.Stmt.{Stmt}
 use Rattle.ebr_ast.specs.declared.statement.Stmt.TheOpen.{Stmt-F, Block-F, Branch-F, Handler-F}
 use Rattle.ebr_ast.specs.declared.statement.Stmt.TheOpen as stmt
-use Rattle.ebr_ast.specs.declared.statement.Stmt.TheFolds.{fold-Stmt, fold-Block, fold-Branch, fold-Handler}
+use Rattle.ebr_ast.specs.declared.statement.Stmt.TheFolds.{fold-Stmt, fold-Block, fold-Handler}
 use Rattle.ebr_ast.specs.declared.statement.Target.{Target}
 use Rattle.ebr_ast.specs.declared.statement.Target.TheVariants as target
 use Rattle.ebr_ast.specs.declared.unit.Mode.{Mode}
@@ -487,6 +486,3 @@ block_meaning = fold-Block Meaning Meaning (Expr × Meaning) Handling act in_blo
 
 unfoldable pub handling_of : Handler → Handling
 handling_of = fold-Handler Meaning Meaning (Expr × Meaning) Handling act in_block branch handler
-
-unfoldable pub branch_of : Branch → Expr × Meaning
-branch_of = fold-Branch Meaning Meaning (Expr × Meaning) Handling act in_block branch handler

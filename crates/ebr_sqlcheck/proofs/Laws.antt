@@ -6,8 +6,9 @@ use Rattle.ebr_exprtree.specs.declared.expression.Expr.{Expr, out-Expr}
 use Rattle.ebr_exprtree.specs.declared.expression.Expr.TheFolds.{fold_out-Expr, fold_out-Addend, map-Expr, map-Addend}
 use Rattle.ebr_sqlcheck.specs.Checked.{Checked}
 use Rattle.ebr_sqlcheck.specs.Sources.{Relation}
-use Rattle.ebr_sqlcheck.specs.Names.{Others, names_in, names_in_term, names_form, names_term}
-use Rattle.ebr_sqlcheck.specs.Operands.{Typed, Term, typed, typed_term, type_form, type_term}
+use Rattle.ebr_sqlcheck.specs.Names.{Others, names_in, names_form, names_term}
+use Rattle.ebr_sqlcheck.specs.inside.Terms.{names_in_term, typed_term}
+use Rattle.ebr_sqlcheck.specs.Operands.{Typed, Term, typed, type_form, type_term}
 
 pub names_in-out : (relations : List Relation) (others : Others) (e : Expr) → names_in relations others e
     ≡ names_form relations others (map-Expr Expr Addend Checked Checked (names_in relations others) (names_in_term relations others) (out-Expr e))

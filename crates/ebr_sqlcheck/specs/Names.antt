@@ -7,10 +7,9 @@ use Rattle.ebr_base.specs.declared.value.Value.{Value}
 use Rattle.ebr_exprtree.specs.declared.expression.Path.{Path}
 use Rattle.ebr_exprtree.specs.declared.expression.RowImage.{RowImage}
 use Rattle.ebr_exprtree.specs.declared.expression.Expr.{Expr}
-use Rattle.ebr_exprtree.specs.declared.expression.Addend.{Addend}
 use Rattle.ebr_exprtree.specs.declared.expression.Expr.TheOpen.{Expr-F, Addend-F}
 use Rattle.ebr_exprtree.specs.declared.expression.Expr.TheOpen as expr
-use Rattle.ebr_exprtree.specs.declared.expression.Expr.TheFolds.{fold-Expr, fold-Addend}
+use Rattle.ebr_exprtree.specs.declared.expression.Expr.TheFolds.{fold-Expr}
 use Rattle.ebr_names.specs.declared.column.ViewColumn.{ViewColumn}
 use Rattle.ebr_names.specs.Columns.{column_named}
 use Rattle.ebr_sqlcheck.specs.declared.value_type.ValueType.{ValueType}
@@ -98,6 +97,3 @@ names_term t = t.term
 -- The first fault of a name in an expression, in reading order.
 unfoldable pub names_in : List Relation → Others → Expr → Checked
 names_in relations others e = fold-Expr Checked Checked (names_form relations others) names_term e
-
-unfoldable pub names_in_term : List Relation → Others → Addend → Checked
-names_in_term relations others t = fold-Addend Checked Checked (names_form relations others) names_term t

@@ -8,10 +8,9 @@ use Rattle.ebr_exprtree.specs.declared.expression.Comparison.TheVariants as comp
 use Rattle.ebr_exprtree.specs.declared.expression.AdditiveOperator.{AdditiveOperator}
 use Rattle.ebr_exprtree.specs.declared.expression.AdditiveOperator.TheVariants as additive
 use Rattle.ebr_exprtree.specs.declared.expression.Expr.{Expr}
-use Rattle.ebr_exprtree.specs.declared.expression.Addend.{Addend}
 use Rattle.ebr_exprtree.specs.declared.expression.Expr.TheOpen.{Expr-F, Addend-F}
 use Rattle.ebr_exprtree.specs.declared.expression.Expr.TheOpen as expr
-use Rattle.ebr_exprtree.specs.declared.expression.Expr.TheFolds.{fold-Expr, fold-Addend}
+use Rattle.ebr_exprtree.specs.declared.expression.Expr.TheFolds.{fold-Expr}
 use Rattle.ebr_value.specs.declared.form.Builtin.{Builtin}
 use Rattle.ebr_expr.specs.Operators.{builtin_at}
 use Rattle.ebr_sqlcheck.specs.declared.value_type.ValueType.{ValueType}
@@ -129,7 +128,3 @@ type_term t = record { operator = t.operator; operand = t.term }
 -- The type of an expression, as far as it is known, or the code of its first fault.
 unfoldable pub typed : List Relation → Others → Expr → Typed
 typed relations others e = fold-Expr Typed Term (type_form relations others) type_term e
-
--- A term of a sum, with the type of its operand.
-unfoldable pub typed_term : List Relation → Others → Addend → Term
-typed_term relations others t = fold-Addend Typed Term (type_form relations others) type_term t

@@ -3,6 +3,7 @@
 ghost use Rattle.std.specs.Prelude.{◌≡◌, map};
 ghost use Rattle.ebr_sqlcheck.specs.Checked.{each, must_be_there};
 ghost use Rattle.ebr_sqlcheck.specs.Names as spec;
+ghost use Rattle.ebr_sqlcheck.specs.inside.Terms as inside;
 
 use crate::relation::{Meant, Relation, column_meant};
 use crate::value_type::{ValueType, type_in};
@@ -135,7 +136,7 @@ fn term_names<V: Variables>(
     relations: &[Relation<'_>],
     others: &V,
 ) -> Result<(), Code>
-    ensures { result ≡ each (map (spec.names_in_term relations.now (V.others others.now)) terms.now) }
+    ensures { result ≡ each (map (inside.names_in_term relations.now (V.others others.now)) terms.now) }
 {
     for addend in terms.as_slice() {
         term_name(addend, relations, others)?;
@@ -149,7 +150,7 @@ fn term_name<V: Variables>(
     relations: &[Relation<'_>],
     others: &V,
 ) -> Result<(), Code>
-    ensures { result ≡ spec.names_in_term relations.now (V.others others.now) addend.now }
+    ensures { result ≡ inside.names_in_term relations.now (V.others others.now) addend.now }
 {
     names_in(addend.term.get(), relations, others)
 }

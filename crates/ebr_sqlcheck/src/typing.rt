@@ -5,6 +5,7 @@ ghost use Rattle.ebr_expr.specs.Operators.{builtin_at};
 ghost use Rattle.ebr_sqlcheck.specs.Types.{type_in};
 ghost use Rattle.ebr_sqlcheck.specs.Checked.{each};
 ghost use Rattle.ebr_sqlcheck.specs.Operands as spec;
+ghost use Rattle.ebr_sqlcheck.specs.inside.Terms as inside;
 
 use crate::function::{given, taken, takes_any_type, takes_count};
 use crate::mention::name_type;
@@ -288,7 +289,7 @@ fn added_to<V: Variables>(
     relations: &[Relation<'_>],
     others: &V,
 ) -> Result<Option<ValueType>, Code>
-    ensures { result ≡ spec.added_to ty (spec.typed_term relations.now (V.others others.now) addend.now) }
+    ensures { result ≡ spec.added_to ty (inside.typed_term relations.now (V.others others.now) addend.now) }
 {
     added(ty, addend.operator, addend.term.get(), relations, others)
 }
@@ -302,7 +303,7 @@ fn sum_from<V: Variables>(
     relations: &[Relation<'_>],
     others: &V,
 ) -> Result<Option<ValueType>, Code>
-    ensures { result ≡ spec.sum_from first (map (spec.typed_term relations.now (V.others others.now)) more.now) }
+    ensures { result ≡ spec.sum_from first (map (inside.typed_term relations.now (V.others others.now)) more.now) }
 {
     let mut ty = first;
     for addend in more.as_slice() {

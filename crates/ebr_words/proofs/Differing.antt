@@ -6,7 +6,8 @@ use Rattle.std.specs.Str.{bytes_eq}
 use Rattle.std.proofs.lemmas.List.{append_cancel_right, at_drop_more}
 use Rattle.std.proofs.lemmas.List.Folds.{list_any-append}
 use Rattle.std.proofs.lemmas.Slice.Eq.{bytes_eq-Decides}
-use Rattle.ebr_words.specs.Words.{are_apart, each_apart, out_word}
+use Rattle.ebr_words.specs.Words.{are_apart, out_word}
+use Rattle.ebr_words.specs.inside.Apart.{each_apart}
 
 abbrev pub Words : Type 0
 Words = List (List ℕ)

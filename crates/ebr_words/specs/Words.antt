@@ -40,8 +40,3 @@ command_of [] = None
 command_of (w ∷ names) =
     if bytes_eq w (codes "try") && is_one_name names then Some Try
     else (if bytes_eq w (codes "rehearse") && is_rehearsal names then Some Rehearse else None)
-
--- Each word differs from those behind it, and from the others.
-abbrev pub each_apart : List (List ℕ) → List (List ℕ) → Bool
-each_apart [] others = true
-each_apart (w ∷ words) others = not (list_any (bytes_eq w) (words ++ others)) && each_apart words others

@@ -4,6 +4,7 @@ ghost use Rattle.std.specs.Prelude.{◌≡◌, ◌++◌, map};
 ghost use Rattle.std.specs.List.{list_any};
 ghost use Rattle.std.specs.Str.{bytes_eq};
 ghost use Rattle.ebr_words.specs.Words as spec;
+ghost use Rattle.ebr_words.specs.inside.Apart as inside;
 ghost use Rattle.ebr_words.specs.Words.{out_word};
 
 use ebr_base::{Bytes, rest_from};
@@ -21,7 +22,7 @@ pub fn are_apart(names: &[Bytes], scripts: &[Bytes]) -> bool
 
 /// Whether each word differs from those behind it and from the words of the scripts' sinks.
 fn are_apart_from(names: &[Bytes], scripts: &[Bytes]) -> bool
-    ensures { result ≡ spec.each_apart names.now (map out_word scripts.now) }
+    ensures { result ≡ inside.each_apart names.now (map out_word scripts.now) }
 {
     for (at, name) in names.iter().enumerate() {
         if stands_in(name.as_slice(), rest_from(names, at + 1))

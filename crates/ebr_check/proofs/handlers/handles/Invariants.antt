@@ -1,6 +1,6 @@
 use Rattle.std.proofs.Common.{◌≡◌, ◌++◌, map, drop, flat_map}
 use Rattle.ebr_rules.specs.Rules.{caught_paths}
-use Rattle.ebr_check.specs.Caught.{caught_of}
+use Rattle.ebr_check.specs.inside.Caught.{caught_of}
 use Rattle.ebr_check.proofs.handlers.handles.Given as goal
 
 abbrev pub invariant-loop-handler : goal.invariant-loop-handler

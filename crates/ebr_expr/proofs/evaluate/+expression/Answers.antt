@@ -9,7 +9,8 @@ use Rattle.ebr_exprtree.specs.declared.expression.Expr.{out-Expr}
 use Rattle.ebr_exprtree.specs.declared.expression.Expr.TheOpen as expr
 use Rattle.ebr_exprtree.specs.declared.expression.Expr.TheViews.{the_lemmas}
 use Rattle.ebr_value.specs.declared.form.BinOp.TheVariants as op
-use Rattle.ebr_expr.specs.Evaluation.{Eval, term_of, on, of_two, added, not_if, among}
+use Rattle.ebr_expr.specs.Evaluation.{Eval, on, of_two, added, not_if, among}
+use Rattle.ebr_expr.specs.inside.Terms.{term_of}
 use Rattle.ebr_expr.proofs.Laws.{Eval-out, Eval_at, term_of-out, of_two_raises, not_if_raises, chain_raises, sum_raises, stops, fold_more, fold_stops, found_among, among_stops}
 use Rattle.ebr_expr.proofs.evaluate.+expression.Goals as goal
 

@@ -2,7 +2,8 @@ use Rattle.std.proofs.Common.{◌≡◌, [], map, drop, Ok, false}
 use Rattle.std.specs.List.{fold}
 use Rattle.ebr_base.specs.declared.value.Value.TheVariants as value
 use Rattle.ebr_value.specs.declared.form.BinOp.TheVariants as op
-use Rattle.ebr_expr.specs.Evaluation.{Eval, term_of, of_two, added, values}
+use Rattle.ebr_expr.specs.Evaluation.{Eval, of_two, added, values}
+use Rattle.ebr_expr.specs.inside.Terms.{term_of}
 use Rattle.ebr_expr.proofs.evaluate.+expression.Given as goal
 
 abbrev pub invariant-among-loop-e : goal.invariant-among-loop-e

@@ -1,6 +1,7 @@
 use Rattle.std.proofs.Common.{◌≡◌, map, drop}
 use Rattle.ebr_sqlcheck.specs.Checked.{each}
-use Rattle.ebr_sqlcheck.specs.Names.{names_in, names_in_term}
+use Rattle.ebr_sqlcheck.specs.Names.{names_in}
+use Rattle.ebr_sqlcheck.specs.inside.Terms.{names_in_term}
 use Rattle.ebr_sqlcheck.proofs.mention.+names.Given as goal
 
 abbrev pub invariant-all_names-loop-e : goal.invariant-all_names-loop-e

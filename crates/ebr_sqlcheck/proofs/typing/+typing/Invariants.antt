@@ -1,7 +1,8 @@
 use Rattle.std.proofs.Common.{◌≡◌, map, drop, None}
 use Rattle.ebr_exprtree.specs.declared.expression.Comparison.TheVariants as comparison
 use Rattle.ebr_sqlcheck.specs.Checked.{each}
-use Rattle.ebr_sqlcheck.specs.Operands.{typed, typed_term, all_want, compared, sum_from, one_type, operands_from}
+use Rattle.ebr_sqlcheck.specs.Operands.{typed, all_want, compared, sum_from, one_type, operands_from}
+use Rattle.ebr_sqlcheck.specs.inside.Terms.{typed_term}
 use Rattle.ebr_sqlcheck.proofs.typing.+typing.Given as goal
 
 abbrev pub invariant-all_want-loop-e : goal.invariant-all_want-loop-e
