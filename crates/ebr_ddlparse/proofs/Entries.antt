@@ -15,7 +15,8 @@ use Rattle.ebr_grammar.proofs.Loops.{from_first, stops, ends, goes_on, fails}
 use Rattle.ebr_ast.specs.declared.definition.ColumnTree.{ColumnTree}
 use Rattle.ebr_ddlparse.specs.Base.{reading}
 use Rattle.ebr_ddlparse.specs.Tables.{Entry, the_column, the_key, Items, placed, with_column, column, key, is_key, key_entry, column_entry, entry_reader}
-use Rattle.ebr_ddlparse.specs.Definitions.{an_entry, more_entries, items, closed_items, reads_by, closing, closed_key, closed_behind}
+use Rattle.ebr_ddlparse.specs.Definitions.{an_entry, more_entries, items, closed_items, reads_by}
+use Rattle.ebr_ddlparse.specs.inside.Closing.{closing, closed_key, closed_behind}
 
 -- ---- where the entries are placed
 

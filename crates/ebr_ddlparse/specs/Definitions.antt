@@ -11,11 +11,11 @@ use Rattle.ebr_lexer.specs.declared.token.Token.{Token}
 use Rattle.ebr_grammar.specs.declared.kind.Kind.{Kind}
 use Rattle.ebr_grammar.specs.declared.kind.Kind.TheVariants as k
 use Rattle.ebr_grammar.specs.Kinds.{name_kinds, names_but}
-use Rattle.ebr_grammar.specs.Forms.{Form, Found, Reader}
+use Rattle.ebr_grammar.specs.Forms.{Form, Reader}
 use Rattle.ebr_grammar.specs.Grammar.{Production, token, word, nothing, both, made, tested, named, Spells}
-use Rattle.ebr_grammar.specs.Reading.{and_then, before, Hints, reads}
+use Rattle.ebr_grammar.specs.Reading.{Hints, reads}
 use Rattle.ebr_grammar.specs.Outcome.{named_by}
-use Rattle.ebr_grammar.specs.Words.{mark, ◌▸◌, ◌◂◌, ◌∣◌, maybe, is_there, all, name, past}
+use Rattle.ebr_grammar.specs.Words.{◌▸◌, ◌◂◌, ◌∣◌, maybe, is_there, all, name, past}
 use Rattle.ebr_ast.specs.declared.statement.DeclaredType.{DeclaredType}
 use Rattle.ebr_ast.specs.declared.definition.Definition.{Definition}
 use Rattle.ebr_ast.specs.declared.definition.Definition.TheVariants as d
@@ -187,17 +187,3 @@ definition = k.Create ▸ create ∣ k.Alter ▸ alter ∣ k.Drop ▸ dropped
 -- The tokens spell the definition.
 abbrev pub SpellsDefinition : List Token → Definition → Type 0
 SpellsDefinition = Spells SpellsPart definition
-
--- ---- what readers give
-
--- the items, where the closing parenthesis follows
-abbrev pub closing : Items → Reader Items
-closing items ts = and_then (reads_by (mark k.RightParen) ts) (λ _ end. Some (items, end))
-
--- The items behind the first column that were found, where the closing parenthesis follows.
-abbrev pub closed_behind : ColumnTree → Found (List Entry) → Found Items
-closed_behind first found = and_then (and_then found (λ more end. before end (placed (the_column first ∷ more)))) closing
-
--- The columns with the key that was found, where the closing parenthesis follows.
-abbrev pub closed_key : List ColumnTree → Found (List (List ℕ)) → Found Items
-closed_key columns found = and_then found (λ key. closing (columns, key))

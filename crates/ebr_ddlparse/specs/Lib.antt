@@ -4,3 +4,4 @@ pub mod Tables
 pub mod Views
 pub mod Definitions
 pub mod Parts
+pub mod inside

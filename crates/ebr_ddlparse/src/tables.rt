@@ -6,6 +6,7 @@ ghost use Rattle.ebr_grammar.specs.Reading.{with_first};
 ghost use Rattle.ebr_ddlparse.specs.Base as base;
 ghost use Rattle.ebr_ddlparse.specs.Tables as spec;
 ghost use Rattle.ebr_ddlparse.specs.Definitions as whole;
+ghost use Rattle.ebr_ddlparse.specs.inside.Closing as inside;
 
 use crate::names::closed_names;
 use crate::types::declared_type;
@@ -113,7 +114,7 @@ fn without_key(
     tokens: &mut Tokens<'_>,
     columns: List<ColumnTree>,
 ) -> Result<(List<ColumnTree>, List<Name>), ReadStop>
-    ensures { Reads (whole.closing (columns, []) tokens.old) result tokens.new }
+    ensures { Reads (inside.closing (columns, []) tokens.old) result tokens.new }
 {
     tokens.expect(Kind::RightParen)?;
     Ok((columns, List::new(alloc)))
@@ -125,7 +126,7 @@ fn with_key(
     tokens: &mut Tokens<'_>,
     columns: List<ColumnTree>,
 ) -> Result<(List<ColumnTree>, List<Name>), ReadStop>
-    ensures { Reads (whole.closed_key columns (base.reading spec.key tokens.old)) result tokens.new }
+    ensures { Reads (inside.closed_key columns (base.reading spec.key tokens.old)) result tokens.new }
 {
     let key = key(alloc, tokens)?;
     tokens.expect(Kind::RightParen)?;
@@ -138,7 +139,7 @@ fn more_entries(
     tokens: &mut Tokens<'_>,
     first: ColumnTree,
 ) -> Result<(List<ColumnTree>, List<Name>), ReadStop>
-    ensures { Reads (whole.closed_behind first (whole.reads_by whole.more_entries tokens.old)) result tokens.new }
+    ensures { Reads (inside.closed_behind first (whole.reads_by whole.more_entries tokens.old)) result tokens.new }
 {
     let mut columns = List::new(alloc);
     columns.push(first)?;

@@ -4,7 +4,8 @@ use Rattle.ebr_lexer.specs.declared.token.Token.{Token}
 use Rattle.ebr_grammar.specs.Reading.{reads_within}
 use Rattle.ebr_exprparse.specs.declared.level.Level.{Level}
 use Rattle.ebr_exprparse.specs.declared.level.Level.TheVariants.{Whole, Sum}
-use Rattle.ebr_exprparse.specs.Expressions.{reads_at, read_within, hints, grammar, disjunction, sum_alone}
+use Rattle.ebr_exprparse.specs.Expressions.{read_within, hints, grammar, disjunction, sum_alone}
+use Rattle.ebr_exprparse.specs.inside.Reading.{reads_at}
 
 pub no_depth : (n : ℕ) (l : Level) (ts : List Token) → n ≡ 0 → read_within n l ts ≡ None
 unfolding reads_within

@@ -6,7 +6,7 @@ use Rattle.ebr_grammar.specs.declared.tokens.ReadStop.{ReadStop}
 use Rattle.ebr_grammar.specs.Forms.{Found, sees}
 use Rattle.ebr_grammar.specs.Outcome.{Reads}
 use Rattle.ebr_grammar.specs.Reading.{and_then, next}
-use Rattle.ebr_exprparse.specs.Words.{read_one}
+use Rattle.ebr_exprparse.specs.inside.Words.{read_one}
 
 pub seen : {A : Type 0} (x : Kind × A) (rest : List (Kind × A)) (ts : List Token) → sees (x.0 ∷ []) ts ≡ true → read_one (x ∷ rest) ts ≡ Some (x.1, next ts)
 seen x [] ts is = rw is refl

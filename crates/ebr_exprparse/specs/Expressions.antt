@@ -1,15 +1,13 @@
 -- The grammar of expressions (Oracle Database SQL Language Reference 19c, Expressions, Conditions and Operators;
 -- PL/SQL Language Reference 19c, Expression; which of their forms there are is this server's own choice).
-use Rattle.std.specs.Prelude.{◌≡◌, ◌≢◌, Result, Ok, Err, ◌≤◌, ℕ, length, drop, slice_range, Bool, true, false, if◌then◌else◌, List, [], ◌∷◌, ◌++◌, Option, Some, None}
+use Rattle.std.specs.Prelude.{◌≤◌, ℕ, length, drop, slice_range, Bool, true, false, if◌then◌else◌, List, [], ◌∷◌, ◌++◌, Option, Some, None}
 use Rattle.ebr_lexer.specs.declared.token.Token.{Token}
 use Rattle.ebr_grammar.specs.declared.kind.Kind.{Kind}
 use Rattle.ebr_grammar.specs.declared.kind.Kind.TheVariants as k
-use Rattle.ebr_grammar.specs.declared.tokens.ReadStop.{ReadStop}
-use Rattle.ebr_grammar.specs.declared.tokens.ReadStop.TheVariants.{NoMemory}
 use Rattle.ebr_grammar.specs.Kinds.{name_kinds, names_but}
 use Rattle.ebr_grammar.specs.Forms.{Found, Reader, sees}
 use Rattle.ebr_grammar.specs.Grammar.{Production, token, word, nothing, both, many, made, tested, led, named, SpellsAny}
-use Rattle.ebr_grammar.specs.Reading.{and_then, before, Hints, reads, reads_within}
+use Rattle.ebr_grammar.specs.Reading.{and_then, Hints, reads_within}
 use Rattle.ebr_grammar.specs.Outcome.{number_of, content_of, named_by}
 use Rattle.ebr_grammar.specs.Words.{mark, ◌▸◌, ◌◂◌, ◌∣◌, maybe, name, is_there, all}
 use Rattle.ebr_exprtree.specs.declared.expression.Expr.{Expr}
@@ -292,19 +290,6 @@ unfoldable pub hints : Hints Level
 hints = record { begins = begins; goes_on = goes_on }
 
 -- ---- what is read, and what is spelled
-
--- what reading by a production gives, with expressions nested to a depth
-abbrev pub reads_at : ℕ → {C : Type 0} → P C → Reader C
-reads_at n g = reads hints (reads_within hints grammar n) g
-
--- the tree that a name gives with what was found behind it, where it gives one
-abbrev pub tree_behind : List ℕ → Found (List ℕ → Option Expr) → Found Expr
-tree_behind name found = and_then found (λ f end. before end (f name))
-
--- the tree that a function was to give, unless memory ran out
-abbrev pub Decides : Option Expr → Result Expr ReadStop → Type 0
-Decides found (Ok x) = found ≡ Some x
-Decides found (Err stop) = stop ≢ NoMemory → found ≡ None
 
 abbrev pub tree_of : Found Read → Found Expr
 tree_of found = and_then found (λ x end. Some (x.0, end))

@@ -1,4 +1,3 @@
 pub mod Expressions
-pub mod Nests
 pub mod Parts
-pub mod Words
+pub mod inside

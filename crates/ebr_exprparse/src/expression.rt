@@ -3,7 +3,8 @@
 ghost use Rattle.ebr_grammar.specs.Reading.{with_first};
 ghost use Rattle.ebr_grammar.specs.Outcome.{Reads};
 ghost use Rattle.ebr_exprparse.specs.Expressions as spec;
-ghost use Rattle.ebr_exprparse.specs.Nests.{Nests};
+ghost use Rattle.ebr_exprparse.specs.inside.Reading as inside;
+ghost use Rattle.ebr_exprparse.specs.inside.Nests.{Nests};
 
 use crate::level::Level;
 use crate::trees::{
@@ -37,14 +38,14 @@ impl<F: Fn(Global, &mut Tokens<'_>, usize, Level) -> Result<Read, ReadStop>> Gra
 
     fn inner(&self, tokens: &mut Tokens<'_>) -> Result<Tree, ReadStop>
         requires { Nests self.now.depth (F.pre self.now.expr) (F.post self.now.expr) }
-        ensures { Reads (spec.reads_at self.now.depth spec.inner tokens.old) result tokens.new }
+        ensures { Reads (inside.reads_at self.now.depth spec.inner tokens.old) result tokens.new }
     {
         tree_of(self.nested_read(tokens, Level::Whole))
     }
 
     fn inner_sum(&self, tokens: &mut Tokens<'_>) -> Result<Tree, ReadStop>
         requires { Nests self.now.depth (F.pre self.now.expr) (F.post self.now.expr) }
-        ensures { Reads (spec.reads_at self.now.depth spec.inner_sum tokens.old) result tokens.new }
+        ensures { Reads (inside.reads_at self.now.depth spec.inner_sum tokens.old) result tokens.new }
     {
         tree_of(self.nested_read(tokens, Level::Sum))
     }
@@ -52,7 +53,7 @@ impl<F: Fn(Global, &mut Tokens<'_>, usize, Level) -> Result<Read, ReadStop>> Gra
     /// The items behind the first, and with it.
     fn more_items(&self, tokens: &mut Tokens<'_>, first: Tree) -> Result<List<Tree>, ReadStop>
         requires { Nests self.now.depth (F.pre self.now.expr) (F.post self.now.expr) }
-        ensures { Reads (with_first first (spec.reads_at self.now.depth spec.more_items tokens.old)) result tokens.new }
+        ensures { Reads (with_first first (inside.reads_at self.now.depth spec.more_items tokens.old)) result tokens.new }
     {
         let mut found = List::new(self.alloc);
         found.push(first)?;
@@ -68,7 +69,7 @@ impl<F: Fn(Global, &mut Tokens<'_>, usize, Level) -> Result<Read, ReadStop>> Gra
 
     fn list(&self, tokens: &mut Tokens<'_>) -> Result<List<Tree>, ReadStop>
         requires { Nests self.now.depth (F.pre self.now.expr) (F.post self.now.expr) }
-        ensures { Reads (spec.reads_at self.now.depth spec.list tokens.old) result tokens.new }
+        ensures { Reads (inside.reads_at self.now.depth spec.list tokens.old) result tokens.new }
     {
         let first = self.inner(tokens)?;
         self.more_items(tokens, first)
@@ -77,7 +78,7 @@ impl<F: Fn(Global, &mut Tokens<'_>, usize, Level) -> Result<Read, ReadStop>> Gra
     /// What stands behind the parenthesis.
     fn arguments(&self, tokens: &mut Tokens<'_>) -> Result<List<Tree>, ReadStop>
         requires { Nests self.now.depth (F.pre self.now.expr) (F.post self.now.expr) }
-        ensures { Reads (spec.reads_at self.now.depth spec.arguments tokens.old) result tokens.new }
+        ensures { Reads (inside.reads_at self.now.depth spec.arguments tokens.old) result tokens.new }
     {
         if tokens.eat(Kind::RightParen) {
             return Ok(List::new(self.alloc));
@@ -88,7 +89,7 @@ impl<F: Fn(Global, &mut Tokens<'_>, usize, Level) -> Result<Read, ReadStop>> Gra
 
     fn maybe_arguments(&self, tokens: &mut Tokens<'_>) -> Result<Option<List<Tree>>, ReadStop>
         requires { Nests self.now.depth (F.pre self.now.expr) (F.post self.now.expr) }
-        ensures { Reads (spec.reads_at self.now.depth spec.maybe_arguments tokens.old) result tokens.new }
+        ensures { Reads (inside.reads_at self.now.depth spec.maybe_arguments tokens.old) result tokens.new }
     {
         if tokens.eat(Kind::LeftParen) {
             Ok(Some(self.arguments(tokens)?))
@@ -100,7 +101,7 @@ impl<F: Fn(Global, &mut Tokens<'_>, usize, Level) -> Result<Read, ReadStop>> Gra
     /// What stands behind the dot.
     fn member(&self, tokens: &mut Tokens<'_>, first: Name) -> Result<Tree, ReadStop>
         requires { Nests self.now.depth (F.pre self.now.expr) (F.post self.now.expr) }
-        ensures { Reads (with_first first (spec.reads_at self.now.depth spec.member tokens.old)) result tokens.new }
+        ensures { Reads (with_first first (inside.reads_at self.now.depth spec.member tokens.old)) result tokens.new }
     {
         let second = tokens.name(self.alloc)?;
         let maybe_arguments = self.maybe_arguments(tokens)?;
@@ -114,7 +115,7 @@ impl<F: Fn(Global, &mut Tokens<'_>, usize, Level) -> Result<Read, ReadStop>> Gra
     #[tactic(auto, unfolding(crate::specs::Expressions::attribute, ebr_grammar::specs::Reading::reads))]
     fn attribute(&self, tokens: &mut Tokens<'_>) -> Result<Attribute, ReadStop>
         requires { Nests self.now.depth (F.pre self.now.expr) (F.post self.now.expr) }
-        ensures { Reads (spec.reads_at self.now.depth spec.attribute tokens.old) result tokens.new }
+        ensures { Reads (inside.reads_at self.now.depth spec.attribute tokens.old) result tokens.new }
     {
         one_of(
             tokens,
@@ -131,7 +132,7 @@ impl<F: Fn(Global, &mut Tokens<'_>, usize, Level) -> Result<Read, ReadStop>> Gra
     #[tactic(auto, unfolding(crate::specs::Expressions::statement_attribute, ebr_grammar::specs::Reading::reads))]
     fn statement_attribute(&self, tokens: &mut Tokens<'_>) -> Result<Attribute, ReadStop>
         requires { Nests self.now.depth (F.pre self.now.expr) (F.post self.now.expr) }
-        ensures { Reads (spec.reads_at self.now.depth spec.statement_attribute tokens.old) result tokens.new }
+        ensures { Reads (inside.reads_at self.now.depth spec.statement_attribute tokens.old) result tokens.new }
     {
         one_of(
             tokens,
@@ -146,7 +147,7 @@ impl<F: Fn(Global, &mut Tokens<'_>, usize, Level) -> Result<Read, ReadStop>> Gra
     /// What stands behind SQL.
     fn sql_attribute(&self, tokens: &mut Tokens<'_>) -> Result<Tree, ReadStop>
         requires { Nests self.now.depth (F.pre self.now.expr) (F.post self.now.expr) }
-        ensures { Reads (spec.reads_at self.now.depth spec.sql_attribute tokens.old) result tokens.new }
+        ensures { Reads (inside.reads_at self.now.depth spec.sql_attribute tokens.old) result tokens.new }
     {
         tokens.expect(Kind::Percent)?;
         let attribute = self.statement_attribute(tokens)?;
@@ -155,7 +156,7 @@ impl<F: Fn(Global, &mut Tokens<'_>, usize, Level) -> Result<Read, ReadStop>> Gra
 
     fn divisor(&self, tokens: &mut Tokens<'_>) -> Result<Tree, ReadStop>
         requires { Nests self.now.depth (F.pre self.now.expr) (F.post self.now.expr) }
-        ensures { Reads (spec.reads_at self.now.depth spec.divisor tokens.old) result tokens.new }
+        ensures { Reads (inside.reads_at self.now.depth spec.divisor tokens.old) result tokens.new }
     {
         let divisor = self.inner_sum(tokens)?;
         ended(tokens, Kind::RightParen, divisor)
@@ -164,7 +165,7 @@ impl<F: Fn(Global, &mut Tokens<'_>, usize, Level) -> Result<Read, ReadStop>> Gra
     /// What stands behind the first argument of TRUNC, where no `/` follows it.
     fn trunc_call(&self, tokens: &mut Tokens<'_>, name: Name, first: Read) -> Result<Tree, ReadStop>
         requires { Nests self.now.depth (F.pre self.now.expr) (F.post self.now.expr) }
-        ensures { Reads (spec.tree_behind name (with_first first (spec.reads_at self.now.depth spec.trunc_call tokens.old))) result tokens.new }
+        ensures { Reads (inside.kept name (with_first first (inside.reads_at self.now.depth spec.trunc_call tokens.old))) result tokens.new }
     {
         let (tree, _) = first;
         let arguments = self.more_items(tokens, tree)?;
@@ -175,7 +176,7 @@ impl<F: Fn(Global, &mut Tokens<'_>, usize, Level) -> Result<Read, ReadStop>> Gra
     /// What stands behind the first argument of TRUNC.
     fn trunc_end(&self, tokens: &mut Tokens<'_>, name: Name, first: Read) -> Result<Tree, ReadStop>
         requires { Nests self.now.depth (F.pre self.now.expr) (F.post self.now.expr) }
-        ensures { Reads (spec.tree_behind name (with_first first (spec.reads_at self.now.depth spec.trunc_end tokens.old))) result tokens.new }
+        ensures { Reads (inside.kept name (with_first first (inside.reads_at self.now.depth spec.trunc_end tokens.old))) result tokens.new }
     {
         if tokens.eat(Kind::Slash) {
             let divisor = self.divisor(tokens)?;
@@ -188,7 +189,7 @@ impl<F: Fn(Global, &mut Tokens<'_>, usize, Level) -> Result<Read, ReadStop>> Gra
     /// What stands in the parentheses of TRUNC.
     fn trunc_arguments(&self, tokens: &mut Tokens<'_>, name: Name) -> Result<Tree, ReadStop>
         requires { Nests self.now.depth (F.pre self.now.expr) (F.post self.now.expr) }
-        ensures { Reads (spec.tree_behind name (spec.reads_at self.now.depth spec.trunc_arguments tokens.old)) result tokens.new }
+        ensures { Reads (inside.kept name (inside.reads_at self.now.depth spec.trunc_arguments tokens.old)) result tokens.new }
     {
         if tokens.eat(Kind::RightParen) {
             return shared(
@@ -203,7 +204,7 @@ impl<F: Fn(Global, &mut Tokens<'_>, usize, Level) -> Result<Read, ReadStop>> Gra
     /// What stands behind TRUNC.
     fn trunc_tail(&self, tokens: &mut Tokens<'_>, name: Name) -> Result<Tree, ReadStop>
         requires { Nests self.now.depth (F.pre self.now.expr) (F.post self.now.expr) }
-        ensures { Reads (spec.tree_behind name (spec.reads_at self.now.depth spec.trunc_tail tokens.old)) result tokens.new }
+        ensures { Reads (inside.kept name (inside.reads_at self.now.depth spec.trunc_tail tokens.old)) result tokens.new }
     {
         if tokens.eat(Kind::LeftParen) {
             self.trunc_arguments(tokens, name)
@@ -220,7 +221,7 @@ impl<F: Fn(Global, &mut Tokens<'_>, usize, Level) -> Result<Read, ReadStop>> Gra
     /// What stands behind another name.
     fn name_tail(&self, tokens: &mut Tokens<'_>, name: Name) -> Result<Tree, ReadStop>
         requires { Nests self.now.depth (F.pre self.now.expr) (F.post self.now.expr) }
-        ensures { Reads (with_first name (spec.reads_at self.now.depth spec.name_tail tokens.old)) result tokens.new }
+        ensures { Reads (with_first name (inside.reads_at self.now.depth spec.name_tail tokens.old)) result tokens.new }
     {
         if tokens.eat(Kind::Dot) {
             self.member(tokens, name)
@@ -236,7 +237,7 @@ impl<F: Fn(Global, &mut Tokens<'_>, usize, Level) -> Result<Read, ReadStop>> Gra
     /// What stands behind the parenthesis, up to the closing one.
     fn closed(&self, tokens: &mut Tokens<'_>) -> Result<Tree, ReadStop>
         requires { Nests self.now.depth (F.pre self.now.expr) (F.post self.now.expr) }
-        ensures { Reads (spec.reads_at self.now.depth spec.closed tokens.old) result tokens.new }
+        ensures { Reads (inside.reads_at self.now.depth spec.closed tokens.old) result tokens.new }
     {
         let tree = self.inner(tokens)?;
         ended(tokens, Kind::RightParen, tree)
@@ -245,7 +246,7 @@ impl<F: Fn(Global, &mut Tokens<'_>, usize, Level) -> Result<Read, ReadStop>> Gra
     #[tactic(auto, unfolding(crate::specs::Expressions::row_image, ebr_grammar::specs::Reading::reads))]
     fn row_image(&self, tokens: &mut Tokens<'_>) -> Result<RowImage, ReadStop>
         requires { Nests self.now.depth (F.pre self.now.expr) (F.post self.now.expr) }
-        ensures { Reads (spec.reads_at self.now.depth spec.row_image tokens.old) result tokens.new }
+        ensures { Reads (inside.reads_at self.now.depth spec.row_image tokens.old) result tokens.new }
     {
         one_of(
             tokens,
@@ -256,7 +257,7 @@ impl<F: Fn(Global, &mut Tokens<'_>, usize, Level) -> Result<Read, ReadStop>> Gra
     /// What stands behind the colon.
     fn row_column(&self, tokens: &mut Tokens<'_>) -> Result<Tree, ReadStop>
         requires { Nests self.now.depth (F.pre self.now.expr) (F.post self.now.expr) }
-        ensures { Reads (spec.reads_at self.now.depth spec.row_column tokens.old) result tokens.new }
+        ensures { Reads (inside.reads_at self.now.depth spec.row_column tokens.old) result tokens.new }
     {
         let image = self.row_image(tokens)?;
         tokens.expect(Kind::Dot)?;
@@ -267,7 +268,7 @@ impl<F: Fn(Global, &mut Tokens<'_>, usize, Level) -> Result<Read, ReadStop>> Gra
     /// A word that stands for itself.
     fn constant(&self, tokens: &mut Tokens<'_>) -> Result<Tree, ReadStop>
         requires { Nests self.now.depth (F.pre self.now.expr) (F.post self.now.expr) }
-        ensures { Reads (spec.reads_at self.now.depth spec.constant tokens.old) result tokens.new }
+        ensures { Reads (inside.reads_at self.now.depth spec.constant tokens.old) result tokens.new }
     {
         if tokens.eat(Kind::Null) {
             return shared(self.alloc, Expr::Null);
@@ -294,7 +295,7 @@ impl<F: Fn(Global, &mut Tokens<'_>, usize, Level) -> Result<Read, ReadStop>> Gra
     /// A name with what stands behind it.
     fn reference(&self, tokens: &mut Tokens<'_>) -> Result<Tree, ReadStop>
         requires { Nests self.now.depth (F.pre self.now.expr) (F.post self.now.expr) }
-        ensures { Reads (spec.reads_at self.now.depth spec.reference tokens.old) result tokens.new }
+        ensures { Reads (inside.reads_at self.now.depth spec.reference tokens.old) result tokens.new }
     {
         if tokens.sees(Kind::Trunc) {
             let name = tokens.name_among(self.alloc, &[Kind::Trunc])?;
@@ -307,7 +308,7 @@ impl<F: Fn(Global, &mut Tokens<'_>, usize, Level) -> Result<Read, ReadStop>> Gra
 
     fn primary(&self, tokens: &mut Tokens<'_>) -> Result<Tree, ReadStop>
         requires { Nests self.now.depth (F.pre self.now.expr) (F.post self.now.expr) }
-        ensures { Reads (spec.reads_at self.now.depth spec.primary tokens.old) result tokens.new }
+        ensures { Reads (inside.reads_at self.now.depth spec.primary tokens.old) result tokens.new }
     {
         if tokens.sees(Kind::NumberLiteral) {
             let number = tokens.number()?;
@@ -338,7 +339,7 @@ impl<F: Fn(Global, &mut Tokens<'_>, usize, Level) -> Result<Read, ReadStop>> Gra
 
     fn factor(&self, tokens: &mut Tokens<'_>) -> Result<Tree, ReadStop>
         requires { Nests self.now.depth (F.pre self.now.expr) (F.post self.now.expr) }
-        ensures { Reads (spec.reads_at self.now.depth spec.factor tokens.old) result tokens.new }
+        ensures { Reads (inside.reads_at self.now.depth spec.factor tokens.old) result tokens.new }
     {
         if tokens.eat(Kind::Plus) {
             let operand = self.primary(tokens)?;
@@ -353,7 +354,7 @@ impl<F: Fn(Global, &mut Tokens<'_>, usize, Level) -> Result<Read, ReadStop>> Gra
 
     fn more_factors(&self, tokens: &mut Tokens<'_>) -> Result<List<Tree>, ReadStop>
         requires { Nests self.now.depth (F.pre self.now.expr) (F.post self.now.expr) }
-        ensures { Reads (spec.reads_at self.now.depth spec.more_factors tokens.old) result tokens.new }
+        ensures { Reads (inside.reads_at self.now.depth spec.more_factors tokens.old) result tokens.new }
     {
         let mut found = List::new(self.alloc);
         for _turn in 0..tokens.left() {
@@ -368,7 +369,7 @@ impl<F: Fn(Global, &mut Tokens<'_>, usize, Level) -> Result<Read, ReadStop>> Gra
 
     fn term(&self, tokens: &mut Tokens<'_>) -> Result<Tree, ReadStop>
         requires { Nests self.now.depth (F.pre self.now.expr) (F.post self.now.expr) }
-        ensures { Reads (spec.reads_at self.now.depth spec.term tokens.old) result tokens.new }
+        ensures { Reads (inside.reads_at self.now.depth spec.term tokens.old) result tokens.new }
     {
         let first = self.factor(tokens)?;
         let more = self.more_factors(tokens)?;
@@ -378,7 +379,7 @@ impl<F: Fn(Global, &mut Tokens<'_>, usize, Level) -> Result<Read, ReadStop>> Gra
     #[tactic(auto, unfolding(crate::specs::Expressions::operator, ebr_grammar::specs::Reading::reads))]
     fn operator(&self, tokens: &mut Tokens<'_>) -> Result<AdditiveOperator, ReadStop>
         requires { Nests self.now.depth (F.pre self.now.expr) (F.post self.now.expr) }
-        ensures { Reads (spec.reads_at self.now.depth spec.operator tokens.old) result tokens.new }
+        ensures { Reads (inside.reads_at self.now.depth spec.operator tokens.old) result tokens.new }
     {
         one_of(
             tokens,
@@ -392,7 +393,7 @@ impl<F: Fn(Global, &mut Tokens<'_>, usize, Level) -> Result<Read, ReadStop>> Gra
 
     fn addend(&self, tokens: &mut Tokens<'_>) -> Result<Addend, ReadStop>
         requires { Nests self.now.depth (F.pre self.now.expr) (F.post self.now.expr) }
-        ensures { Reads (spec.reads_at self.now.depth spec.addend tokens.old) result tokens.new }
+        ensures { Reads (inside.reads_at self.now.depth spec.addend tokens.old) result tokens.new }
     {
         let operator = self.operator(tokens)?;
         let term = self.term(tokens)?;
@@ -401,7 +402,7 @@ impl<F: Fn(Global, &mut Tokens<'_>, usize, Level) -> Result<Read, ReadStop>> Gra
 
     fn more_terms(&self, tokens: &mut Tokens<'_>) -> Result<List<Addend>, ReadStop>
         requires { Nests self.now.depth (F.pre self.now.expr) (F.post self.now.expr) }
-        ensures { Reads (spec.reads_at self.now.depth spec.more_terms tokens.old) result tokens.new }
+        ensures { Reads (inside.reads_at self.now.depth spec.more_terms tokens.old) result tokens.new }
     {
         let mut found = List::new(self.alloc);
         for _turn in 0..tokens.left() {
@@ -416,7 +417,7 @@ impl<F: Fn(Global, &mut Tokens<'_>, usize, Level) -> Result<Read, ReadStop>> Gra
 
     fn sum(&self, tokens: &mut Tokens<'_>) -> Result<Tree, ReadStop>
         requires { Nests self.now.depth (F.pre self.now.expr) (F.post self.now.expr) }
-        ensures { Reads (spec.reads_at self.now.depth spec.sum tokens.old) result tokens.new }
+        ensures { Reads (inside.reads_at self.now.depth spec.sum tokens.old) result tokens.new }
     {
         let first = self.term(tokens)?;
         let more = self.more_terms(tokens)?;
@@ -425,7 +426,7 @@ impl<F: Fn(Global, &mut Tokens<'_>, usize, Level) -> Result<Read, ReadStop>> Gra
 
     fn closed_list(&self, tokens: &mut Tokens<'_>) -> Result<List<Tree>, ReadStop>
         requires { Nests self.now.depth (F.pre self.now.expr) (F.post self.now.expr) }
-        ensures { Reads (spec.reads_at self.now.depth spec.closed_list tokens.old) result tokens.new }
+        ensures { Reads (inside.reads_at self.now.depth spec.closed_list tokens.old) result tokens.new }
     {
         tokens.expect(Kind::LeftParen)?;
         let items = self.list(tokens)?;
@@ -435,7 +436,7 @@ impl<F: Fn(Global, &mut Tokens<'_>, usize, Level) -> Result<Read, ReadStop>> Gra
     /// What stands behind IN.
     fn in_list(&self, tokens: &mut Tokens<'_>, left: Tree, negated: bool) -> Result<Tree, ReadStop>
         requires { Nests self.now.depth (F.pre self.now.expr) (F.post self.now.expr) }
-        ensures { Reads (with_first left (spec.reads_at self.now.depth (spec.in_list negated) tokens.old)) result tokens.new }
+        ensures { Reads (with_first left (inside.reads_at self.now.depth (spec.in_list negated) tokens.old)) result tokens.new }
     {
         let items = self.closed_list(tokens)?;
         shared(self.alloc, Expr::In(left, items, negated))
@@ -443,7 +444,7 @@ impl<F: Fn(Global, &mut Tokens<'_>, usize, Level) -> Result<Read, ReadStop>> Gra
 
     fn range_end(&self, tokens: &mut Tokens<'_>) -> Result<Tree, ReadStop>
         requires { Nests self.now.depth (F.pre self.now.expr) (F.post self.now.expr) }
-        ensures { Reads (spec.reads_at self.now.depth spec.range_end tokens.old) result tokens.new }
+        ensures { Reads (inside.reads_at self.now.depth spec.range_end tokens.old) result tokens.new }
     {
         tokens.expect(Kind::And)?;
         self.sum(tokens)
@@ -452,7 +453,7 @@ impl<F: Fn(Global, &mut Tokens<'_>, usize, Level) -> Result<Read, ReadStop>> Gra
     /// What stands behind BETWEEN.
     fn range(&self, tokens: &mut Tokens<'_>, left: Tree, negated: bool) -> Result<Tree, ReadStop>
         requires { Nests self.now.depth (F.pre self.now.expr) (F.post self.now.expr) }
-        ensures { Reads (with_first left (spec.reads_at self.now.depth (spec.range negated) tokens.old)) result tokens.new }
+        ensures { Reads (with_first left (inside.reads_at self.now.depth (spec.range negated) tokens.old)) result tokens.new }
     {
         let low = self.sum(tokens)?;
         let high = self.range_end(tokens)?;
@@ -462,7 +463,7 @@ impl<F: Fn(Global, &mut Tokens<'_>, usize, Level) -> Result<Read, ReadStop>> Gra
     /// What stands behind LIKE.
     fn pattern(&self, tokens: &mut Tokens<'_>, left: Tree, negated: bool) -> Result<Tree, ReadStop>
         requires { Nests self.now.depth (F.pre self.now.expr) (F.post self.now.expr) }
-        ensures { Reads (with_first left (spec.reads_at self.now.depth (spec.pattern negated) tokens.old)) result tokens.new }
+        ensures { Reads (with_first left (inside.reads_at self.now.depth (spec.pattern negated) tokens.old)) result tokens.new }
     {
         let right = self.sum(tokens)?;
         like(self.alloc, left, right, negated)
@@ -471,7 +472,7 @@ impl<F: Fn(Global, &mut Tokens<'_>, usize, Level) -> Result<Read, ReadStop>> Gra
     /// What stands behind IS.
     fn null_test(&self, tokens: &mut Tokens<'_>, left: Tree) -> Result<Tree, ReadStop>
         requires { Nests self.now.depth (F.pre self.now.expr) (F.post self.now.expr) }
-        ensures { Reads (with_first left (spec.reads_at self.now.depth spec.null_test tokens.old)) result tokens.new }
+        ensures { Reads (with_first left (inside.reads_at self.now.depth spec.null_test tokens.old)) result tokens.new }
     {
         let negated = tokens.eat(Kind::Not);
         tokens.expect(Kind::Null)?;
@@ -486,7 +487,7 @@ impl<F: Fn(Global, &mut Tokens<'_>, usize, Level) -> Result<Read, ReadStop>> Gra
         negated: bool,
     ) -> Result<Tree, ReadStop>
         requires { Nests self.now.depth (F.pre self.now.expr) (F.post self.now.expr) }
-        ensures { Reads (with_first left (spec.reads_at self.now.depth (spec.membership negated) tokens.old)) result tokens.new }
+        ensures { Reads (with_first left (inside.reads_at self.now.depth (spec.membership negated) tokens.old)) result tokens.new }
     {
         if tokens.eat(Kind::In) {
             self.in_list(tokens, left, negated)
@@ -501,7 +502,7 @@ impl<F: Fn(Global, &mut Tokens<'_>, usize, Level) -> Result<Read, ReadStop>> Gra
     /// A test of the operand that stands before it.
     fn test(&self, tokens: &mut Tokens<'_>, left: Tree) -> Result<Tree, ReadStop>
         requires { Nests self.now.depth (F.pre self.now.expr) (F.post self.now.expr) }
-        ensures { Reads (with_first left (spec.reads_at self.now.depth spec.test tokens.old)) result tokens.new }
+        ensures { Reads (with_first left (inside.reads_at self.now.depth spec.test tokens.old)) result tokens.new }
     {
         if tokens.eat(Kind::Is) {
             self.null_test(tokens, left)
@@ -515,7 +516,7 @@ impl<F: Fn(Global, &mut Tokens<'_>, usize, Level) -> Result<Read, ReadStop>> Gra
     #[tactic(auto, unfolding(crate::specs::Expressions::sign, ebr_grammar::specs::Reading::reads))]
     fn sign(&self, tokens: &mut Tokens<'_>) -> Result<Comparison, ReadStop>
         requires { Nests self.now.depth (F.pre self.now.expr) (F.post self.now.expr) }
-        ensures { Reads (spec.reads_at self.now.depth spec.sign tokens.old) result tokens.new }
+        ensures { Reads (inside.reads_at self.now.depth spec.sign tokens.old) result tokens.new }
     {
         one_of(
             tokens,
@@ -533,7 +534,7 @@ impl<F: Fn(Global, &mut Tokens<'_>, usize, Level) -> Result<Read, ReadStop>> Gra
     /// A sign of comparison with its right operand.
     fn signed(&self, tokens: &mut Tokens<'_>, left: Tree) -> Result<Tree, ReadStop>
         requires { Nests self.now.depth (F.pre self.now.expr) (F.post self.now.expr) }
-        ensures { Reads (with_first left (spec.reads_at self.now.depth spec.signed tokens.old)) result tokens.new }
+        ensures { Reads (with_first left (inside.reads_at self.now.depth spec.signed tokens.old)) result tokens.new }
     {
         let by = self.sign(tokens)?;
         let right = self.sum(tokens)?;
@@ -543,7 +544,7 @@ impl<F: Fn(Global, &mut Tokens<'_>, usize, Level) -> Result<Read, ReadStop>> Gra
     /// What stands behind the first sum of a comparison.
     fn comparison_tail(&self, tokens: &mut Tokens<'_>, left: Tree) -> Result<Read, ReadStop>
         requires { Nests self.now.depth (F.pre self.now.expr) (F.post self.now.expr) }
-        ensures { Reads (with_first left (spec.reads_at self.now.depth spec.comparison_tail tokens.old)) result tokens.new }
+        ensures { Reads (with_first left (inside.reads_at self.now.depth spec.comparison_tail tokens.old)) result tokens.new }
     {
         if tokens.sees_any(&[
             Kind::Equal,
@@ -563,7 +564,7 @@ impl<F: Fn(Global, &mut Tokens<'_>, usize, Level) -> Result<Read, ReadStop>> Gra
 
     fn comparison(&self, tokens: &mut Tokens<'_>) -> Result<Read, ReadStop>
         requires { Nests self.now.depth (F.pre self.now.expr) (F.post self.now.expr) }
-        ensures { Reads (spec.reads_at self.now.depth spec.comparison tokens.old) result tokens.new }
+        ensures { Reads (inside.reads_at self.now.depth spec.comparison tokens.old) result tokens.new }
     {
         let left = self.sum(tokens)?;
         self.comparison_tail(tokens, left)
@@ -571,7 +572,7 @@ impl<F: Fn(Global, &mut Tokens<'_>, usize, Level) -> Result<Read, ReadStop>> Gra
 
     fn negation(&self, tokens: &mut Tokens<'_>) -> Result<Read, ReadStop>
         requires { Nests self.now.depth (F.pre self.now.expr) (F.post self.now.expr) }
-        ensures { Reads (spec.reads_at self.now.depth spec.negation tokens.old) result tokens.new }
+        ensures { Reads (inside.reads_at self.now.depth spec.negation tokens.old) result tokens.new }
     {
         if tokens.eat(Kind::Not) {
             let found = self.comparison(tokens)?;
@@ -584,14 +585,14 @@ impl<F: Fn(Global, &mut Tokens<'_>, usize, Level) -> Result<Read, ReadStop>> Gra
 
     fn negated_tree(&self, tokens: &mut Tokens<'_>) -> Result<Tree, ReadStop>
         requires { Nests self.now.depth (F.pre self.now.expr) (F.post self.now.expr) }
-        ensures { Reads (spec.reads_at self.now.depth spec.negated_tree tokens.old) result tokens.new }
+        ensures { Reads (inside.reads_at self.now.depth spec.negated_tree tokens.old) result tokens.new }
     {
         tree_of(self.negation(tokens))
     }
 
     fn more_negations(&self, tokens: &mut Tokens<'_>) -> Result<List<Tree>, ReadStop>
         requires { Nests self.now.depth (F.pre self.now.expr) (F.post self.now.expr) }
-        ensures { Reads (spec.reads_at self.now.depth spec.more_negations tokens.old) result tokens.new }
+        ensures { Reads (inside.reads_at self.now.depth spec.more_negations tokens.old) result tokens.new }
     {
         let mut found = List::new(self.alloc);
         for _turn in 0..tokens.left() {
@@ -606,7 +607,7 @@ impl<F: Fn(Global, &mut Tokens<'_>, usize, Level) -> Result<Read, ReadStop>> Gra
 
     fn conjunction(&self, tokens: &mut Tokens<'_>) -> Result<Read, ReadStop>
         requires { Nests self.now.depth (F.pre self.now.expr) (F.post self.now.expr) }
-        ensures { Reads (spec.reads_at self.now.depth spec.conjunction tokens.old) result tokens.new }
+        ensures { Reads (inside.reads_at self.now.depth spec.conjunction tokens.old) result tokens.new }
     {
         let first = self.negation(tokens)?;
         let more = self.more_negations(tokens)?;
@@ -615,14 +616,14 @@ impl<F: Fn(Global, &mut Tokens<'_>, usize, Level) -> Result<Read, ReadStop>> Gra
 
     fn conjoined_tree(&self, tokens: &mut Tokens<'_>) -> Result<Tree, ReadStop>
         requires { Nests self.now.depth (F.pre self.now.expr) (F.post self.now.expr) }
-        ensures { Reads (spec.reads_at self.now.depth spec.conjoined_tree tokens.old) result tokens.new }
+        ensures { Reads (inside.reads_at self.now.depth spec.conjoined_tree tokens.old) result tokens.new }
     {
         tree_of(self.conjunction(tokens))
     }
 
     fn more_conjunctions(&self, tokens: &mut Tokens<'_>) -> Result<List<Tree>, ReadStop>
         requires { Nests self.now.depth (F.pre self.now.expr) (F.post self.now.expr) }
-        ensures { Reads (spec.reads_at self.now.depth spec.more_conjunctions tokens.old) result tokens.new }
+        ensures { Reads (inside.reads_at self.now.depth spec.more_conjunctions tokens.old) result tokens.new }
     {
         let mut found = List::new(self.alloc);
         for _turn in 0..tokens.left() {
@@ -637,7 +638,7 @@ impl<F: Fn(Global, &mut Tokens<'_>, usize, Level) -> Result<Read, ReadStop>> Gra
 
     pub fn disjunction(&self, tokens: &mut Tokens<'_>) -> Result<Read, ReadStop>
         requires { Nests self.now.depth (F.pre self.now.expr) (F.post self.now.expr) }
-        ensures { Reads (spec.reads_at self.now.depth spec.disjunction tokens.old) result tokens.new }
+        ensures { Reads (inside.reads_at self.now.depth spec.disjunction tokens.old) result tokens.new }
     {
         let first = self.conjunction(tokens)?;
         let more = self.more_conjunctions(tokens)?;
@@ -647,7 +648,7 @@ impl<F: Fn(Global, &mut Tokens<'_>, usize, Level) -> Result<Read, ReadStop>> Gra
     /// A sum where it stands alone.
     pub fn sum_alone(&self, tokens: &mut Tokens<'_>) -> Result<Read, ReadStop>
         requires { Nests self.now.depth (F.pre self.now.expr) (F.post self.now.expr) }
-        ensures { Reads (spec.reads_at self.now.depth spec.sum_alone tokens.old) result tokens.new }
+        ensures { Reads (inside.reads_at self.now.depth spec.sum_alone tokens.old) result tokens.new }
     {
         let tree = self.sum(tokens)?;
         Ok((tree, true))

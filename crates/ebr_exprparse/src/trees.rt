@@ -6,6 +6,7 @@ ghost use Rattle.ebr_exprtree.specs.declared.expression.Expr.{Expr as Expression
 ghost use Rattle.ebr_grammar.specs.Forms.{Found};
 ghost use Rattle.ebr_grammar.specs.Outcome.{Reads};
 ghost use Rattle.ebr_exprparse.specs.Expressions as spec;
+ghost use Rattle.ebr_exprparse.specs.inside.Reading as inside;
 
 use ebr_base::{List, Name, NoMemory, Shared};
 use ebr_exprtree::{Addend, Comparison, Expr, Path};
@@ -44,7 +45,7 @@ pub fn name_or_call(path: Path, maybe_arguments: Option<List<Tree>>) -> Expr
 
 /// The quotient of TRUNC, whose dividend is a sum.
 pub fn quotient(alloc: Global, dividend: Read, divisor: Tree) -> Result<Tree, ReadStop>
-    ensures { spec.Decides (spec.quotient dividend divisor) result }
+    ensures { inside.Decides (spec.quotient dividend divisor) result }
 {
     let (tree, is_sum) = dividend;
     if !is_sum {

@@ -1,7 +1,7 @@
 //! Words of which each stands for a value.
 
 ghost use Rattle.ebr_grammar.specs.Outcome.{Reads};
-ghost use Rattle.ebr_exprparse.specs.Words as spec;
+ghost use Rattle.ebr_exprparse.specs.inside.Words as spec;
 
 use ebr_grammar::{Kind, ReadStop, Tokens};
 

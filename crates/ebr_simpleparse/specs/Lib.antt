@@ -7,3 +7,4 @@ pub mod Simple
 pub mod Declarations
 pub mod Headings
 pub mod Parts
+pub mod inside

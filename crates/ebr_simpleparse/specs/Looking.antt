@@ -1,14 +1,12 @@
 -- How reading tells whether REVERSE before a bound is the keyword: by what stands behind it. An expression begins there, and it
 -- is none that the name REVERSE goes on with. That this is right is proved in proofs/Keyword.antt.
-use Rattle.std.specs.Prelude.{ℕ, ◌+◌, ◌-◌, ◌==◌, ◌≤◌, Bool, true, false, not, ◌&&◌, if◌then◌else◌, List, [], ◌∷◌, drop}
+use Rattle.std.specs.Prelude.{ℕ, ◌+◌, ◌-◌, ◌==◌, Bool, true, false, not, ◌&&◌, if◌then◌else◌, List, [], ◌∷◌, drop}
 use Rattle.ebr_lexer.specs.declared.token.Token.{Token}
 use Rattle.ebr_grammar.specs.declared.kind.Kind.{Kind}
 use Rattle.ebr_grammar.specs.declared.kind.Kind.TheVariants as k
 use Rattle.ebr_grammar.specs.Kinds.{kind_of, member}
 use Rattle.ebr_grammar.specs.Forms.{Reader, sees, by_test}
 use Rattle.ebr_simpleparse.specs.declared.bounds.TheConstants.{NAME_ENDS}
-use Rattle.ebr_simpleparse.specs.declared.bounds.Look.{Look}
-use Rattle.ebr_simpleparse.specs.declared.bounds.Look.TheVariants as look
 use Rattle.ebr_simpleparse.specs.Types.{reads_plainly}
 use Rattle.ebr_simpleparse.specs.Bounds.{Bound, plain_bound, reversed_bound}
 
@@ -52,15 +50,3 @@ is_reversed ts = sees (k.Reverse ∷ []) ts && begins_bound (drop 1 ts)
 -- The reading of a bound.
 unfoldable pub bound_reader : Reader Bound
 bound_reader ts = by_test is_reversed (reads_plainly reversed_bound) (reads_plainly plain_bound) ts
-
--- ---- a look at one token
-
--- what it answers, with the tokens behind
-abbrev pub answer_of : Look → List Token → Bool
-answer_of (look.Ends answer) ts = answer
-answer_of (look.GoesOn depth) ts = closes depth ts
-
--- no more parentheses are open than this
-abbrev pub IsWithin : Look → ℕ → Type 0
-IsWithin (look.Ends answer) n = Unit {0}
-IsWithin (look.GoesOn depth) n = depth ≤ n

@@ -5,6 +5,7 @@ ghost use Rattle.ebr_grammar.specs.Outcome.{Reads};
 ghost use Rattle.ebr_simpleparse.specs.Types as plain;
 ghost use Rattle.ebr_simpleparse.specs.Bounds as bounds;
 ghost use Rattle.ebr_simpleparse.specs.Looking as spec;
+ghost use Rattle.ebr_simpleparse.specs.inside.Looking as inside;
 
 use ebr_ast::Expr;
 use ebr_base::Shared;
@@ -46,8 +47,8 @@ enum Look {
 fn look_at(tokens: &Tokens<'_>, at: usize, depth: usize) -> Look
     requires shallow { depth ≤ at }
     requires small { at < 18446744073709551615 }
-    ensures answer { spec.answer_of result (drop (at + 1) tokens.now) ≡ spec.closes depth (drop at tokens.now) }
-    ensures within { spec.IsWithin result (at + 1) }
+    ensures told { inside.told result (drop (at + 1) tokens.now) ≡ spec.closes depth (drop at tokens.now) }
+    ensures within { inside.IsWithin result (at + 1) }
 {
     if tokens.sees_later(at, &[Kind::Range]) {
         Look::Ends(false)

@@ -5,7 +5,8 @@ use Rattle.ebr_grammar.specs.Forms.{Found}
 use Rattle.ebr_grammar.specs.Reading.{and_then, reads}
 use Rattle.ebr_sqlparse.specs.Productions.{reads_by}
 use Rattle.ebr_sqlparse.specs.Items.{read_what}
-use Rattle.ebr_sqlparse.specs.Statements.{item, aliased}
+use Rattle.ebr_sqlparse.specs.Statements.{item}
+use Rattle.ebr_sqlparse.specs.inside.Aliased.{aliased}
 
 same_found : {A B : Type 0} (found : Found A) (k : A → List Token → Found B) → and_then (and_then found (λ a end. Some (a, end))) k ≡ and_then found k
 same_found None k = refl

@@ -2,3 +2,4 @@ pub mod Items
 pub mod Productions
 pub mod Statements
 pub mod Parts
+pub mod inside

@@ -2,9 +2,8 @@
 -- SAVEPOINT, ALTER SESSION; which of their clauses there are is this server's own choice, and so is APPLY TRIGGER).
 use Rattle.std.specs.Prelude.{ℕ, Bool, true, false, List, [], ◌∷◌, Option, Some}
 use Rattle.ebr_grammar.specs.declared.kind.Kind.TheVariants as k
-use Rattle.ebr_grammar.specs.Forms.{Form, Found}
+use Rattle.ebr_grammar.specs.Forms.{Form}
 use Rattle.ebr_grammar.specs.Grammar.{word, nothing, both, many, made, led}
-use Rattle.ebr_grammar.specs.Reading.{and_then}
 use Rattle.ebr_grammar.specs.Words.{◌▸◌, ◌◂◌, ◌∣◌, maybe, is_there, past}
 use Rattle.ebr_exprtree.specs.declared.expression.Expr.{Expr}
 use Rattle.ebr_ast.specs.declared.query.Query.{Query}
@@ -25,7 +24,7 @@ use Rattle.ebr_ast.specs.declared.sql.Transaction.{Transaction}
 use Rattle.ebr_ast.specs.declared.sql.Transaction.TheVariants as transaction_of
 use Rattle.ebr_sqlparse.specs.declared.queries.Tail.{Tail}
 use Rattle.ebr_sqlparse.specs.declared.change.Changed.{Changed}
-use Rattle.ebr_sqlparse.specs.Productions.{P, SpelledBy, reads_by, expr, name, what}
+use Rattle.ebr_sqlparse.specs.Productions.{P, SpelledBy, expr, name, what}
 
 -- ---- trees
 
@@ -69,10 +68,6 @@ item_alias = k.As ▸ made Some name ∣ alias
 -- (e | aggregate) [[AS] n]
 unfoldable pub item : P Item
 item = both item_with what item_alias
-
--- what was found of an item, with the alias that stands behind it
-abbrev pub aliased : Found ItemKind → Found Item
-aliased found = and_then found (λ what rest. and_then (reads_by item_alias rest) (λ alias end. Some (item_with what alias, end)))
 
 -- {, item}, behind the first
 unfoldable pub more_items : P (Item → List Item)

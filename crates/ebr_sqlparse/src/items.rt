@@ -7,6 +7,7 @@ ghost use Rattle.ebr_exprtree.specs.declared.expression.Expr.{out-Expr};
 ghost use Rattle.ebr_sqlparse.specs.Productions as productions;
 ghost use Rattle.ebr_sqlparse.specs.Items as spec;
 ghost use Rattle.ebr_sqlparse.specs.Statements as grammar;
+ghost use Rattle.ebr_sqlparse.specs.inside.Aliased as inside;
 
 use ebr_ast::{Aggregate, Expr, Item, ItemKind, Path, SelectList};
 use ebr_base::{CloneIn, List, Name, NoMemory, Shared};
@@ -118,7 +119,7 @@ fn item_alias(alloc: Global, tokens: &mut Tokens<'_>) -> Result<Option<Name>, Re
 
 /// `COUNT ( * )`, with the alias that stands behind it.
 fn count_of_rows(alloc: Global, tokens: &mut Tokens<'_>) -> Result<Item, ReadStop>
-    ensures { Reads (grammar.aliased (spec.read_rows tokens.old)) result tokens.new }
+    ensures { Reads (inside.aliased (spec.read_rows tokens.old)) result tokens.new }
 {
     tokens.expect(Kind::Count)?;
     tokens.expect(Kind::LeftParen)?;
@@ -152,7 +153,7 @@ fn with_alias(
     function: Option<Function>,
     tree: Shared<Expr>,
 ) -> Result<Item, ReadStop>
-    ensures { Reads (grammar.aliased (Some (spec.item_of function tree, tokens.old))) result tokens.new }
+    ensures { Reads (inside.aliased (Some (spec.item_of function tree, tokens.old))) result tokens.new }
 {
     let alias = item_alias(alloc, tokens)?;
     let what = item_of(alloc, function, tree)?;
@@ -161,7 +162,7 @@ fn with_alias(
 
 /// An expression, or the aggregate that it is, with the alias that stands behind it.
 fn computed(alloc: Global, tokens: &mut Tokens<'_>) -> Result<Item, ReadStop>
-    ensures { Reads (grammar.aliased (spec.read_plain tokens.old)) result tokens.new }
+    ensures { Reads (inside.aliased (spec.read_plain tokens.old)) result tokens.new }
 {
     let function = function_ahead(tokens);
     let tree = read_expression(alloc, tokens)?;

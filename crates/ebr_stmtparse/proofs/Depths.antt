@@ -2,7 +2,8 @@
 use Rattle.std.proofs.Common.{◌≡◌, ℕ, suc, ◌-◌, ◌<◌, List, None, ap, arith}
 use Rattle.ebr_lexer.specs.declared.token.Token.{Token}
 use Rattle.ebr_grammar.specs.Reading.{reads_within}
-use Rattle.ebr_stmtparse.specs.Statements.{some_statements, reads_at, read_within, hints, grammar, statements}
+use Rattle.ebr_stmtparse.specs.Statements.{some_statements, reads_at, hints, grammar, statements}
+use Rattle.ebr_stmtparse.specs.inside.Nests.{read_within}
 
 pub no_depth : (n : ℕ) (ts : List Token) → n ≡ 0 → read_within n ts ≡ None
 unfolding reads_within

@@ -1,3 +1,3 @@
 pub mod Statements
-pub mod Nests
 pub mod Parts
+pub mod inside

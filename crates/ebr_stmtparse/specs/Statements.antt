@@ -189,10 +189,6 @@ hints = record { begins = λ _. statement_begins; goes_on = λ _. statement_begi
 abbrev pub reads_at : ℕ → {C : Type 0} → P C → Reader C
 reads_at n g = reads hints (reads_within hints grammar n) g
 
--- The reading of statements to a depth.
-abbrev pub read_within : ℕ → Reader (List Stmt)
-read_within n = reads_within hints grammar n some_statements
-
 -- The tokens spell the tree by the production.
 abbrev pub SpelledBy : {C : Type 0} → P C → Form C
 SpelledBy g = Spells (SpellsAny grammar) g

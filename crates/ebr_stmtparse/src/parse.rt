@@ -2,6 +2,7 @@
 
 ghost use Rattle.ebr_grammar.specs.Outcome.{Reads};
 ghost use Rattle.ebr_stmtparse.specs.Statements as spec;
+ghost use Rattle.ebr_stmtparse.specs.inside.Nests as inside;
 
 use crate::grammar::{Grammar, Initial};
 use ebr_ast::{Block, Stmt};
@@ -15,7 +16,7 @@ fn nested(
     tokens: &mut Tokens<'_>,
     depth: usize,
 ) -> Result<List<Shared<Stmt>>, ReadStop>
-    ensures { Reads (spec.read_within depth tokens.old) result tokens.new }
+    ensures { Reads (inside.read_within depth tokens.old) result tokens.new }
 {
     if depth == 0 {
         return Err(ReadStop::NoTree);

@@ -4,7 +4,7 @@ ghost use Rattle.std.specs.Prelude.{◌≡◌};
 ghost use Rattle.ebr_grammar.specs.Outcome.{Reads};
 ghost use Rattle.ebr_grammar.specs.Reading.{with_first};
 ghost use Rattle.ebr_stmtparse.specs.Statements as spec;
-ghost use Rattle.ebr_stmtparse.specs.Nests.{Nests};
+ghost use Rattle.ebr_stmtparse.specs.inside.Nests.{Nests};
 
 use crate::grammar::{Grammar, begins_statement};
 use ebr_ast::{Branch, Range, Rows, Stmt};

@@ -2,7 +2,7 @@ use Rattle.std.proofs.Common.{◌≡◌, Some, ap, rules}
 use Rattle.ebr_grammar.proofs.Steps.{steps}
 use Rattle.ebr_ddlparse.specs.Base.{reading}
 use Rattle.ebr_ddlparse.specs.Tables.{key}
-use Rattle.ebr_ddlparse.specs.Definitions.{closing, closed_key}
+use Rattle.ebr_ddlparse.specs.inside.Closing.{closing, closed_key}
 use Rattle.ebr_ddlparse.proofs.tables.with_key.Goals as goal
 
 pub returns-in_err-expect : goal.returns-in_err-expect

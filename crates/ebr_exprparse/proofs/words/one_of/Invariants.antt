@@ -1,5 +1,5 @@
 use Rattle.std.proofs.Common.{◌≡◌, length}
-use Rattle.ebr_exprparse.specs.Words.{read_one}
+use Rattle.ebr_exprparse.specs.inside.Words.{read_one}
 use Rattle.ebr_exprparse.proofs.words.one_of.Given as goal
 
 abbrev pub invariant-loop-words : goal.invariant-loop-words

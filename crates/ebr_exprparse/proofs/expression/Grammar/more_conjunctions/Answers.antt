@@ -5,7 +5,8 @@ use Rattle.ebr_grammar.specs.Forms.{sees}
 use Rattle.ebr_grammar.specs.Words.{◌▸◌}
 use Rattle.ebr_grammar.proofs.Steps.{steps}
 use Rattle.ebr_grammar.proofs.Loops.{stops, ends, goes_on, fails}
-use Rattle.ebr_exprparse.specs.Expressions.{reads_at, conjoined_tree, more_conjunctions}
+use Rattle.ebr_exprparse.specs.Expressions.{conjoined_tree, more_conjunctions}
+use Rattle.ebr_exprparse.specs.inside.Reading.{reads_at}
 use Rattle.ebr_exprparse.proofs.expression.Grammar.more_conjunctions.Goals as goal
 
 pub returns-then-not-eat : goal.returns-then-not-eat

@@ -5,7 +5,8 @@ use Rattle.ebr_grammar.specs.Forms.{sees}
 use Rattle.ebr_grammar.specs.Words.{◌▸◌}
 use Rattle.ebr_grammar.proofs.Steps.{steps}
 use Rattle.ebr_grammar.proofs.Loops.{stops, ends, goes_on, fails}
-use Rattle.ebr_exprparse.specs.Expressions.{reads_at, factor, more_factors}
+use Rattle.ebr_exprparse.specs.Expressions.{factor, more_factors}
+use Rattle.ebr_exprparse.specs.inside.Reading.{reads_at}
 use Rattle.ebr_exprparse.proofs.expression.Grammar.more_factors.Goals as goal
 
 pub returns-then-not-eat : goal.returns-then-not-eat

@@ -5,7 +5,8 @@ use Rattle.ebr_grammar.specs.Forms.{sees}
 use Rattle.ebr_grammar.specs.Words.{◌▸◌}
 use Rattle.ebr_grammar.proofs.Steps.{steps}
 use Rattle.ebr_grammar.proofs.Loops.{stops, ends, goes_on, fails, from_first}
-use Rattle.ebr_exprparse.specs.Expressions.{reads_at, inner, more_items}
+use Rattle.ebr_exprparse.specs.Expressions.{inner, more_items}
+use Rattle.ebr_exprparse.specs.inside.Reading.{reads_at}
 use Rattle.ebr_exprparse.proofs.expression.Grammar.more_items.Goals as goal
 
 pub returns-then-not-eat : goal.returns-then-not-eat

@@ -2,7 +2,8 @@ use Rattle.std.proofs.Common.{◌≡◌, ◌-◌, [], ◌∷◌, length}
 use Rattle.ebr_grammar.specs.declared.kind.Kind.TheVariants as k
 use Rattle.ebr_grammar.specs.Reading.{repeat}
 use Rattle.ebr_grammar.specs.Words.{◌▸◌}
-use Rattle.ebr_exprparse.specs.Expressions.{reads_at, inner}
+use Rattle.ebr_exprparse.specs.Expressions.{inner}
+use Rattle.ebr_exprparse.specs.inside.Reading.{reads_at}
 use Rattle.ebr_exprparse.proofs.expression.Grammar.more_items.Given as goal
 
 abbrev pub invariant-loop-turn : goal.invariant-loop-turn

@@ -5,7 +5,8 @@ use Rattle.ebr_grammar.specs.Grammar.{led}
 use Rattle.ebr_grammar.specs.Forms.{sees}
 use Rattle.ebr_grammar.proofs.Steps.{steps}
 use Rattle.ebr_grammar.proofs.Loops.{stops, ends, goes_on, fails}
-use Rattle.ebr_exprparse.specs.Expressions.{reads_at, addend, more_terms}
+use Rattle.ebr_exprparse.specs.Expressions.{addend, more_terms}
+use Rattle.ebr_exprparse.specs.inside.Reading.{reads_at}
 use Rattle.ebr_exprparse.proofs.expression.Grammar.more_terms.Goals as goal
 
 pub returns-then-not-sees_any : goal.returns-then-not-sees_any

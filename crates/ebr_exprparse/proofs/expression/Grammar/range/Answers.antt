@@ -2,7 +2,8 @@ use Rattle.std.proofs.Common.{◌≡◌, ◌≢◌, Some, None, rules}
 use Rattle.std.proofs.lemmas.Result.{err_from_is_err_and}
 use Rattle.ebr_grammar.specs.declared.tokens.ReadStop.TheVariants.{NoMemory}
 use Rattle.ebr_grammar.proofs.Steps.{steps}
-use Rattle.ebr_exprparse.specs.Expressions.{range, range_end, sum, reads_at}
+use Rattle.ebr_exprparse.specs.Expressions.{range, range_end, sum}
+use Rattle.ebr_exprparse.specs.inside.Reading.{reads_at}
 use Rattle.ebr_exprparse.proofs.Ranges.{range_fails}
 use Rattle.ebr_exprparse.proofs.expression.Grammar.range.Goals as goal
 
