@@ -1,5 +1,4 @@
 pub mod Statements
 pub mod Units
 pub mod Verdict
-pub mod Reads
 pub mod inside
