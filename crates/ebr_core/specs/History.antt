@@ -1,5 +1,5 @@
 -- Histories: the asks of all sessions in one order, with their answers.
-use Rattle.std.specs.Prelude.{◌≡◌, ◌==◌, Bool, IsSome, List, [], ◌∷◌, ◌++◌, map, filter, Option, Some, None}
+use Rattle.std.specs.Prelude.{◌≡◌, ◌==◌, Bool, IsSome, List, [], ◌∷◌, map, filter, Option, Some, None}
 use Rattle.ebr_base.specs.declared.numbers.EditionNo.{EditionNo}
 use Rattle.ebr_base.specs.declared.numbers.SessionId.{SessionId}
 use Rattle.ebr_asks.specs.declared.ask.Ask.TheVariants.{Leave}
@@ -7,7 +7,6 @@ use Rattle.ebr_asks.specs.declared.answer.Answer.{Answer}
 use Rattle.ebr_asks.specs.declared.answer.Answer.TheVariants.{DiskFault, NoMemory, Stopped}
 use Rattle.ebr_asks.specs.declared.entry.Entry.{Entry}
 use Rattle.ebr_asks.specs.declared.entry.Exchange.{Exchange}
-use Rattle.ebr_record.specs.declared.record.Record.{Record}
 use Rattle.ebr_database.specs.Database.{Session, Database, session_at}
 use Rattle.ebr_core.specs.Machine.{Reply}
 
@@ -58,8 +57,3 @@ exchange x = record { ask = x.ask; answer = x.answer }
 -- what one session sees of a history
 abbrev pub Mine : List Entry → SessionId → List Exchange
 Mine history s = map exchange (filter (is_of s) history)
-
--- The records that the entries make, in order. Of one with which the engine gave up they are those that its ask makes.
-abbrev pub Records : Database → List Entry → List Record
-Records db [] = []
-Records db (x ∷ history) = (Reply db x.session x.ask).records ++ Records (next db x) history

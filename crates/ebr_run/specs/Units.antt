@@ -104,9 +104,6 @@ packaged_part v b at s = subprogram_part (part (suc at) (behind_body v b)) s
 
 -- ---- units
 
-abbrev pub tree_of : Object → UnitTree
-tree_of o = o.tree
-
 -- the tree of the visible object of a key, where it is valid
 abbrev pub if_valid : EditionView → UnitTree → Option UnitTree
 if_valid v u = if is_valid v u then Some u else None

@@ -4,10 +4,9 @@ use Rattle.std.specs.Prelude.{ℕ, ◌≡◌, Bool, true, not, ◌&&◌, ◌==�
 use Rattle.std.specs.List.{list_any, last_or}
 use Rattle.ebr_base.specs.declared.numbers.SessionId.{SessionId}
 use Rattle.ebr_base.specs.declared.row.Change.{Change}
-use Rattle.ebr_base.specs.declared.row.RowId.{RowId}
 use Rattle.ebr_base.specs.declared.row.TxId.{TxId}
 use Rattle.ebr_versions.specs.declared.table.Table.{Table}
-use Rattle.ebr_locks.specs.Locks.{Lock, same_tx, locks_of}
+use Rattle.ebr_locks.specs.Locks.{Lock, same_tx}
 use Rattle.ebr_tx.specs.declared.savepoints.Savepoint.{Savepoint}
 
 -- One transaction: its name; at how many commits it has begun, or none; its changes and its savepoints in order. A savepoint
@@ -50,10 +49,6 @@ own d t = unwrap_or (find (is_named t) d.live) (not_begun t)
 -- some transaction but this one passes
 abbrev pub some_other : TxId → (Transaction → Bool) → List Transaction → Bool
 some_other t p live = list_any (λ x. not (is_named t x) && p x) live
-
--- the rows that a transaction has locked, in order; a row that it changes it needn't lock
-abbrev pub locked : Data → TxId → List RowId
-locked d t = map (λ l. l.0) (locks_of t d.locks)
 
 abbrev pub is_of_session : SessionId → TxId → Bool
 is_of_session s t = t.session.0 == s.0
