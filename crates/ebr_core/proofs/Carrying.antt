@@ -41,7 +41,8 @@ use Rattle.ebr_core.specs.Machine.{lists_of, editions_in_use, recorded, defined_
 use Rattle.ebr_core.specs.Records.{record_of}
 use Rattle.ebr_core.specs.inside.Defined.{Defines, IsNew, with_definition_of}
 use Rattle.ebr_core.specs.inside.Defining.{Applied, Carries, HoldsSome, AnswersIn, IsMade, IsRefused, KeepsOutcome, MakesNew, Recorded}
-use Rattle.ebr_core.specs.inside.Held.{Holds, HasSession, IsReplied, Replies, IsTextOf}
+use Rattle.ebr_core.specs.Asked.{IsTextOf}
+use Rattle.ebr_core.specs.inside.Held.{Holds, HasSession, IsReplied, Replies}
 use Rattle.ebr_core.specs.inside.Tables.{with_table_of}
 use Rattle.ebr_core.proofs.HeldAgain.{holds_on}
 use Rattle.ebr_core.proofs.MadeRecords.{defines}

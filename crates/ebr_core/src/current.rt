@@ -5,7 +5,8 @@ ghost use Rattle.ebr_asks.specs.declared.answer.Answer.TheVariants.{Refused};
 ghost use Rattle.ebr_asks.specs.declared.ask.Ask.TheVariants.{Leave};
 ghost use Rattle.ebr_seats.specs.Tests.{first_tests};
 ghost use Rattle.ebr_core.specs.Machine as spec;
-ghost use Rattle.ebr_core.specs.inside.Held.{ComesWith, ForSession, IsFit, IsHeld, IsPlaced, IsPlain, Replies, RepliesGiven, answered, with_nothing};
+ghost use Rattle.ebr_core.specs.Asked.{IsFit};
+ghost use Rattle.ebr_core.specs.inside.Held.{ComesWith, ForSession, IsHeld, IsPlaced, IsPlain, Replies, RepliesGiven, answered, with_nothing};
 
 use crate::asks::{begin, end, sql, transact};
 use crate::define::ddl;

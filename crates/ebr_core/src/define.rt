@@ -20,7 +20,8 @@ ghost use Rattle.ebr_exec.specs.Places.{id_of};
 ghost use Rattle.ebr_tx.specs.Data.{IsLive, named_at};
 ghost use Rattle.ebr_seats.specs.Ends.{own_of};
 ghost use Rattle.ebr_core.specs.Machine as spec;
-ghost use Rattle.ebr_core.specs.inside.Held.{ForSession, IsHeld, IsTextOf, Replies};
+ghost use Rattle.ebr_core.specs.Asked.{IsTextOf};
+ghost use Rattle.ebr_core.specs.inside.Held.{ForSession, IsHeld, Replies};
 
 use crate::asks::commit;
 use crate::current::{Current, refusal};

@@ -17,7 +17,7 @@ use Rattle.ebr_statements.specs.declared.ready.Ready.{Ready as Held}
 use Rattle.ebr_bodies.specs.Ready.{ready_for, ready_unit}
 use Rattle.ebr_statements.specs.inside.Fits.{HasTables}
 use Rattle.ebr_statements.specs.inside.Held.{GivesReady}
-use Rattle.ebr_statements.specs.inside.Views.{IsCurrent}
+use Rattle.ebr_statements.specs.Fits.{IsCurrent}
 
 pub kept_lists : (now : Catalogue) (views : List EditionView) → IsCurrent now views → IsKept now
 kept_lists now views c = record { lists = c.lists; own_keys = c.own_keys; is = c.is }

@@ -12,7 +12,8 @@ use Rattle.ebr_base.specs.declared.row.TxId.{TxId}
 use Rattle.ebr_base.specs.declared.value.Value.{Value}
 use Rattle.ebr_cross.specs.declared.catalogue.Catalogue.{Catalogue}
 use Rattle.ebr_levels.specs.Keeps.{UnderChange}
-use Rattle.ebr_statements.specs.inside.Fits.{Covers, Remains, Spares, under_by}
+use Rattle.ebr_statements.specs.Fits.{Remains}
+use Rattle.ebr_statements.specs.inside.Fits.{Covers, Spares, under_by}
 use Rattle.ebr_statements.proofs.Naming.{covers_own, spares_around}
 use Rattle.ebr_ast.specs.declared.kinds.Origin.{Origin}
 use Rattle.ebr_ast.specs.declared.query.Query.{Query as Select}

@@ -25,9 +25,9 @@ use Rattle.ebr_levels.proofs.InsideLemmas.{inside_begins, inside_open, inside_st
 use Rattle.ebr_levels.proofs.StepLemmas.{can_still_step}
 use Rattle.ebr_seats.specs.Ends.{closed_from_top}
 use Rattle.ebr_statements.proofs.Naming.{among_itself}
-use Rattle.ebr_statements.specs.inside.Fits.{Fits, FitsOpen, Remains, RemainsOpen, Spares, StayCurrent, under_by}
+use Rattle.ebr_statements.specs.Fits.{Fits, Remains, StayCurrent, IsCurrent}
+use Rattle.ebr_statements.specs.inside.Fits.{FitsOpen, RemainsOpen, Spares, under_by}
 use Rattle.ebr_statements.specs.inside.Opened.{Stays}
-use Rattle.ebr_statements.specs.inside.Views.{IsCurrent}
 
 -- a table that is known stays so
 known_by : (x y : Data) (def : TableDef) → y.tables ≡ x.tables → IsKnown x def → IsKnown y def

@@ -17,7 +17,7 @@ use Rattle.ebr_statements.specs.declared.ready.Ready.{Ready as Held}
 use Rattle.ebr_bodies.specs.Ready.{Ready, all_ready, ready_for}
 use Rattle.ebr_statements.specs.inside.Fits.{HasTables, HaveTables}
 use Rattle.ebr_statements.specs.inside.Held.{AreServed, GiveReady, GivesReady, IsServed, ready_of}
-use Rattle.ebr_statements.specs.inside.Views.{IsCurrent}
+use Rattle.ebr_statements.specs.Fits.{IsCurrent}
 use Rattle.ebr_statements.proofs.Booking.{still_current}
 
 each_more : {A : Type 0} (P : A → Type 0) (xs : List A) (x : A) → AllByRecursion P xs → P x → AllByRecursion P (xs ++ x ∷ [])

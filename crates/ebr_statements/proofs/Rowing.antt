@@ -13,7 +13,8 @@ use Rattle.ebr_database.specs.Storable.{AllStorable}
 use Rattle.ebr_exec.specs.Places.{Under}
 use Rattle.ebr_levels.specs.Keeps.{UnderChange}
 use Rattle.ebr_levels.specs.Levels.{IsTop, Leaves}
-use Rattle.ebr_statements.specs.inside.Fits.{Remains, Spares, under_by}
+use Rattle.ebr_statements.specs.Fits.{Remains}
+use Rattle.ebr_statements.specs.inside.Fits.{Spares, under_by}
 use Rattle.ebr_statements.proofs.Fitting.{can_go_on, remains_then, spared, step_remains}
 use Rattle.ebr_exec.proofs.Fits.{as_many_as_columns}
 use Rattle.ebr_dml.specs.Steps.{CanStep, Standing}

@@ -25,10 +25,11 @@ ghost use Rattle.ebr_bodies.specs.Bodies as bodies_spec;
 ghost use Rattle.ebr_bodies.specs.Rows as rows_spec;
 ghost use Rattle.ebr_bodies.specs.Statements as spec;
 ghost use Rattle.ebr_statements.specs.inside.Answered as said;
-ghost use Rattle.ebr_statements.specs.inside.Fits.{Covers, Fits, FitsOpen, HasTables, HaveTables, Remains, RemainsOpen, Spares, under_by};
+ghost use Rattle.ebr_statements.specs.Fits.{Fits, Remains, ForViews};
+ghost use Rattle.ebr_statements.specs.inside.Fits.{Covers, FitsOpen, HasTables, HaveTables, RemainsOpen, Spares, under_by};
 ghost use Rattle.ebr_statements.specs.inside.Held.{AreServed, IsServed, ready_of};
 ghost use Rattle.ebr_statements.specs.inside.Sites.{Ends, HasPassed, IsBegun, IsBetween, doing_at, site_at, work_at};
-ghost use Rattle.ebr_statements.specs.inside.Views.{ForViews, place_at};
+ghost use Rattle.ebr_statements.specs.inside.Views.{place_at};
 
 use crate::asks::{refused, transact};
 use crate::course::{Course, begun, new_row};

@@ -23,7 +23,8 @@ ghost use Rattle.ebr_bodies.specs.Ready as spec;
 ghost use Rattle.ebr_bodies.specs.Statements as statements;
 ghost use Rattle.ebr_statements.specs.inside.Held.{GiveReady, GivesReady, IsMadeOf};
 ghost use Rattle.ebr_statements.specs.inside.Fits.{HasTables, HaveTables};
-ghost use Rattle.ebr_statements.specs.inside.Views.{ForViews, IsCurrent, place_at};
+ghost use Rattle.ebr_statements.specs.Fits.{ForViews, IsCurrent};
+ghost use Rattle.ebr_statements.specs.inside.Views.{place_at};
 
 use ebr_ast::{Direction, EditionView, Object, Op, Origin, SqlTree, Timing, Trigger, UnitTree};
 use ebr_base::{

@@ -15,7 +15,8 @@ ghost use Rattle.ebr_bodies.specs.Ready as ready;
 ghost use Rattle.ebr_bodies.specs.Statements as spec;
 ghost use Rattle.ebr_statements.specs.inside.Held.{ServesAt, Starts};
 ghost use Rattle.ebr_statements.specs.inside.Fits.{HaveTables};
-ghost use Rattle.ebr_statements.specs.inside.Views.{ForViews, IsCurrent, place_at};
+ghost use Rattle.ebr_statements.specs.Fits.{ForViews, IsCurrent};
+ghost use Rattle.ebr_statements.specs.inside.Views.{place_at};
 
 use crate::ready::{Ready, is_appliable, operation, ready_at};
 use ebr_ast::{EditionView, Op, Origin, SqlTree, Timing};

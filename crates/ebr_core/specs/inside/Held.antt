@@ -24,7 +24,6 @@ use Rattle.ebr_seats.specs.Seats.{Holds as Seated}
 use Rattle.ebr_units.specs.Living.{AreCurrent}
 use Rattle.ebr_levels.specs.Beginnings.{HasEarly}
 use Rattle.ebr_core.specs.declared.current.Current.{Current}
-pub use Rattle.ebr_core.specs.Asked.{max_text, IsTextOf, IsFit}
 use Rattle.ebr_core.specs.Machine.{lists_of}
 use Rattle.ebr_core.specs.inside.Reached.{AreReached}
 

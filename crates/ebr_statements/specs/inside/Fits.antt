@@ -12,7 +12,7 @@ use Rattle.ebr_exec.specs.Places.{Under, is_table}
 use Rattle.ebr_levels.specs.Keeps.{UnderChange}
 use Rattle.ebr_statements.specs.declared.ready.Ready.{Ready as Held}
 use Rattle.ebr_statements.specs.inside.Opened.{IsOpen, Stays}
-pub use Rattle.ebr_statements.specs.Fits.{Fits, IsFit, Remains, StayCurrent}
+use Rattle.ebr_statements.specs.Fits.{IsFit, StayCurrent}
 
 -- which tables are under change, by these statements
 abbrev pub under_by : List Under → UnderChange

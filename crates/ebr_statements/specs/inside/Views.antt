@@ -4,7 +4,6 @@ use Rattle.ebr_base.specs.declared.row.TxId.{TxId}
 use Rattle.std.specs.Prelude.{List}
 use Rattle.ebr_ast.specs.declared.kinds.Origin.{Origin}
 use Rattle.ebr_exec.specs.Places.{Place, Under}
-pub use Rattle.ebr_statements.specs.Fits.{IsCurrent, ForViews}
 
 abbrev pub place_at : EditionNo → Origin → TxId → List Under → Place
 place_at e origin t changing = record { edition = e; origin = origin; tx = t; changing = changing }

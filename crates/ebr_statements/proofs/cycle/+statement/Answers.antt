@@ -21,7 +21,8 @@ use Rattle.ebr_bodies.specs.Bodies.{body, run_of, serve}
 use Rattle.ebr_bodies.specs.Statements.{Stmt, checked_ran, tables_of, under}
 use Rattle.ebr_statements.specs.declared.course.Course.{Course}
 use Rattle.ebr_statements.specs.declared.site.Site.{Site as Standpoint}
-use Rattle.ebr_statements.specs.inside.Fits.{Fits, HasTables, HaveTables, Spares, under_by}
+use Rattle.ebr_statements.specs.Fits.{Fits}
+use Rattle.ebr_statements.specs.inside.Fits.{HasTables, HaveTables, Spares, under_by}
 use Rattle.ebr_statements.specs.inside.Held.{AreServed, IsServed, ready_of}
 use Rattle.ebr_statements.specs.inside.Sites.{doing_at, site_at, work_at}
 use Rattle.ebr_statements.specs.inside.Views.{place_at}

@@ -13,7 +13,8 @@ use Rattle.ebr_units.specs.Living.{AreCurrent}
 use Rattle.ebr_units.specs.Served.{served}
 use Rattle.ebr_bodies.specs.Bodies as spec
 use Rattle.ebr_bodies.specs.Rows as rows
-use Rattle.ebr_statements.specs.inside.Fits.{Remains, RemainsOpen, Spares, under_by}
+use Rattle.ebr_statements.specs.Fits.{Remains}
+use Rattle.ebr_statements.specs.inside.Fits.{RemainsOpen, Spares, under_by}
 use Rattle.ebr_statements.specs.inside.Held.{AreServed, IsServed, ready_of}
 use Rattle.ebr_statements.specs.inside.Sites.{IsBegun, doing_at, site_at, work_at}
 use Rattle.ebr_statements.proofs.Rowing.{Row, left_rows, total_of}
