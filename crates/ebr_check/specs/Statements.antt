@@ -4,7 +4,6 @@ use Rattle.std.specs.Prelude.{Bool, true, false, List, [], ◌∷◌, ◌++◌, 
 use Rattle.std.specs.Option.{is_some}
 use Rattle.ebr_exprtree.specs.declared.expression.Path.{Path}
 use Rattle.ebr_exprtree.specs.declared.expression.Expr.{Expr}
-use Rattle.ebr_ast.specs.declared.query.Query.{Query}
 use Rattle.ebr_ast.specs.declared.statement.Block.{Block}
 use Rattle.ebr_ast.specs.declared.statement.Branch.{Branch}
 use Rattle.ebr_ast.specs.declared.statement.Caught.{Caught}
@@ -26,7 +25,6 @@ use Rattle.ebr_ast.specs.declared.statement.Stmt.{Stmt}
 use Rattle.ebr_ast.specs.declared.statement.Stmt.TheOpen.{Stmt-F, Block-F, Branch-F, Handler-F}
 use Rattle.ebr_ast.specs.declared.statement.Stmt.TheOpen as stmt
 use Rattle.ebr_ast.specs.declared.statement.Stmt.TheFolds.{fold-Stmt, fold-Block, fold-Branch, fold-Handler}
-use Rattle.ebr_ast.specs.declared.statement.Target.TheVariants as target
 use Rattle.ebr_ast.specs.declared.unit.Head.{Head}
 use Rattle.ebr_value.specs.declared.form.Builtin.{Builtin}
 use Rattle.ebr_expr.specs.Operators.{builtin_at}

@@ -4,7 +4,6 @@
 use Rattle.std.specs.Prelude.{Bool, true, false, List, [], ◌∷◌, ◌++◌, map, filter_map, Option, Some, None, option_map, Result, Ok, Err}
 use Rattle.ebr_base.specs.declared.code.Code.{Code}
 use Rattle.ebr_base.specs.Keys.{table_named}
-use Rattle.ebr_ast.specs.declared.statement.Decl.{Decl}
 use Rattle.ebr_ast.specs.declared.unit.Direction.{Direction}
 use Rattle.ebr_ast.specs.declared.unit.Head.{Head}
 use Rattle.ebr_ast.specs.declared.unit.PackageBody.{PackageBody}

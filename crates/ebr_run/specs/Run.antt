@@ -9,7 +9,7 @@ use Rattle.ebr_asks.specs.declared.answer.Answer.{Answer}
 use Rattle.ebr_run.specs.Faults.{final_code}
 use Rattle.ebr_run.specs.Packages.{PackageState}
 use Rattle.ebr_run.specs.State as run
-use Rattle.ebr_run.specs.State.{State, Outcome, Row, ended, broken}
+use Rattle.ebr_run.specs.State.{State, Outcome, Row, broken}
 use Rattle.ebr_run.specs.Calls.{Part, Parts, entered, calls_of, fresh}
 use Rattle.ebr_run.specs.Units.{part_at, parts_of}
 

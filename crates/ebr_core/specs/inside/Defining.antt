@@ -19,7 +19,6 @@ use Rattle.ebr_database.specs.Shows.{Grew, GaveUp}
 use Rattle.ebr_database.specs.Database.{Database}
 use Rattle.ebr_units.specs.Living.{AreCurrent}
 use Rattle.ebr_core.specs.declared.current.Current.{Current}
-use Rattle.ebr_core.specs.Machine.{recorded}
 use Rattle.ebr_core.specs.Records.{record_of}
 use Rattle.ebr_core.specs.inside.Defined.{IsNew, with_definition_of}
 use Rattle.ebr_core.specs.inside.Tables.{with_table_of}
