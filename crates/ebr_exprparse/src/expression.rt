@@ -165,7 +165,7 @@ impl<F: Fn(Global, &mut Tokens<'_>, usize, Level) -> Result<Read, ReadStop>> Gra
     /// What stands behind the first argument of TRUNC, where no `/` follows it.
     fn trunc_call(&self, tokens: &mut Tokens<'_>, name: Name, first: Read) -> Result<Tree, ReadStop>
         requires { Nests self.now.depth (F.pre self.now.expr) (F.post self.now.expr) }
-        ensures { Reads (inside.kept name (with_first first (inside.reads_at self.now.depth spec.trunc_call tokens.old))) result tokens.new }
+        ensures { Reads (inside.tree_behind name (with_first first (inside.reads_at self.now.depth spec.trunc_call tokens.old))) result tokens.new }
     {
         let (tree, _) = first;
         let arguments = self.more_items(tokens, tree)?;
@@ -176,7 +176,7 @@ impl<F: Fn(Global, &mut Tokens<'_>, usize, Level) -> Result<Read, ReadStop>> Gra
     /// What stands behind the first argument of TRUNC.
     fn trunc_end(&self, tokens: &mut Tokens<'_>, name: Name, first: Read) -> Result<Tree, ReadStop>
         requires { Nests self.now.depth (F.pre self.now.expr) (F.post self.now.expr) }
-        ensures { Reads (inside.kept name (with_first first (inside.reads_at self.now.depth spec.trunc_end tokens.old))) result tokens.new }
+        ensures { Reads (inside.tree_behind name (with_first first (inside.reads_at self.now.depth spec.trunc_end tokens.old))) result tokens.new }
     {
         if tokens.eat(Kind::Slash) {
             let divisor = self.divisor(tokens)?;
@@ -189,7 +189,7 @@ impl<F: Fn(Global, &mut Tokens<'_>, usize, Level) -> Result<Read, ReadStop>> Gra
     /// What stands in the parentheses of TRUNC.
     fn trunc_arguments(&self, tokens: &mut Tokens<'_>, name: Name) -> Result<Tree, ReadStop>
         requires { Nests self.now.depth (F.pre self.now.expr) (F.post self.now.expr) }
-        ensures { Reads (inside.kept name (inside.reads_at self.now.depth spec.trunc_arguments tokens.old)) result tokens.new }
+        ensures { Reads (inside.tree_behind name (inside.reads_at self.now.depth spec.trunc_arguments tokens.old)) result tokens.new }
     {
         if tokens.eat(Kind::RightParen) {
             return shared(
@@ -204,7 +204,7 @@ impl<F: Fn(Global, &mut Tokens<'_>, usize, Level) -> Result<Read, ReadStop>> Gra
     /// What stands behind TRUNC.
     fn trunc_tail(&self, tokens: &mut Tokens<'_>, name: Name) -> Result<Tree, ReadStop>
         requires { Nests self.now.depth (F.pre self.now.expr) (F.post self.now.expr) }
-        ensures { Reads (inside.kept name (inside.reads_at self.now.depth spec.trunc_tail tokens.old)) result tokens.new }
+        ensures { Reads (inside.tree_behind name (inside.reads_at self.now.depth spec.trunc_tail tokens.old)) result tokens.new }
     {
         if tokens.eat(Kind::LeftParen) {
             self.trunc_arguments(tokens, name)

@@ -47,7 +47,7 @@ enum Look {
 fn look_at(tokens: &Tokens<'_>, at: usize, depth: usize) -> Look
     requires shallow { depth ≤ at }
     requires small { at < 18446744073709551615 }
-    ensures told { inside.told result (drop (at + 1) tokens.now) ≡ spec.closes depth (drop at tokens.now) }
+    ensures answer { inside.answer_of result (drop (at + 1) tokens.now) ≡ spec.closes depth (drop at tokens.now) }
     ensures within { inside.IsWithin result (at + 1) }
 {
     if tokens.sees_later(at, &[Kind::Range]) {

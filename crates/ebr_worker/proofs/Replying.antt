@@ -15,7 +15,7 @@ use Rattle.ebr_session.specs.Has as session
 use Rattle.ebr_session.specs.Has.{Suits}
 use Rattle.ebr_core.specs.Asked as core
 use Rattle.ebr_core.specs.Machine.{Reply}
-use Rattle.ebr_core.specs.Engine.{Answers, EngineState, Gives, HasBook, IsAnswer, book_at, database_of, entry_of, has_given_up, with_book}
+use Rattle.ebr_core.specs.Engine.{AnswersAsk, EngineState, Gives, HasBook, IsAnswer, book_at, database_of, entry_of, has_given_up, with_book}
 use Rattle.ebr_worker.specs.Ends.{AnswersLeave}
 use Rattle.ebr_worker.specs.Paced.{IsSession}
 use Rattle.ebr_worker.specs.inside.Engine.{Replies}
@@ -91,7 +91,7 @@ suits x book has = tt
 
 -- ---- the whole
 
-module _ {K : Type 0} (told : K → Keeper) (old mid : EngineState K) (s : SessionId) (q : Ask) (x : Answer) (seat : IsSession (length old.books) s) (did : Answers told old mid s q x) where
+module _ {K : Type 0} (told : K → Keeper) (old mid : EngineState K) (s : SessionId) (q : Ask) (x : Answer) (seat : IsSession (length old.books) s) (did : AnswersAsk told old mid s q x) where
   book_is : book_at mid.books s.0 ≡ did.book
   book_is = ap (λ books. book_at books s.0) did.books ∙ book_taken old.books s.0 did.book seat.first seat.last
 

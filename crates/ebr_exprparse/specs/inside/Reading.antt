@@ -11,9 +11,9 @@ use Rattle.ebr_exprparse.specs.Expressions.{P, grammar, hints}
 abbrev pub reads_at : ℕ → {C : Type 0} → P C → Reader C
 reads_at n g = reads hints (reads_within hints grammar n) g
 
--- what was found behind the name TRUNC, where it gives a tree
-abbrev pub kept : List ℕ → Found (List ℕ → Option Expr) → Found Expr
-kept first found = and_then found (λ f end. before end (f first))
+-- the tree that a name gives with what was found behind it, where it gives one
+abbrev pub tree_behind : List ℕ → Found (List ℕ → Option Expr) → Found Expr
+tree_behind name found = and_then found (λ f end. before end (f name))
 
 -- the tree that a function was to give, unless memory ran out
 abbrev pub Decides : Option Expr → Result Expr ReadStop → Type 0

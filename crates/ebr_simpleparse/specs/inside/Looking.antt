@@ -6,9 +6,9 @@ use Rattle.ebr_simpleparse.specs.declared.bounds.Look.TheVariants as look
 use Rattle.ebr_simpleparse.specs.Looking.{closes}
 
 -- what it answers, with the tokens behind
-abbrev pub told : Look → List Token → Bool
-told (look.Ends answer) ts = answer
-told (look.GoesOn depth) ts = closes depth ts
+abbrev pub answer_of : Look → List Token → Bool
+answer_of (look.Ends answer) ts = answer
+answer_of (look.GoesOn depth) ts = closes depth ts
 
 -- no more parentheses are open than this
 abbrev pub IsWithin : Look → ℕ → Type 0
