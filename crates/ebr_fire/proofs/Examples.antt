@@ -49,30 +49,30 @@ module _ (body : Block) where
     editions = record { made = made; default = edition 1 };
     entries =
         entry (trigger (codes "O") 1 1 None)
-        ∷ entry (trigger (codes "F3") 3 1 (Some direction.Forward))
-        ∷ entry (trigger (codes "F2") 2 1 (Some direction.Forward))
-        ∷ entry (trigger (codes "R2") 2 2 (Some direction.Reverse))
+        ∷ entry (trigger (codes "UP3") 3 1 (Some direction.Forward))
+        ∷ entry (trigger (codes "UP2") 2 1 (Some direction.Forward))
+        ∷ entry (trigger (codes "BACK2") 2 2 (Some direction.Reverse))
         ∷ [];
     tables = record { made = 0; living = [] };
   }
 
-  above : Fires lists (edition 1) (codes "T") op.Insert timing.Before Plain ≡ fired (codes "O") 1 ∷ fired (codes "F2") 2 ∷ fired (codes "F3") 3 ∷ []
+  above : Fires lists (edition 1) (codes "T") op.Insert timing.Before Plain ≡ fired (codes "O") 1 ∷ fired (codes "UP2") 2 ∷ fired (codes "UP3") 3 ∷ []
   unfolding in_order
   above = refl
 
-  between : Fires lists (edition 2) (codes "T") op.Insert timing.Before Plain ≡ fired (codes "O") 2 ∷ fired (codes "R2") 2 ∷ fired (codes "F3") 3 ∷ []
+  between : Fires lists (edition 2) (codes "T") op.Insert timing.Before Plain ≡ fired (codes "O") 2 ∷ fired (codes "BACK2") 2 ∷ fired (codes "UP3") 3 ∷ []
   unfolding in_order
   between = refl
 
-  below : Fires lists (edition 3) (codes "T") op.Insert timing.Before Plain ≡ fired (codes "O") 3 ∷ fired (codes "R2") 2 ∷ []
+  below : Fires lists (edition 3) (codes "T") op.Insert timing.Before Plain ≡ fired (codes "O") 3 ∷ fired (codes "BACK2") 2 ∷ []
   unfolding in_order
   below = refl
 
-  from_forward : Fires lists (edition 2) (codes "T") op.Insert timing.Before Forward ≡ fired (codes "F3") 3 ∷ []
+  from_forward : Fires lists (edition 2) (codes "T") op.Insert timing.Before Forward ≡ fired (codes "UP3") 3 ∷ []
   unfolding in_order
   from_forward = refl
 
-  from_reverse : Fires lists (edition 3) (codes "T") op.Insert timing.Before Reverse ≡ fired (codes "R2") 2 ∷ []
+  from_reverse : Fires lists (edition 3) (codes "T") op.Insert timing.Before Reverse ≡ fired (codes "BACK2") 2 ∷ []
   unfolding in_order
   from_reverse = refl
 
