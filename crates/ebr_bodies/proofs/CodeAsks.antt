@@ -23,8 +23,8 @@ use Rattle.ebr_run.specs.Scope.{body_key, declaration_in}
 use Rattle.ebr_run.specs.Expressions.{Calls}
 use Rattle.ebr_run.specs.Statements.{declare_all, guarded, meaning_of, handling_of}
 use Rattle.ebr_run.specs.Calls.{Part, Making, calls_of}
-use Rattle.ebr_run.specs.Run.{Run, Frame, Standing, seen, start, run_part}
-use Rattle.ebr_run.specs.Run.Standing.{Waiting, Returned, Raised}
+use Rattle.ebr_run.specs.Run.{Run, Frame, RunStatus, seen, start, run_part}
+use Rattle.ebr_run.specs.Run.RunStatus.{Waiting, Returned, Raised}
 use Rattle.ebr_run.specs.Units.{in_specification, in_package_body, behind_body, outside, within_subprogram, in_trigger, in_initial_part, packaged_part, valid_unit, part_at, with_specification, specification_run, body_run, making_of, stamp_in, making_with, parts_of}
 use Rattle.ebr_bodies.specs.Bodies.{if_waiting, next_ask}
 use Rattle.ebr_bodies.proofs.OfCode.{IsOfCode, IsNoneOrOfCode, AsksAsCode}
@@ -118,7 +118,7 @@ last_own : (asks : List Ask) (q : Option Ask) → IsNoneOrOfCode q → AllByRecu
 last_own [] q own h = own
 last_own (x ∷ xs) q own h = last_own xs (Some x) h.0 h.1
 
-waiting_own : (s : Standing) (q : Option Ask) → IsNoneOrOfCode q → IsNoneOrOfCode (if_waiting s q)
+waiting_own : (s : RunStatus) (q : Option Ask) → IsNoneOrOfCode q → IsNoneOrOfCode (if_waiting s q)
 waiting_own Waiting q own = own
 waiting_own Returned q own = tt
 waiting_own (Raised c) q own = tt

@@ -25,8 +25,8 @@ use Rattle.ebr_seats.specs.Ends.{closed_from_top}
 use Rattle.ebr_exec.specs.Places.{Place, Under}
 use Rattle.ebr_exec.specs.Statements.{Statements, refused}
 use Rattle.ebr_run.specs.State.{Row}
-use Rattle.ebr_run.specs.Run.{Run, Seen, Standing}
-use Rattle.ebr_run.specs.Run.Standing.{Waiting, Returned, Raised}
+use Rattle.ebr_run.specs.Run.{Run, Seen, RunStatus}
+use Rattle.ebr_run.specs.Run.RunStatus.{Waiting, Returned, Raised}
 use Rattle.ebr_bodies.specs.Ready.{Ready}
 
 -- Where a statement stands between two bodies: the steps that they have made, the bytes of lines for which there is room, and the
@@ -87,7 +87,7 @@ serve w r room q b = gives b (refused misplaced)
 
 -- ---- a run with its answers
 
-abbrev pub if_waiting : Standing → Option Ask → Option Ask
+abbrev pub if_waiting : RunStatus → Option Ask → Option Ask
 if_waiting Waiting q = q
 if_waiting s q = None
 
@@ -126,7 +126,7 @@ abbrev pub row_left : Op → Ready → List Value → Option (List Value) → Li
 row_left op.Delete r new left = new
 row_left o r new left = put r.places (unwrap_or left []) new
 
-abbrev pub ended_by : Standing → List Value → Result (List Value) Code
+abbrev pub ended_by : RunStatus → List Value → Result (List Value) Code
 ended_by Returned new = Ok new
 ended_by (Raised code) new = Err code
 ended_by Waiting new = Err (Ebr 0)

@@ -10,7 +10,7 @@ use Rattle.ebr_asks.specs.declared.ask.Ask.{Ask}
 use Rattle.ebr_asks.specs.declared.ask.Ask.TheVariants as ask
 use Rattle.ebr_asks.specs.declared.answer.Answer.{Answer}
 use Rattle.ebr_run.specs.Packages.{PackageState}
-use Rattle.ebr_run.specs.Run.{Frame, Seen, Standing, Waiting, Returned, Raised, seen}
+use Rattle.ebr_run.specs.Run.{Frame, Seen, RunStatus, Waiting, Returned, Raised, seen}
 use Rattle.ebr_code.specs.Books.{Book}
 use Rattle.ebr_code.specs.Units.{unit_code}
 use Rattle.ebr_laws.specs.Served.{HasCodeOf}
@@ -56,7 +56,7 @@ module _ (f : Course) (run : List Answer → Seen) (before : Place) (answers : L
   }
 
   -- It stands so where no answer comes that the run takes.
-  stands_so : (s : Standing) → r.standing ≡ s → (coming : List Answer) (quit : Option ℕ) → usable quit coming ≡ [] → f coming quit ≡ then_run (run_stands s r (first coming quit)) rest
+  stands_so : (s : RunStatus) → r.standing ≡ s → (coming : List Answer) (quit : Option ℕ) → usable quit coming ≡ [] → f coming quit ≡ then_run (run_stands s r (first coming quit)) rest
   stands_so s e coming quit u =
       by coming quit
       ∙ ap (λ xs. then_run (run_stands (run xs).standing (run xs) (first coming quit)) rest) (usable_after answers coming quit goes ∙ ap (λ l. answers ++ l) u ∙ append-nil answers)
@@ -99,7 +99,7 @@ module _ (f : Course) (run : List Answer → Seen) (before : Place) (answers : L
   one_more (q ∷ []) e a n = waits e q a
   one_more (q ∷ q' ∷ more) e a n = let l = ap length a ∙ length-append made (q ∷ q' ∷ more) in absurd (omega (arith, l, n, count))
 
-  by_standing : (more : List Ask) → r.asks ≡ made ++ more → (s : Standing) → r.standing ≡ s → HasTaken s (length r.asks) (length answers) → NextAt f now
+  by_standing : (more : List Ask) → r.asks ≡ made ++ more → (s : RunStatus) → r.standing ≡ s → HasTaken s (length r.asks) (length answers) → NextAt f now
   by_standing more a Waiting e t = one_more more e a t
   by_standing more a Returned e t = returns e (none_more more a t)
   by_standing more a (Raised c) e t = raises c e (none_more more a t)

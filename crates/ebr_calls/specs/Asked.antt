@@ -3,7 +3,7 @@ use Rattle.std.specs.Prelude.{ℕ, suc, ◌≡◌, ◌≤◌, List, [], ◌∷�
 use Rattle.ebr_asks.specs.declared.ask.Ask.{Ask}
 use Rattle.ebr_asks.specs.declared.ask.Ask.TheVariants as ask
 use Rattle.ebr_asks.specs.declared.answer.Answer.{Answer}
-use Rattle.ebr_run.specs.Run.{Seen, Standing, Waiting}
+use Rattle.ebr_run.specs.Run.{Seen, RunStatus, Waiting}
 
 -- An ask of a run with at most so many steps: a statement with what is left of them, or one of a transaction.
 abbrev pub IsOfRun : ℕ → Ask → Type 0
@@ -20,7 +20,7 @@ AreOfRun most [] = Unit {0}
 AreOfRun most (q ∷ asks) = IsOfRun most q × AreOfRun most asks
 
 -- It made an ask for each answer, and one more where it waits; where it has ended there may be answers left.
-abbrev pub HasTaken : Standing → ℕ → ℕ → Type 0
+abbrev pub HasTaken : RunStatus → ℕ → ℕ → Type 0
 HasTaken Waiting asks answers = asks ≡ suc answers
 HasTaken s asks answers = asks ≤ answers
 

@@ -18,7 +18,7 @@ use Rattle.ebr_asks.specs.declared.ask.Ask.TheVariants as ask
 use Rattle.ebr_asks.specs.declared.answer.Answer.{Answer}
 use Rattle.ebr_asks.specs.declared.answer.Answer.TheVariants as answer
 use Rattle.ebr_run.specs.Packages.{PackageState}
-use Rattle.ebr_run.specs.Run.{Run, Seen, Standing, Waiting, Returned, Raised}
+use Rattle.ebr_run.specs.Run.{Run, Seen, RunStatus, Waiting, Returned, Raised}
 
 -- ---- states
 
@@ -178,7 +178,7 @@ asking (q ∷ []) k σ = k [] q σ
 asking (q ∷ r ∷ asks) k σ = asking (r ∷ asks) (λ earlier. k (q ∷ earlier)) σ
 
 -- what is done where a run has ended, or waits for an answer: it waits only where the session quits, ends or has none
-abbrev pub run_stands : Standing → Seen → Step
+abbrev pub run_stands : RunStatus → Seen → Step
 run_stands Waiting r σ = asking r.asks (λ earlier q τ. asked q (λ x. printing []) (behind earlier r τ)) σ
 run_stands Returned r σ = ending false (codes "OK") (behind r.asks r σ)
 run_stands (Raised c) r σ = closing (open_behind 0 r.asks σ.coming) (ending true (code_text c)) (behind r.asks r σ)

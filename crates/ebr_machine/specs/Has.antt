@@ -5,7 +5,7 @@ use Rattle.ebr_asks.specs.declared.ask.Ask.{Ask}
 use Rattle.ebr_asks.specs.declared.answer.Answer.{Answer}
 use Rattle.ebr_run.specs.Packages.{PackageState}
 use Rattle.ebr_run.specs.Run as run
-use Rattle.ebr_run.specs.Run.{Seen, Standing, new_of, seen}
+use Rattle.ebr_run.specs.Run.{Seen, RunStatus, new_of, seen}
 use Rattle.ebr_code.specs.Books.{Book}
 use Rattle.ebr_running.specs.declared.running.Flow.TheVariants as flow
 use Rattle.ebr_running.specs.declared.running.Running.{Running}
@@ -42,11 +42,11 @@ abbrev pub IsDone : Next → Type 0
 IsDone (next.Ask q) = ⊥
 IsDone (next.Done e) = Unit {0}
 
-abbrev pub standing_of_end : End → Standing
+abbrev pub standing_of_end : End → RunStatus
 standing_of_end end.Returned = run.Returned
 standing_of_end (end.Raised c) = run.Raised c
 
-abbrev pub standing_of : Next → Standing
+abbrev pub standing_of : Next → RunStatus
 standing_of (next.Ask q) = run.Waiting
 standing_of (next.Done e) = standing_of_end e
 

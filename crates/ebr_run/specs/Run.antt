@@ -19,10 +19,10 @@ pub record Frame : Type 0 where
   pub room : ℕ
 
 -- How a run stands: it waits for an answer to its last ask, or it has ended.
-pub data Standing : Type 0 where
-  Waiting : Standing
-  Returned : Standing
-  Raised : Code → Standing
+pub data RunStatus : Type 0 where
+  Waiting : RunStatus
+  Returned : RunStatus
+  Raised : Code → RunStatus
 
 -- what is seen of a run
 pub record Seen : Type 0 where
@@ -32,9 +32,9 @@ pub record Seen : Type 0 where
   pub packages : List PackageState
   pub new : Option (List Value)
   pub room : ℕ  -- how many bytes of lines there may still be
-  pub standing : Standing
+  pub standing : RunStatus
 
-abbrev pub standing : run.End → Standing
+abbrev pub standing : run.End → RunStatus
 standing run.Waiting = Waiting
 standing (run.Raised f) = Raised (final_code f)
 standing (run.Stopped c) = Raised c
