@@ -115,9 +115,9 @@ fn check_cases(alloc: Global, name: &str, file: &str) -> Result<Checked, NoMemor
     let mut told = Bytes::new(alloc);
     let mut cases = 0u32;
     let mut wrong = 0u32;
-    let mut pieces = file.split(CASE);
-    let setup = pieces.next().unwrap_or("");
-    for case in pieces {
+    let mut parts = file.split(CASE);
+    let setup = parts.next().unwrap_or("");
+    for case in parts {
         cases = cases.saturating_add(1);
         if !is_right(alloc, setup, case, &mut told)? {
             wrong = wrong.saturating_add(1);
