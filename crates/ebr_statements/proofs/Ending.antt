@@ -41,7 +41,7 @@ use Rattle.ebr_exec.specs.Shows.{Runs}
 use Rattle.ebr_exec.specs.Statements.{Statements, query_ran, refused}
 use Rattle.ebr_exec.specs.Statements as exec
 use Rattle.ebr_statements.specs.declared.site.Site.{Site as Standpoint}
-use Rattle.ebr_statements.specs.declared.start.Start.{Start as Begun}
+use Rattle.ebr_statements.specs.declared.start.Start.{Start as CodeStart}
 use Rattle.ebr_statements.specs.declared.tally.Tally.{Tally}
 use Rattle.ebr_bodies.specs.Bodies.{Doing}
 use Rattle.ebr_bodies.specs.Ready.{operation}
@@ -163,7 +163,7 @@ module _ (lists : Lists) (v : EditionView) (origin : Origin) (w : Standpoint) (c
   same_site : site_of deeper_ones (names_of lists) place s w.left ≡ site_at (names_of lists) w
   same_site = ap (λ (c : List Under). site_at (names_of lists) (record w { changing = c })) (ap (λ y. changing ++ map (spec.under w.t) (tables_of y s)) (sym seen) ∙ sym split)
 
-  pub change_begins : (it : Begun) → Starts (View lists) (operation s) (Ok it) (started_with (names_of lists) place s binds x)
+  pub change_begins : (it : CodeStart) → Starts (View lists) (operation s) (Ok it) (started_with (names_of lists) place s binds x)
       → begun_change ≡ rows_of (site_at (names_of lists) w) (work_at it.rows it.work) it.rows.rest σ
   change_begins it h =
       let same_work : work_of s h.0 ≡ work_at it.rows it.work =

@@ -1,9 +1,9 @@
-mod Alone
 mod Ending
 mod First
 mod Histories
 mod Outputs
 mod Rehearsing
 mod Replying
+mod RunAlone
 mod Running
 mod Turns

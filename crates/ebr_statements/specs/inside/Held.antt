@@ -12,7 +12,7 @@ use Rattle.ebr_ast.specs.declared.view.EditionView.{EditionView}
 use Rattle.ebr_sqlcheck.specs.Checked.{on}
 use Rattle.ebr_code.specs.Units.{unit_code}
 use Rattle.ebr_statements.specs.declared.ready.Ready.{Ready as Held}
-use Rattle.ebr_statements.specs.declared.start.Start.{Start as Begun}
+use Rattle.ebr_statements.specs.declared.start.Start.{Start as CodeStart}
 use Rattle.ebr_statements.specs.declared.start.Work.{Work as Triggers}
 use Rattle.ebr_bodies.specs.Ready.{Ready, ready_unit}
 use Rattle.ebr_bodies.specs.Statements.{Start}
@@ -61,7 +61,7 @@ ServesAt view o (Err (Raised code)) before after = on (λ b. after) before ≡ E
 ServesAt view o (Err NoMemory) before after = Unit {0}
 
 -- a change that starts, or the code
-abbrev pub Starts : (EditionNo → EditionView) → Op → Result Begun Stop → Result Start Code → Type 0
+abbrev pub Starts : (EditionNo → EditionView) → Op → Result CodeStart Stop → Result Start Code → Type 0
 Starts view o (Ok b) defined = (k : Start) × (defined ≡ Ok k) × (k.standing ≡ b.rows) × Serves view o b.work k.before k.after
 Starts view o (Err (Raised code)) defined = defined ≡ Err code
 Starts view o (Err NoMemory) defined = Unit {0}

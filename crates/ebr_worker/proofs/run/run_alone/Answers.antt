@@ -3,7 +3,7 @@ use Rattle.ebr_session.specs.Has.{Progress}
 use Rattle.ebr_core.specs.Engine.{EngineState}
 use Rattle.ebr_worker.specs.Work.{Work}
 use Rattle.ebr_worker.specs.inside.Memory.{Kept, told}
-use Rattle.ebr_worker.proofs.Alone.{alone_few, history_alone, ran_alone, works_alone}
+use Rattle.ebr_worker.proofs.RunAlone.{alone_few, history_alone, ran_alone, works_alone}
 use Rattle.ebr_worker.proofs.run.run_alone.Goals as goal
 
 pub run_out-requires-clause-works : goal.run_out-requires-clause-works

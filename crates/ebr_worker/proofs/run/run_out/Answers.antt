@@ -1,4 +1,4 @@
-use Rattle.ebr_worker.proofs.Alone.{alone_first, alone_turned, runs_on}
+use Rattle.ebr_worker.proofs.RunAlone.{alone_first, alone_turned, runs_on}
 use Rattle.ebr_worker.proofs.Rehearsing.{fewer_turned}
 use Rattle.ebr_worker.proofs.run.run_out.Goals as goal
 
