@@ -4,7 +4,7 @@ ghost use Rattle.ebr_grammar.specs.Outcome.{Reads};
 ghost use Rattle.ebr_grammar.specs.Reading.{with_first};
 ghost use Rattle.ebr_ddlparse.specs.Definitions as spec;
 
-use crate::types::declared_type;
+use crate::types::read_declared_type;
 use ebr_ast::Definition;
 use ebr_base::Name;
 use ebr_grammar::{Kind, ReadStop, Tokens, ended};
@@ -25,7 +25,7 @@ fn new_column(alloc: Global, tokens: &mut Tokens<'_>, table: Name) -> Result<Def
     ensures { Reads (with_first table (spec.reads_by spec.new_column tokens.old)) result tokens.new }
 {
     let column = tokens.name(alloc)?;
-    let ty = declared_type(alloc, tokens)?;
+    let ty = read_declared_type(alloc, tokens)?;
     Ok(Definition::AddColumn { table, column, ty })
 }
 
@@ -81,7 +81,7 @@ fn alter_trigger(alloc: Global, tokens: &mut Tokens<'_>) -> Result<Definition, R
 }
 
 /// What stands behind ALTER.
-pub fn alter(alloc: Global, tokens: &mut Tokens<'_>) -> Result<Definition, ReadStop>
+pub fn read_alter(alloc: Global, tokens: &mut Tokens<'_>) -> Result<Definition, ReadStop>
     ensures { Reads (spec.reads_by spec.alter tokens.old) result tokens.new }
 {
     if tokens.eat(Kind::Database) {

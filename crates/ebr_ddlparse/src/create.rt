@@ -3,8 +3,8 @@
 ghost use Rattle.ebr_grammar.specs.Outcome.{Reads};
 ghost use Rattle.ebr_ddlparse.specs.Definitions as spec;
 
-use crate::tables::closed_items;
-use crate::views::editioning_view;
+use crate::tables::read_closed_items;
+use crate::views::read_view;
 use ebr_ast::{Definition, UnitTree};
 use ebr_base::Name;
 use ebr_grammar::{Kind, ReadStop, Tokens};
@@ -37,7 +37,7 @@ fn create_table(alloc: Global, tokens: &mut Tokens<'_>) -> Result<Definition, Re
 {
     let name = tokens.name(alloc)?;
     tokens.expect(Kind::LeftParen)?;
-    let items = closed_items(alloc, tokens)?;
+    let items = read_closed_items(alloc, tokens)?;
     let (columns, key) = items;
     Ok(Definition::CreateTable { name, columns, key })
 }
@@ -49,7 +49,7 @@ fn create_view(
 ) -> Result<Definition, ReadStop>
     ensures { Reads (spec.reads_by (spec.create_view replace) tokens.old) result tokens.new }
 {
-    let view = editioning_view(alloc, tokens)?;
+    let view = read_view(alloc, tokens)?;
     Ok(Definition::CreateObject {
         replace,
         unit: UnitTree::View(view),
@@ -69,7 +69,7 @@ fn create_object(
 }
 
 /// What stands behind CREATE.
-pub fn create(alloc: Global, tokens: &mut Tokens<'_>) -> Result<Definition, ReadStop>
+pub fn read_create(alloc: Global, tokens: &mut Tokens<'_>) -> Result<Definition, ReadStop>
     ensures { Reads (spec.reads_by spec.create tokens.old) result tokens.new }
 {
     if tokens.eat(Kind::Edition) {

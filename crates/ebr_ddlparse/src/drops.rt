@@ -64,7 +64,7 @@ fn drop_package(alloc: Global, tokens: &mut Tokens<'_>) -> Result<Definition, Re
 }
 
 /// What stands behind DROP.
-pub fn dropped(alloc: Global, tokens: &mut Tokens<'_>) -> Result<Definition, ReadStop>
+pub fn read_drop(alloc: Global, tokens: &mut Tokens<'_>) -> Result<Definition, ReadStop>
     ensures { Reads (spec.reads_by spec.dropped tokens.old) result tokens.new }
 {
     if tokens.eat(Kind::Edition) {

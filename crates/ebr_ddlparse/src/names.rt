@@ -39,7 +39,7 @@ fn names(alloc: Global, tokens: &mut Tokens<'_>) -> Result<List<Name>, ReadStop>
 }
 
 /// Names up to the closing parenthesis.
-pub fn closed_names(alloc: Global, tokens: &mut Tokens<'_>) -> Result<List<Name>, ReadStop>
+pub fn read_closed_names(alloc: Global, tokens: &mut Tokens<'_>) -> Result<List<Name>, ReadStop>
     ensures { Reads (spec.reading spec.closed_names tokens.old) result tokens.new }
 {
     let found = names(alloc, tokens)?;

@@ -7,11 +7,11 @@ ghost use Rattle.ebr_ddlparse.specs.Types.{type_reader};
 ghost use Rattle.ebr_ddlparse.specs.Views.{view_reader};
 ghost use Rattle.ebr_ddlparse.specs.Definitions as spec;
 
-use crate::alter::alter;
-use crate::create::create;
-use crate::drops::dropped;
-use crate::types::declared_type;
-use crate::views::editioning_view;
+use crate::alter::read_alter;
+use crate::create::read_create;
+use crate::drops::read_drop;
+use crate::types::read_declared_type;
+use crate::views::read_view;
 use ebr_ast::{DeclaredType, Definition, EditioningView};
 use ebr_base::{NoMemory, Shared};
 use ebr_grammar::{Kind, ReadStop, Tokens, whole};
@@ -23,7 +23,7 @@ use std::alloc::Global;
 pub fn read_type(alloc: Global, tokens: &mut Tokens<'_>) -> Result<DeclaredType, ReadStop>
     ensures { Reads (type_reader tokens.old) result tokens.new }
 {
-    declared_type(alloc, tokens)
+    read_declared_type(alloc, tokens)
 }
 
 /// Reads an editioning view from the word EDITIONING on, for the readers of CREATE.
@@ -34,19 +34,19 @@ pub fn read_editioning_view(
 ) -> Result<Shared<EditioningView>, ReadStop>
     ensures { Reads (view_reader tokens.old) result tokens.new }
 {
-    editioning_view(alloc, tokens)
+    read_view(alloc, tokens)
 }
 
 fn read_definition(alloc: Global, tokens: &mut Tokens<'_>) -> Result<Definition, ReadStop>
     ensures { Reads (spec.reads_by spec.definition tokens.old) result tokens.new }
 {
     if tokens.eat(Kind::Create) {
-        create(alloc, tokens)
+        read_create(alloc, tokens)
     } else if tokens.eat(Kind::Alter) {
-        alter(alloc, tokens)
+        read_alter(alloc, tokens)
     } else {
         tokens.expect(Kind::Drop)?;
-        dropped(alloc, tokens)
+        read_drop(alloc, tokens)
     }
 }
 

@@ -8,8 +8,8 @@ ghost use Rattle.ebr_ddlparse.specs.Tables as spec;
 ghost use Rattle.ebr_ddlparse.specs.Definitions as whole;
 ghost use Rattle.ebr_ddlparse.specs.inside.Closing as inside;
 
-use crate::names::closed_names;
-use crate::types::declared_type;
+use crate::names::read_closed_names;
+use crate::types::read_declared_type;
 use ebr_ast::{ColumnConstraint, ColumnTree};
 use ebr_base::{List, Name};
 use ebr_grammar::{Kind, ReadStop, Tokens};
@@ -46,7 +46,7 @@ fn constraints(alloc: Global, tokens: &mut Tokens<'_>) -> Result<List<ColumnCons
 fn column_rest(alloc: Global, tokens: &mut Tokens<'_>, name: Name) -> Result<ColumnTree, ReadStop>
     ensures { Reads (with_first name (base.reading spec.column_rest tokens.old)) result tokens.new }
 {
-    let ty = declared_type(alloc, tokens)?;
+    let ty = read_declared_type(alloc, tokens)?;
     let constraints = constraints(alloc, tokens)?;
     Ok(ColumnTree {
         name,
@@ -87,7 +87,7 @@ fn key(alloc: Global, tokens: &mut Tokens<'_>) -> Result<List<Name>, ReadStop>
     ensures { Reads (base.reading spec.key tokens.old) result tokens.new }
 {
     key_head(alloc, tokens)?;
-    closed_names(alloc, tokens)
+    read_closed_names(alloc, tokens)
 }
 
 /// Whether PRIMARY KEY ( stands behind so many tokens.
@@ -157,7 +157,7 @@ fn more_entries(
 }
 
 /// A table's columns and its key, which is empty where there is none, up to the closing parenthesis.
-pub fn closed_items(
+pub fn read_closed_items(
     alloc: Global,
     tokens: &mut Tokens<'_>,
 ) -> Result<(List<ColumnTree>, List<Name>), ReadStop>

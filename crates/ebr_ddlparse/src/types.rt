@@ -128,7 +128,7 @@ fn of_column(alloc: Global, tokens: &mut Tokens<'_>, table: Name) -> Result<Decl
     column_of(alloc, tokens, table)
 }
 
-pub fn declared_type(alloc: Global, tokens: &mut Tokens<'_>) -> Result<DeclaredType, ReadStop>
+pub fn read_declared_type(alloc: Global, tokens: &mut Tokens<'_>) -> Result<DeclaredType, ReadStop>
     ensures { Reads (base.reading spec.declared_type tokens.old) result tokens.new }
 {
     if tokens.sees(Kind::Number) {

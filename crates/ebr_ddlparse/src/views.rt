@@ -6,7 +6,7 @@ ghost use Rattle.ebr_grammar.specs.Reading.{with_first};
 ghost use Rattle.ebr_ddlparse.specs.Base as base;
 ghost use Rattle.ebr_ddlparse.specs.Views as spec;
 
-use crate::names::closed_names;
+use crate::names::read_closed_names;
 use ebr_ast::{EditioningView, ViewItem};
 use ebr_base::{List, Name, Shared};
 use ebr_grammar::{Kind, ReadStop, Tokens, ended, shared};
@@ -81,7 +81,7 @@ fn view_names(alloc: Global, tokens: &mut Tokens<'_>) -> Result<List<Name>, Read
     ensures { Reads (base.reading spec.view_names tokens.old) result tokens.new }
 {
     if tokens.eat(Kind::LeftParen) {
-        closed_names(alloc, tokens)
+        read_closed_names(alloc, tokens)
     } else {
         Ok(List::new(alloc))
     }
@@ -113,10 +113,7 @@ fn view_of(head: (Name, List<Name>), body: (List<ViewItem>, Name)) -> Editioning
 }
 
 /// A view, from EDITIONING on.
-pub fn editioning_view(
-    alloc: Global,
-    tokens: &mut Tokens<'_>,
-) -> Result<Shared<EditioningView>, ReadStop>
+pub fn read_view(alloc: Global, tokens: &mut Tokens<'_>) -> Result<Shared<EditioningView>, ReadStop>
     ensures { Reads (base.reading spec.editioning_view tokens.old) result tokens.new }
 {
     let head = view_head(alloc, tokens)?;

@@ -11,7 +11,7 @@ use crate::trees::{
     Read, Tree, between, compared, conjoined, disjoined, like, name_or_call, negated, path,
     product, quotient, summed, tree_of,
 };
-use crate::words::one_of;
+use crate::words::read_one_of;
 use ebr_base::{List, Name, Shared};
 use ebr_exprtree::{Addend, AdditiveOperator, Attribute, Comparison, Expr, Op, RowImage};
 use ebr_grammar::{Kind, ReadStop, Tokens, ended, shared};
@@ -117,7 +117,7 @@ impl<F: Fn(Global, &mut Tokens<'_>, usize, Level) -> Result<Read, ReadStop>> Gra
         requires { Nests self.now.depth (F.pre self.now.expr) (F.post self.now.expr) }
         ensures { Reads (inside.reads_at self.now.depth spec.attribute tokens.old) result tokens.new }
     {
-        one_of(
+        read_one_of(
             tokens,
             &[
                 (Kind::Found, Attribute::Found),
@@ -134,7 +134,7 @@ impl<F: Fn(Global, &mut Tokens<'_>, usize, Level) -> Result<Read, ReadStop>> Gra
         requires { Nests self.now.depth (F.pre self.now.expr) (F.post self.now.expr) }
         ensures { Reads (inside.reads_at self.now.depth spec.statement_attribute tokens.old) result tokens.new }
     {
-        one_of(
+        read_one_of(
             tokens,
             &[
                 (Kind::Found, Attribute::Found),
@@ -248,7 +248,7 @@ impl<F: Fn(Global, &mut Tokens<'_>, usize, Level) -> Result<Read, ReadStop>> Gra
         requires { Nests self.now.depth (F.pre self.now.expr) (F.post self.now.expr) }
         ensures { Reads (inside.reads_at self.now.depth spec.row_image tokens.old) result tokens.new }
     {
-        one_of(
+        read_one_of(
             tokens,
             &[(Kind::New, RowImage::New), (Kind::Old, RowImage::Old)],
         )
@@ -381,7 +381,7 @@ impl<F: Fn(Global, &mut Tokens<'_>, usize, Level) -> Result<Read, ReadStop>> Gra
         requires { Nests self.now.depth (F.pre self.now.expr) (F.post self.now.expr) }
         ensures { Reads (inside.reads_at self.now.depth spec.operator tokens.old) result tokens.new }
     {
-        one_of(
+        read_one_of(
             tokens,
             &[
                 (Kind::Plus, AdditiveOperator::Add),
@@ -518,7 +518,7 @@ impl<F: Fn(Global, &mut Tokens<'_>, usize, Level) -> Result<Read, ReadStop>> Gra
         requires { Nests self.now.depth (F.pre self.now.expr) (F.post self.now.expr) }
         ensures { Reads (inside.reads_at self.now.depth spec.sign tokens.old) result tokens.new }
     {
-        one_of(
+        read_one_of(
             tokens,
             &[
                 (Kind::Equal, Comparison::Equal),
@@ -636,7 +636,7 @@ impl<F: Fn(Global, &mut Tokens<'_>, usize, Level) -> Result<Read, ReadStop>> Gra
         Ok(found)
     }
 
-    pub fn disjunction(&self, tokens: &mut Tokens<'_>) -> Result<Read, ReadStop>
+    pub fn read_disjunction(&self, tokens: &mut Tokens<'_>) -> Result<Read, ReadStop>
         requires { Nests self.now.depth (F.pre self.now.expr) (F.post self.now.expr) }
         ensures { Reads (inside.reads_at self.now.depth spec.disjunction tokens.old) result tokens.new }
     {
@@ -646,7 +646,7 @@ impl<F: Fn(Global, &mut Tokens<'_>, usize, Level) -> Result<Read, ReadStop>> Gra
     }
 
     /// A sum where it stands alone.
-    pub fn sum_alone(&self, tokens: &mut Tokens<'_>) -> Result<Read, ReadStop>
+    pub fn read_sum_alone(&self, tokens: &mut Tokens<'_>) -> Result<Read, ReadStop>
         requires { Nests self.now.depth (F.pre self.now.expr) (F.post self.now.expr) }
         ensures { Reads (inside.reads_at self.now.depth spec.sum_alone tokens.old) result tokens.new }
     {

@@ -31,8 +31,8 @@ fn nested(
         expr: nested,
     };
     match level {
-        Level::Whole => grammar.disjunction(tokens),
-        Level::Sum => grammar.sum_alone(tokens),
+        Level::Whole => grammar.read_disjunction(tokens),
+        Level::Sum => grammar.read_sum_alone(tokens),
     }
 }
 

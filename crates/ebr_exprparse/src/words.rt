@@ -7,7 +7,7 @@ use ebr_grammar::{Kind, ReadStop, Tokens};
 
 /// The value of the first of these words that stands there, which is then read.
 #[tactic(auto, using(crate::proofs::Found::seen, crate::proofs::Found::unseen))]
-pub fn one_of<T: Copy>(tokens: &mut Tokens<'_>, mut words: &[(Kind, T)]) -> Result<T, ReadStop>
+pub fn read_one_of<T: Copy>(tokens: &mut Tokens<'_>, mut words: &[(Kind, T)]) -> Result<T, ReadStop>
     ensures { Reads (spec.read_one words.entry.now tokens.old) result tokens.new }
 {
     while let [first, rest @ ..] = words {

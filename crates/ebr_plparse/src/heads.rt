@@ -5,8 +5,8 @@ ghost use Rattle.ebr_grammar.specs.Outcome.{Reads};
 ghost use Rattle.ebr_plparse.specs.Productions.{reads_by};
 ghost use Rattle.ebr_plparse.specs.Heads as grammar;
 
-use crate::parameters::closed_parameters;
-use crate::types::parameter_type;
+use crate::parameters::read_closed_parameters;
+use crate::types::read_parameter_type;
 use ebr_ast::{Head, Parameter, ParameterType};
 use ebr_base::{List, Name};
 use ebr_grammar::{Kind, ReadStop, Tokens};
@@ -17,7 +17,7 @@ fn maybe_parameters(alloc: Global, tokens: &mut Tokens<'_>) -> Result<List<Param
     ensures { Reads (reads_by grammar.maybe_parameters tokens.old) result tokens.new }
 {
     if tokens.eat(Kind::LeftParen) {
-        closed_parameters(alloc, tokens)
+        read_closed_parameters(alloc, tokens)
     } else {
         Ok(List::new(alloc))
     }
@@ -58,12 +58,12 @@ fn function_head(alloc: Global, tokens: &mut Tokens<'_>) -> Result<Head, ReadSto
 {
     let signature = signature(alloc, tokens)?;
     tokens.expect(Kind::Return)?;
-    let ty = parameter_type(alloc, tokens)?;
+    let ty = read_parameter_type(alloc, tokens)?;
     Ok(head_of(signature, Some(ty)))
 }
 
 /// The head of a procedure or a function.
-pub fn head(alloc: Global, tokens: &mut Tokens<'_>) -> Result<Head, ReadStop>
+pub fn read_head(alloc: Global, tokens: &mut Tokens<'_>) -> Result<Head, ReadStop>
     ensures { Reads (reads_by grammar.head tokens.old) result tokens.new }
 {
     if tokens.eat(Kind::Procedure) {

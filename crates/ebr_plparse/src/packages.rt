@@ -9,7 +9,7 @@ ghost use Rattle.ebr_plparse.specs.Productions as productions;
 ghost use Rattle.ebr_plparse.specs.Productions.{reads_by};
 ghost use Rattle.ebr_plparse.specs.Packages as grammar;
 
-use crate::heads::head;
+use crate::heads::read_head;
 use ebr_ast::{
     Block, Decl, PackageBody, PackageItem, PackageItems, Subprogram, Subprograms, UnitTree,
 };
@@ -49,13 +49,13 @@ fn given_body(alloc: Global, tokens: &mut Tokens<'_>) -> Result<Block, ReadStop>
 fn subprogram(alloc: Global, tokens: &mut Tokens<'_>) -> Result<Subprogram, ReadStop>
     ensures { Reads (reads_by grammar.subprogram tokens.old) result tokens.new }
 {
-    let head = head(alloc, tokens)?;
+    let head = read_head(alloc, tokens)?;
     let body = given_body(alloc, tokens)?;
     Ok(Subprogram { head, body })
 }
 
 /// A subprogram with its body, behind its pointer.
-pub fn shared_subprogram(
+pub fn read_shared_subprogram(
     alloc: Global,
     tokens: &mut Tokens<'_>,
 ) -> Result<Shared<Subprogram>, ReadStop>
@@ -93,7 +93,7 @@ fn package_item(alloc: Global, tokens: &mut Tokens<'_>) -> Result<PackageItem, R
     ensures { Reads (reads_by grammar.package_item tokens.old) result tokens.new }
 {
     if tokens.sees_any(&[Kind::Procedure, Kind::Function]) {
-        let head = head(alloc, tokens)?;
+        let head = read_head(alloc, tokens)?;
         tokens.expect(Kind::Semicolon)?;
         Ok(PackageItem::Head(head))
     } else {
@@ -250,7 +250,7 @@ fn behind_body(alloc: Global, tokens: &mut Tokens<'_>, body: Name) -> Result<Uni
 }
 
 /// What stands behind PACKAGE.
-pub fn any_package(alloc: Global, tokens: &mut Tokens<'_>) -> Result<UnitTree, ReadStop>
+pub fn read_any_package(alloc: Global, tokens: &mut Tokens<'_>) -> Result<UnitTree, ReadStop>
     ensures { Reads (reads_by grammar.any_package tokens.old) result tokens.new }
 {
     if tokens.sees(Kind::Body) {

@@ -5,7 +5,7 @@ ghost use Rattle.ebr_grammar.specs.Reading.{with_first};
 ghost use Rattle.ebr_plparse.specs.Productions.{reads_by};
 ghost use Rattle.ebr_plparse.specs.Heads as grammar;
 
-use crate::types::{column_of, other_type, parameter_type};
+use crate::types::{read_column_of, read_other_type, read_parameter_type};
 use ebr_ast::{Mode, Parameter, ParameterType};
 use ebr_base::{List, Name};
 use ebr_grammar::{Kind, ReadStop, Tokens};
@@ -22,10 +22,10 @@ fn behind_out(
     ensures { Reads (with_first out (reads_by (grammar.behind_out before with_out) tokens.old)) result tokens.new }
 {
     if tokens.eat(Kind::Dot) {
-        let column = column_of(alloc, tokens)?;
+        let column = read_column_of(alloc, tokens)?;
         Ok((before, ParameterType::OfColumn(out, column)))
     } else {
-        let ty = parameter_type(alloc, tokens)?;
+        let ty = read_parameter_type(alloc, tokens)?;
         Ok((Some(with_out), ty))
     }
 }
@@ -41,7 +41,7 @@ fn behind_in(
         let out = tokens.name_among(alloc, &[Kind::Out])?;
         behind_out(alloc, tokens, out, Some(Mode::In), Mode::InOut)
     } else {
-        let ty = other_type(alloc, tokens)?;
+        let ty = read_other_type(alloc, tokens)?;
         Ok((Some(Mode::In), ty))
     }
 }
@@ -59,7 +59,7 @@ fn passing(
         let out = tokens.name_among(alloc, &[Kind::Out])?;
         behind_out(alloc, tokens, out, None, Mode::Out)
     } else {
-        let ty = other_type(alloc, tokens)?;
+        let ty = read_other_type(alloc, tokens)?;
         Ok((None, ty))
     }
 }
@@ -101,7 +101,7 @@ fn parameters(alloc: Global, tokens: &mut Tokens<'_>) -> Result<List<Parameter>,
 }
 
 /// Parameters up to the closing parenthesis.
-pub fn closed_parameters(
+pub fn read_closed_parameters(
     alloc: Global,
     tokens: &mut Tokens<'_>,
 ) -> Result<List<Parameter>, ReadStop>

@@ -180,7 +180,7 @@ fn trigger_rest(
 }
 
 /// What stands behind TRIGGER.
-pub fn trigger(alloc: Global, tokens: &mut Tokens<'_>) -> Result<Shared<Trigger>, ReadStop>
+pub fn read_trigger(alloc: Global, tokens: &mut Tokens<'_>) -> Result<Shared<Trigger>, ReadStop>
     ensures { Reads (reads_by grammar.trigger tokens.old) result tokens.new }
 {
     let name = tokens.name(alloc)?;

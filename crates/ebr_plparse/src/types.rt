@@ -11,7 +11,7 @@ use ebr_grammar::{Kind, ReadStop, Tokens};
 use std::alloc::Global;
 
 /// What stands behind a table's name and the dot.
-pub fn column_of(alloc: Global, tokens: &mut Tokens<'_>) -> Result<Name, ReadStop>
+pub fn read_column_of(alloc: Global, tokens: &mut Tokens<'_>) -> Result<Name, ReadStop>
     ensures { Reads (reads_by grammar.column_of tokens.old) result tokens.new }
 {
     let column = tokens.name(alloc)?;
@@ -25,7 +25,7 @@ fn of_column(alloc: Global, tokens: &mut Tokens<'_>, table: Name) -> Result<Para
     ensures { Reads (with_first table (reads_by grammar.of_column tokens.old)) result tokens.new }
 {
     tokens.expect(Kind::Dot)?;
-    let column = column_of(alloc, tokens)?;
+    let column = read_column_of(alloc, tokens)?;
     Ok(ParameterType::OfColumn(table, column))
 }
 
@@ -39,7 +39,7 @@ fn word_type(
     ensures { Reads (with_first word (reads_by (grammar.word_type ty) tokens.old)) result tokens.new }
 {
     if tokens.eat(Kind::Dot) {
-        let column = column_of(alloc, tokens)?;
+        let column = read_column_of(alloc, tokens)?;
         Ok(ParameterType::OfColumn(word, column))
     } else {
         Ok(ty)
@@ -47,7 +47,7 @@ fn word_type(
 }
 
 /// A type, but not of a column of the table OUT.
-pub fn other_type(alloc: Global, tokens: &mut Tokens<'_>) -> Result<ParameterType, ReadStop>
+pub fn read_other_type(alloc: Global, tokens: &mut Tokens<'_>) -> Result<ParameterType, ReadStop>
     ensures { Reads (reads_by grammar.other_type tokens.old) result tokens.new }
 {
     if tokens.sees(Kind::Number) {
@@ -77,13 +77,16 @@ pub fn other_type(alloc: Global, tokens: &mut Tokens<'_>) -> Result<ParameterTyp
     }
 }
 
-pub fn parameter_type(alloc: Global, tokens: &mut Tokens<'_>) -> Result<ParameterType, ReadStop>
+pub fn read_parameter_type(
+    alloc: Global,
+    tokens: &mut Tokens<'_>,
+) -> Result<ParameterType, ReadStop>
     ensures { Reads (reads_by grammar.parameter_type tokens.old) result tokens.new }
 {
     if tokens.sees(Kind::Out) {
         let table = tokens.name_among(alloc, &[Kind::Out])?;
         of_column(alloc, tokens, table)
     } else {
-        other_type(alloc, tokens)
+        read_other_type(alloc, tokens)
     }
 }

@@ -5,8 +5,8 @@ ghost use Rattle.ebr_grammar.specs.Outcome.{Reads};
 ghost use Rattle.ebr_plparse.specs.Productions.{reads_by};
 ghost use Rattle.ebr_plparse.specs.Units as grammar;
 
-use crate::packages::{any_package, shared_subprogram};
-use crate::triggers::trigger;
+use crate::packages::{read_any_package, read_shared_subprogram};
+use crate::triggers::read_trigger;
 use ebr_ast::{Block, Definition, Expr, Path, Stmt, UnitTree};
 use ebr_base::{List, NoMemory, Shared};
 use ebr_ddlparse::read_editioning_view;
@@ -52,7 +52,7 @@ fn block_or_call(alloc: Global, tokens: &mut Tokens<'_>) -> Result<Block, ReadSt
 }
 
 /// A block, or a CALL, which means the block that holds this one call.
-pub fn any_block(alloc: Global, tokens: &mut Tokens<'_>) -> Result<Shared<Block>, ReadStop>
+pub fn read_any_block(alloc: Global, tokens: &mut Tokens<'_>) -> Result<Shared<Block>, ReadStop>
     ensures { Reads (reads_by grammar.block tokens.old) result tokens.new }
 {
     let block = block_or_call(alloc, tokens)?;
@@ -64,22 +64,22 @@ fn stored(alloc: Global, tokens: &mut Tokens<'_>) -> Result<UnitTree, ReadStop>
     ensures { Reads (reads_by grammar.stored tokens.old) result tokens.new }
 {
     if tokens.sees_any(&[Kind::Procedure, Kind::Function]) {
-        Ok(UnitTree::Subprogram(shared_subprogram(alloc, tokens)?))
+        Ok(UnitTree::Subprogram(read_shared_subprogram(alloc, tokens)?))
     } else if tokens.eat(Kind::Package) {
-        any_package(alloc, tokens)
+        read_any_package(alloc, tokens)
     } else if tokens.eat(Kind::Trigger) {
-        Ok(UnitTree::Trigger(trigger(alloc, tokens)?))
+        Ok(UnitTree::Trigger(read_trigger(alloc, tokens)?))
     } else {
         Ok(UnitTree::View(read_editioning_view(alloc, tokens)?))
     }
 }
 
 /// A unit, an editioning view, a block or a CALL.
-pub fn text(alloc: Global, tokens: &mut Tokens<'_>) -> Result<UnitTree, ReadStop>
+pub fn read_text(alloc: Global, tokens: &mut Tokens<'_>) -> Result<UnitTree, ReadStop>
     ensures { Reads (reads_by grammar.text tokens.old) result tokens.new }
 {
     if tokens.sees_any(&[Kind::Begin, Kind::Declare, Kind::Call]) {
-        Ok(UnitTree::Block(any_block(alloc, tokens)?))
+        Ok(UnitTree::Block(read_any_block(alloc, tokens)?))
     } else {
         stored(alloc, tokens)
     }
@@ -121,7 +121,7 @@ fn create(alloc: Global, tokens: &mut Tokens<'_>) -> Result<Definition, ReadStop
 }
 
 /// The creation of a unit or an editioning view.
-pub fn definition(alloc: Global, tokens: &mut Tokens<'_>) -> Result<Definition, ReadStop>
+pub fn read_definition(alloc: Global, tokens: &mut Tokens<'_>) -> Result<Definition, ReadStop>
     ensures { Reads (reads_by grammar.definition tokens.old) result tokens.new }
 {
     tokens.expect(Kind::Create)?;

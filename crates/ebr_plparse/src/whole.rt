@@ -4,7 +4,7 @@ ghost use Rattle.std.specs.Prelude.{◌≡◌, IfOk, IfSome, Some, List as Seque
 ghost use Rattle.ebr_ast.specs.declared.definition.Definition.{Definition as Created};
 ghost use Rattle.ebr_plparse.specs.Units as grammar;
 
-use crate::units::{any_block, definition, text};
+use crate::units::{read_any_block, read_definition, read_text};
 use ebr_ast::{Block, Definition, UnitTree};
 use ebr_base::{NoMemory, Shared};
 use ebr_grammar::{Tokens, whole};
@@ -21,7 +21,7 @@ pub fn unit(alloc: Global, tokens: &[Token]) -> Result<Option<UnitTree>, NoMemor
     ensures only { (x : UnitTree) → grammar.SpellsUnit tokens.now x → IfOk result (λ r. r ≡ Some x) }
 {
     let mut rest = Tokens::new(tokens);
-    let read = text(alloc, &mut rest);
+    let read = read_text(alloc, &mut rest);
     whole(read, &rest)
 }
 
@@ -33,7 +33,7 @@ pub fn created(alloc: Global, tokens: &[Token]) -> Result<Option<Definition>, No
     ensures only { (x : Definition) → grammar.SpellsCreation tokens.now x → IfOk result (λ r. r ≡ Some x) }
 {
     let mut rest = Tokens::new(tokens);
-    let read = definition(alloc, &mut rest);
+    let read = read_definition(alloc, &mut rest);
     whole(read, &rest)
 }
 
@@ -45,7 +45,7 @@ pub fn block(alloc: Global, tokens: &[Token]) -> Result<Option<Shared<Block>>, N
     ensures only { (x : Block) → grammar.SpellsBlock tokens.now x → IfOk result (λ r. r ≡ Some x) }
 {
     let mut rest = Tokens::new(tokens);
-    let read = any_block(alloc, &mut rest);
+    let read = read_any_block(alloc, &mut rest);
     whole(read, &rest)
 }
 

@@ -139,7 +139,7 @@ fn plain_bound(alloc: Global, tokens: &mut Tokens<'_>) -> Result<(bool, Shared<E
 
 /// The low bound with the `..` behind it, and whether REVERSE stands before it.
 #[tactic(auto, unfolding(crate::specs::Looking::bound_reader))]
-pub fn bound(alloc: Global, tokens: &mut Tokens<'_>) -> Result<(bool, Shared<Expr>), ReadStop>
+pub fn read_bound(alloc: Global, tokens: &mut Tokens<'_>) -> Result<(bool, Shared<Expr>), ReadStop>
     ensures { Reads (spec.bound_reader tokens.old) result tokens.new }
 {
     if is_reversed(tokens) {

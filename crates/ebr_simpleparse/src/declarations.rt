@@ -5,7 +5,7 @@ ghost use Rattle.ebr_grammar.specs.Reading.{with_first};
 ghost use Rattle.ebr_simpleparse.specs.Productions as productions;
 ghost use Rattle.ebr_simpleparse.specs.Declarations as grammar;
 
-use crate::types::typed;
+use crate::types::read_typed;
 use ebr_ast::{Decl, Expr, Query};
 use ebr_base::{Name, Shared};
 use ebr_exprparse::read_expression;
@@ -88,7 +88,7 @@ fn closed_value(alloc: Global, tokens: &mut Tokens<'_>) -> Result<Option<Shared<
 fn variable(alloc: Global, tokens: &mut Tokens<'_>, name: Name) -> Result<Decl, ReadStop>
     ensures { Reads (with_first name (productions.reads_by grammar.variable tokens.old)) result tokens.new }
 {
-    let found = typed(alloc, tokens)?;
+    let found = read_typed(alloc, tokens)?;
     let (constant, ty) = found;
     let initial = closed_value(alloc, tokens)?;
     Ok(Decl::Variable {

@@ -5,7 +5,7 @@ ghost use Rattle.ebr_grammar.specs.Outcome.{Reads};
 ghost use Rattle.ebr_simpleparse.specs.Productions as productions;
 ghost use Rattle.ebr_simpleparse.specs.Headings as grammar;
 
-use crate::bounds::bound;
+use crate::bounds::read_bound;
 use ebr_ast::{Expr, RowsFrom};
 use ebr_base::Shared;
 use ebr_exprparse::read_expression;
@@ -78,7 +78,7 @@ fn high_bound(alloc: Global, tokens: &mut Tokens<'_>) -> Result<Shared<Expr>, Re
 fn range(alloc: Global, tokens: &mut Tokens<'_>) -> Result<Heading, ReadStop>
     ensures { Reads (productions.reads_by grammar.range tokens.old) result tokens.new }
 {
-    let found = bound(alloc, tokens)?;
+    let found = read_bound(alloc, tokens)?;
     let (reversed, low) = found;
     let high = high_bound(alloc, tokens)?;
     Ok(Heading::Range(reversed, low, high))

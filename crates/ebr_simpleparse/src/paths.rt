@@ -27,7 +27,7 @@ fn member(alloc: Global, tokens: &mut Tokens<'_>) -> Result<Option<Name>, ReadSt
 }
 
 /// `n [. n]`.
-pub fn path(alloc: Global, tokens: &mut Tokens<'_>) -> Result<Path, ReadStop>
+pub fn read_path(alloc: Global, tokens: &mut Tokens<'_>) -> Result<Path, ReadStop>
     ensures { Reads (productions.reads_by grammar.path tokens.old) result tokens.new }
 {
     let name = tokens.name(alloc)?;
@@ -75,7 +75,7 @@ fn arguments(alloc: Global, tokens: &mut Tokens<'_>) -> Result<List<Shared<Expr>
 }
 
 /// `[( [e {, e}] )]`.
-pub fn maybe_arguments(
+pub fn read_maybe_arguments(
     alloc: Global,
     tokens: &mut Tokens<'_>,
 ) -> Result<Option<List<Shared<Expr>>>, ReadStop>
@@ -97,13 +97,13 @@ pub fn read_call(
 ) -> Result<(Path, Option<List<Shared<Expr>>>), ReadStop>
     ensures { Reads (productions.reads_by grammar.call tokens.old) result tokens.new }
 {
-    let path = path(alloc, tokens)?;
-    let arguments = maybe_arguments(alloc, tokens)?;
+    let path = read_path(alloc, tokens)?;
+    let arguments = read_maybe_arguments(alloc, tokens)?;
     Ok((path, arguments))
 }
 
 /// `NEW . n`, behind the colon.
-pub fn new_column(alloc: Global, tokens: &mut Tokens<'_>) -> Result<Name, ReadStop>
+pub fn read_new_column(alloc: Global, tokens: &mut Tokens<'_>) -> Result<Name, ReadStop>
     ensures { Reads (productions.reads_by grammar.new_column tokens.old) result tokens.new }
 {
     tokens.expect(Kind::New)?;
@@ -116,9 +116,9 @@ fn target(alloc: Global, tokens: &mut Tokens<'_>) -> Result<Target, ReadStop>
     ensures { Reads (productions.reads_by grammar.target tokens.old) result tokens.new }
 {
     if tokens.eat(Kind::Colon) {
-        Ok(Target::New(new_column(alloc, tokens)?))
+        Ok(Target::New(read_new_column(alloc, tokens)?))
     } else {
-        Ok(Target::Name(path(alloc, tokens)?))
+        Ok(Target::Name(read_path(alloc, tokens)?))
     }
 }
 
@@ -143,7 +143,7 @@ fn more_targets(
 }
 
 /// `target {, target}`.
-pub fn targets(alloc: Global, tokens: &mut Tokens<'_>) -> Result<List<Target>, ReadStop>
+pub fn read_targets(alloc: Global, tokens: &mut Tokens<'_>) -> Result<List<Target>, ReadStop>
     ensures { Reads (productions.reads_by grammar.targets tokens.old) result tokens.new }
 {
     let first = target(alloc, tokens)?;
@@ -164,7 +164,7 @@ fn more_exceptions(
         if !tokens.eat(Kind::Or) {
             return Ok(found);
         }
-        let next = path(alloc, tokens)?;
+        let next = read_path(alloc, tokens)?;
         found.push(next)?;
     }
     Ok(found)
@@ -174,7 +174,7 @@ fn more_exceptions(
 fn exceptions(alloc: Global, tokens: &mut Tokens<'_>) -> Result<List<Path>, ReadStop>
     ensures { Reads (productions.reads_by grammar.exceptions tokens.old) result tokens.new }
 {
-    let first = path(alloc, tokens)?;
+    let first = read_path(alloc, tokens)?;
     more_exceptions(alloc, tokens, first)
 }
 

@@ -5,7 +5,7 @@ ghost use Rattle.ebr_grammar.specs.Reading.{with_first};
 ghost use Rattle.ebr_simpleparse.specs.Productions as productions;
 ghost use Rattle.ebr_simpleparse.specs.Simple as grammar;
 
-use crate::paths::{maybe_arguments, new_column, path, targets};
+use crate::paths::{read_maybe_arguments, read_new_column, read_path, read_targets};
 use ebr_ast::{CursorStmt, Expr, Path, Query, SelectList, SqlStmt, Stmt, Target};
 use ebr_base::Shared;
 use ebr_exprparse::read_expression;
@@ -57,7 +57,7 @@ fn into_targets(
 ) -> Result<SqlStmt, ReadStop>
     ensures { Reads (with_first list (productions.reads_by grammar.into_targets tokens.old)) result tokens.new }
 {
-    let targets = targets(alloc, tokens)?;
+    let targets = read_targets(alloc, tokens)?;
     let query = from_sources(alloc, tokens, list)?;
     Ok(SqlStmt::SelectInto(query, targets))
 }
@@ -100,7 +100,7 @@ fn fetch(alloc: Global, tokens: &mut Tokens<'_>) -> Result<CursorStmt, ReadStop>
 {
     let cursor = tokens.name(alloc)?;
     tokens.expect(Kind::Into)?;
-    let targets = targets(alloc, tokens)?;
+    let targets = read_targets(alloc, tokens)?;
     Ok(CursorStmt::Fetch(cursor, targets))
 }
 
@@ -143,7 +143,7 @@ fn raised(alloc: Global, tokens: &mut Tokens<'_>) -> Result<Option<Path>, ReadSt
     if tokens.eat(Kind::Semicolon) {
         return Ok(None);
     }
-    let exception = path(alloc, tokens)?;
+    let exception = read_path(alloc, tokens)?;
     tokens.expect(Kind::Semicolon)?;
     Ok(Some(exception))
 }
@@ -239,7 +239,7 @@ fn assigned(alloc: Global, tokens: &mut Tokens<'_>) -> Result<Shared<Expr>, Read
 fn new_assignment(alloc: Global, tokens: &mut Tokens<'_>) -> Result<Stmt, ReadStop>
     ensures { Reads (productions.reads_by grammar.new_assignment tokens.old) result tokens.new }
 {
-    let column = new_column(alloc, tokens)?;
+    let column = read_new_column(alloc, tokens)?;
     let value = assigned(alloc, tokens)?;
     Ok(Stmt::Assign(Target::New(column), value))
 }
@@ -252,7 +252,7 @@ fn assignment_or_call(alloc: Global, tokens: &mut Tokens<'_>, path: Path) -> Res
         let value = assigned(alloc, tokens)?;
         Ok(Stmt::Assign(Target::Name(path), value))
     } else {
-        let arguments = maybe_arguments(alloc, tokens)?;
+        let arguments = read_maybe_arguments(alloc, tokens)?;
         tokens.expect(Kind::Semicolon)?;
         Ok(Stmt::Call(path, arguments))
     }
@@ -262,7 +262,7 @@ fn assignment_or_call(alloc: Global, tokens: &mut Tokens<'_>, path: Path) -> Res
 fn named(alloc: Global, tokens: &mut Tokens<'_>) -> Result<Stmt, ReadStop>
     ensures { Reads (productions.reads_by grammar.named_statement tokens.old) result tokens.new }
 {
-    let path = path(alloc, tokens)?;
+    let path = read_path(alloc, tokens)?;
     assignment_or_call(alloc, tokens, path)
 }
 

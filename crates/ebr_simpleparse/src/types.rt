@@ -36,7 +36,7 @@ fn variable(alloc: Global, tokens: &mut Tokens<'_>) -> Result<(bool, DeclaredTyp
 
 /// A type, and whether CONSTANT stands before it.
 #[tactic(auto, unfolding(crate::specs::Types::typed_reader))]
-pub fn typed(alloc: Global, tokens: &mut Tokens<'_>) -> Result<(bool, DeclaredType), ReadStop>
+pub fn read_typed(alloc: Global, tokens: &mut Tokens<'_>) -> Result<(bool, DeclaredType), ReadStop>
     ensures { Reads (spec.typed_reader tokens.old) result tokens.new }
 {
     if is_constant(tokens) {

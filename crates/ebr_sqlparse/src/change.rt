@@ -5,7 +5,7 @@ ghost use Rattle.ebr_grammar.specs.Reading.{with_first};
 ghost use Rattle.ebr_sqlparse.specs.Productions as productions;
 ghost use Rattle.ebr_sqlparse.specs.Statements as grammar;
 
-use crate::queries::filter;
+use crate::queries::read_filter;
 use ebr_ast::{Assignment, Delete, Expr, Insert, Update};
 use ebr_base::{List, Name, Shared};
 use ebr_exprparse::read_expression;
@@ -167,7 +167,7 @@ fn update_rest(
 {
     tokens.expect(Kind::Set)?;
     let sets = assignments(alloc, tokens)?;
-    let filter = filter(alloc, tokens)?;
+    let filter = read_filter(alloc, tokens)?;
     let update = Update {
         table: target.table,
         alias: target.alias,
@@ -193,7 +193,7 @@ pub fn read_delete(alloc: Global, tokens: &mut Tokens<'_>) -> Result<Shared<Dele
     tokens.expect(Kind::Delete)?;
     tokens.eat(Kind::From);
     let target = target(alloc, tokens)?;
-    let filter = filter(alloc, tokens)?;
+    let filter = read_filter(alloc, tokens)?;
     let delete = Delete {
         table: target.table,
         alias: target.alias,

@@ -61,7 +61,7 @@ fn sources(alloc: Global, tokens: &mut Tokens<'_>) -> Result<List<Source>, ReadS
 }
 
 /// `[WHERE e]`.
-pub fn filter(alloc: Global, tokens: &mut Tokens<'_>) -> Result<Option<Shared<Expr>>, ReadStop>
+pub fn read_filter(alloc: Global, tokens: &mut Tokens<'_>) -> Result<Option<Shared<Expr>>, ReadStop>
     ensures { Reads (productions.reads_by grammar.filter tokens.old) result tokens.new }
 {
     if tokens.eat(Kind::Where) {
@@ -146,7 +146,7 @@ fn for_update(tokens: &mut Tokens<'_>) -> Result<bool, ReadStop>
 fn query_tail(alloc: Global, tokens: &mut Tokens<'_>) -> Result<Tail, ReadStop>
     ensures { Reads (productions.reads_by grammar.query_tail tokens.old) result tokens.new }
 {
-    let filter = filter(alloc, tokens)?;
+    let filter = read_filter(alloc, tokens)?;
     let order = order(alloc, tokens)?;
     let for_update = for_update(tokens)?;
     Ok(Tail {

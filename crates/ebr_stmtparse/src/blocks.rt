@@ -46,7 +46,7 @@ impl<F: Fn(Global, &mut Tokens<'_>, usize) -> Result<List<Shared<Stmt>>, ReadSto
     {
         let caught = read_caught(self.alloc, tokens)?;
         tokens.expect(Kind::Then)?;
-        let statements = self.body_statements(tokens)?;
+        let statements = self.read_body_statements(tokens)?;
         Ok(Handler { caught, statements })
     }
 
@@ -94,12 +94,12 @@ impl<F: Fn(Global, &mut Tokens<'_>, usize) -> Result<List<Shared<Stmt>>, ReadSto
     }
 
     /// Statements with their handlers, from BEGIN on.
-    pub fn initial(&self, tokens: &mut Tokens<'_>) -> Result<Initial, ReadStop>
+    pub fn read_initial(&self, tokens: &mut Tokens<'_>) -> Result<Initial, ReadStop>
         requires { Nests self.now.depth (F.pre self.now.nested) (F.post self.now.nested) }
         ensures { Reads (spec.reads_at self.now.depth spec.initial tokens.old) result tokens.new }
     {
         tokens.expect(Kind::Begin)?;
-        let statements = self.body_statements(tokens)?;
+        let statements = self.read_body_statements(tokens)?;
         let handlers = self.handlers(tokens)?;
         Ok(Initial {
             statements,
@@ -125,13 +125,13 @@ impl<F: Fn(Global, &mut Tokens<'_>, usize) -> Result<List<Shared<Stmt>>, ReadSto
         requires { Nests self.now.depth (F.pre self.now.nested) (F.post self.now.nested) }
         ensures { Reads (with_first declarations (spec.reads_at self.now.depth spec.block_rest tokens.old)) result tokens.new }
     {
-        let initial = self.initial(tokens)?;
+        let initial = self.read_initial(tokens)?;
         self.block_end(tokens)?;
         Ok(block_of(declarations, initial))
     }
 
     /// Declarations and the block of them.
-    pub fn body(&self, tokens: &mut Tokens<'_>) -> Result<Block, ReadStop>
+    pub fn read_body(&self, tokens: &mut Tokens<'_>) -> Result<Block, ReadStop>
         requires { Nests self.now.depth (F.pre self.now.nested) (F.post self.now.nested) }
         ensures { Reads (spec.reads_at self.now.depth spec.body tokens.old) result tokens.new }
     {
@@ -140,12 +140,12 @@ impl<F: Fn(Global, &mut Tokens<'_>, usize) -> Result<List<Shared<Stmt>>, ReadSto
     }
 
     /// A block.
-    pub fn block(&self, tokens: &mut Tokens<'_>) -> Result<Block, ReadStop>
+    pub fn read_block(&self, tokens: &mut Tokens<'_>) -> Result<Block, ReadStop>
         requires { Nests self.now.depth (F.pre self.now.nested) (F.post self.now.nested) }
         ensures { Reads (spec.reads_at self.now.depth spec.block tokens.old) result tokens.new }
     {
         if tokens.eat(Kind::Declare) {
-            self.body(tokens)
+            self.read_body(tokens)
         } else {
             self.block_rest(tokens, List::new(self.alloc))
         }

@@ -26,7 +26,7 @@ fn nested(
         depth: depth - 1,
         nested,
     };
-    grammar.statements(tokens)
+    grammar.read_statements(tokens)
 }
 
 /// Reads a body: declarations, and then what a block has from BEGIN on.
@@ -43,7 +43,7 @@ pub fn read_body(alloc: Global, tokens: &mut Tokens<'_>) -> Result<Block, ReadSt
         depth,
         nested,
     };
-    grammar.body(tokens)
+    grammar.read_body(tokens)
 }
 
 /// Reads a block: its declarations behind DECLARE, where that stands, and then as `read_body`.
@@ -57,7 +57,7 @@ pub fn read_block(alloc: Global, tokens: &mut Tokens<'_>) -> Result<Block, ReadS
         depth,
         nested,
     };
-    grammar.block(tokens)
+    grammar.read_block(tokens)
 }
 
 /// Reads statements with the handlers of their exceptions, from BEGIN on.
@@ -71,5 +71,5 @@ pub fn read_initial(alloc: Global, tokens: &mut Tokens<'_>) -> Result<Initial, R
         depth,
         nested,
     };
-    grammar.initial(tokens)
+    grammar.read_initial(tokens)
 }

@@ -34,7 +34,10 @@ fn loop_of(name: Name, heading: Heading, body: List<Shared<Stmt>>) -> Stmt
 
 impl<F: Fn(Global, &mut Tokens<'_>, usize) -> Result<List<Shared<Stmt>>, ReadStop>> Grammar<F> {
     /// Nested statements, to one level less.
-    pub fn body_statements(&self, tokens: &mut Tokens<'_>) -> Result<List<Shared<Stmt>>, ReadStop>
+    pub fn read_body_statements(
+        &self,
+        tokens: &mut Tokens<'_>,
+    ) -> Result<List<Shared<Stmt>>, ReadStop>
         requires { Nests self.now.depth (F.pre self.now.nested) (F.post self.now.nested) }
         ensures { Reads (spec.reads_at self.now.depth spec.body_statements tokens.old) result tokens.new }
     {
@@ -55,7 +58,7 @@ impl<F: Fn(Global, &mut Tokens<'_>, usize) -> Result<List<Shared<Stmt>>, ReadSto
         requires { Nests self.now.depth (F.pre self.now.nested) (F.post self.now.nested) }
         ensures { Reads (spec.reads_at self.now.depth spec.loop_body tokens.old) result tokens.new }
     {
-        let found = self.body_statements(tokens)?;
+        let found = self.read_body_statements(tokens)?;
         self.end_loop(tokens)?;
         Ok(found)
     }
@@ -98,7 +101,7 @@ impl<F: Fn(Global, &mut Tokens<'_>, usize) -> Result<List<Shared<Stmt>>, ReadSto
     {
         let condition = read_expression(self.alloc, tokens)?;
         tokens.expect(Kind::Then)?;
-        let statements = self.body_statements(tokens)?;
+        let statements = self.read_body_statements(tokens)?;
         Ok(Branch {
             condition,
             statements,
@@ -140,7 +143,7 @@ impl<F: Fn(Global, &mut Tokens<'_>, usize) -> Result<List<Shared<Stmt>>, ReadSto
         ensures { Reads (spec.reads_at self.now.depth spec.otherwise tokens.old) result tokens.new }
     {
         if tokens.eat(Kind::Else) {
-            self.body_statements(tokens)
+            self.read_body_statements(tokens)
         } else {
             Ok(List::new(self.alloc))
         }
@@ -179,7 +182,7 @@ impl<F: Fn(Global, &mut Tokens<'_>, usize) -> Result<List<Shared<Stmt>>, ReadSto
         requires { Nests self.now.depth (F.pre self.now.nested) (F.post self.now.nested) }
         ensures { Reads (spec.reads_at self.now.depth spec.nested_block tokens.old) result tokens.new }
     {
-        let block = self.block(tokens)?;
+        let block = self.read_block(tokens)?;
         Ok(Stmt::Block(Shared::new(self.alloc, block)?))
     }
 
@@ -233,7 +236,7 @@ impl<F: Fn(Global, &mut Tokens<'_>, usize) -> Result<List<Shared<Stmt>>, ReadSto
     }
 
     /// One statement or more.
-    pub fn statements(&self, tokens: &mut Tokens<'_>) -> Result<List<Shared<Stmt>>, ReadStop>
+    pub fn read_statements(&self, tokens: &mut Tokens<'_>) -> Result<List<Shared<Stmt>>, ReadStop>
         requires { Nests self.now.depth (F.pre self.now.nested) (F.post self.now.nested) }
         ensures { Reads (spec.reads_at self.now.depth spec.statements tokens.old) result tokens.new }
     {

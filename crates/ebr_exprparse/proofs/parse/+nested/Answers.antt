@@ -6,7 +6,7 @@ pub returns-then-depth-eq0 : goal.returns-then-depth-eq0
 returns-then-depth-eq0 t c _ = no_depth c.args.depth c.args.level c.args.tokens.now (omega arith)
 
 pub returns-in-Whole : goal.returns-in-Whole
-returns-in-Whole t c = rw (whole_deep c.args.depth c.args.level c.args.tokens.now (omega arith) c.in-Whole.is) c.disjunction.ensures
+returns-in-Whole t c = rw (whole_deep c.args.depth c.args.level c.args.tokens.now (omega arith) c.in-Whole.is) c.read_disjunction.ensures
 
 pub returns-in-Sum : goal.returns-in-Sum
-returns-in-Sum t c = rw (sum_deep c.args.depth c.args.level c.args.tokens.now (omega arith) c.in-Sum.is) c.sum_alone.ensures
+returns-in-Sum t c = rw (sum_deep c.args.depth c.args.level c.args.tokens.now (omega arith) c.in-Sum.is) c.read_sum_alone.ensures

@@ -10,12 +10,12 @@ use Rattle.ebr_plparse.proofs.whole.block.Goals as goal
 
 pub returns-clause-found : goal.returns-clause-found
 returns-clause-found c =
-    let read : Reads (reads_by block c.args.tokens.now) c.any_block-read.result c.any_block-read.new.tokens =
-    subst (λ (ts : List Token). Reads (reads_by block ts) c.any_block-read.result c.any_block-read.new.tokens) c.new-rest.ensures c.any_block-read.ensures in
+    let read : Reads (reads_by block c.args.tokens.now) c.read_any_block-read.result c.read_any_block-read.new.tokens =
+    subst (λ (ts : List Token). Reads (reads_by block ts) c.read_any_block-read.result c.read_any_block-read.new.tokens) c.new-rest.ensures c.read_any_block-read.ensures in
     is_found (reader block block_is) c.args.tokens.now c.whole.result (c.whole.ensures (reads_by block c.args.tokens.now) read)
 
 pub returns-clause-only : goal.returns-clause-only
 returns-clause-only c x s =
-    let read : Reads (reads_by block c.args.tokens.now) c.any_block-read.result c.any_block-read.new.tokens =
-    subst (λ (ts : List Token). Reads (reads_by block ts) c.any_block-read.result c.any_block-read.new.tokens) c.new-rest.ensures c.any_block-read.ensures in
+    let read : Reads (reads_by block c.args.tokens.now) c.read_any_block-read.result c.read_any_block-read.new.tokens =
+    subst (λ (ts : List Token). Reads (reads_by block ts) c.read_any_block-read.result c.read_any_block-read.new.tokens) c.new-rest.ensures c.read_any_block-read.ensures in
     is_only (reader block block_is) c.args.tokens.now c.whole.result (c.whole.ensures (reads_by block c.args.tokens.now) read) x s

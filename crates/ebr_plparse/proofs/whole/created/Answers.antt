@@ -10,12 +10,12 @@ use Rattle.ebr_plparse.proofs.whole.created.Goals as goal
 
 pub returns-clause-found : goal.returns-clause-found
 returns-clause-found c =
-    let read : Reads (reads_by definition c.args.tokens.now) c.definition-read.result c.definition-read.new.tokens =
-    subst (λ (ts : List Token). Reads (reads_by definition ts) c.definition-read.result c.definition-read.new.tokens) c.new-rest.ensures c.definition-read.ensures in
+    let read : Reads (reads_by definition c.args.tokens.now) c.read_definition-read.result c.read_definition-read.new.tokens =
+    subst (λ (ts : List Token). Reads (reads_by definition ts) c.read_definition-read.result c.read_definition-read.new.tokens) c.new-rest.ensures c.read_definition-read.ensures in
     is_found (reader definition definition_is) c.args.tokens.now c.whole.result (c.whole.ensures (reads_by definition c.args.tokens.now) read)
 
 pub returns-clause-only : goal.returns-clause-only
 returns-clause-only c x s =
-    let read : Reads (reads_by definition c.args.tokens.now) c.definition-read.result c.definition-read.new.tokens =
-    subst (λ (ts : List Token). Reads (reads_by definition ts) c.definition-read.result c.definition-read.new.tokens) c.new-rest.ensures c.definition-read.ensures in
+    let read : Reads (reads_by definition c.args.tokens.now) c.read_definition-read.result c.read_definition-read.new.tokens =
+    subst (λ (ts : List Token). Reads (reads_by definition ts) c.read_definition-read.result c.read_definition-read.new.tokens) c.new-rest.ensures c.read_definition-read.ensures in
     is_only (reader definition definition_is) c.args.tokens.now c.whole.result (c.whole.ensures (reads_by definition c.args.tokens.now) read) x s

@@ -10,12 +10,12 @@ use Rattle.ebr_plparse.proofs.whole.unit.Goals as goal
 
 pub returns-clause-found : goal.returns-clause-found
 returns-clause-found c =
-    let read : Reads (reads_by text c.args.tokens.now) c.text-read.result c.text-read.new.tokens =
-    subst (λ (ts : List Token). Reads (reads_by text ts) c.text-read.result c.text-read.new.tokens) c.new-rest.ensures c.text-read.ensures in
+    let read : Reads (reads_by text c.args.tokens.now) c.read_text-read.result c.read_text-read.new.tokens =
+    subst (λ (ts : List Token). Reads (reads_by text ts) c.read_text-read.result c.read_text-read.new.tokens) c.new-rest.ensures c.read_text-read.ensures in
     is_found (reader text text_is) c.args.tokens.now c.whole.result (c.whole.ensures (reads_by text c.args.tokens.now) read)
 
 pub returns-clause-only : goal.returns-clause-only
 returns-clause-only c x s =
-    let read : Reads (reads_by text c.args.tokens.now) c.text-read.result c.text-read.new.tokens =
-    subst (λ (ts : List Token). Reads (reads_by text ts) c.text-read.result c.text-read.new.tokens) c.new-rest.ensures c.text-read.ensures in
+    let read : Reads (reads_by text c.args.tokens.now) c.read_text-read.result c.read_text-read.new.tokens =
+    subst (λ (ts : List Token). Reads (reads_by text ts) c.read_text-read.result c.read_text-read.new.tokens) c.new-rest.ensures c.read_text-read.ensures in
     is_only (reader text text_is) c.args.tokens.now c.whole.result (c.whole.ensures (reads_by text c.args.tokens.now) read) x s

@@ -29,8 +29,8 @@ returns-in_err-next c =
 pub loop-turn-preserved : goal.loop-turn-preserved
 loop-turn-preserved c =
     let seen : sees (k.Or ∷ []) c.loop-turn.tokens ≡ true = search rules in
-    let read : reads_by (k.Or ▸ path) c.loop-turn.tokens ≡ Some (c.in_ok-next.next, c.path.new.tokens) = simp steps (search rules) in
-    let e = goes_on (k.Or ∷ []) (reads_by (k.Or ▸ path)) _ _ c.loop-turn.found c.loop-turn.tokens _ c.loop-turn.invariant c.in_ok-next.next c.path.new.tokens c.loop-turn-test.true seen read in
+    let read : reads_by (k.Or ▸ path) c.loop-turn.tokens ≡ Some (c.in_ok-next.next, c.read_path.new.tokens) = simp steps (search rules) in
+    let e = goes_on (k.Or ∷ []) (reads_by (k.Or ▸ path)) _ _ c.loop-turn.found c.loop-turn.tokens _ c.loop-turn.invariant c.in_ok-next.next c.read_path.new.tokens c.loop-turn-test.true seen read in
     search (rules, e)
 
 pub returns : goal.returns

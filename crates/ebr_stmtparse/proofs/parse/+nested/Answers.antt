@@ -6,4 +6,4 @@ pub returns-then-depth-eq0 : goal.returns-then-depth-eq0
 returns-then-depth-eq0 t c _ = no_depth c.args.depth c.args.tokens.now (omega arith)
 
 pub returns : goal.returns
-returns t c = rw (one_deep c.args.depth c.args.tokens.now (omega arith)) c.statements.ensures
+returns t c = rw (one_deep c.args.depth c.args.tokens.now (omega arith)) c.read_statements.ensures
