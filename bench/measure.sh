@@ -1,7 +1,7 @@
 #!/bin/sh
-# Makes the tables "Measured" of docs/PROFILE.md, but the last one: for each kind of script and each size the processor time,
-# the least of some runs, and the memory that `ebrd` takes; and, where valgrind is there, instructions. Run it by hand, as
-# `bench/measure.sh` at the top of the repository; it wants GNU time and bash. Nothing here is a test.
+# Makes the tables "Measured" of docs/PROFILE.md: for each kind of script and each size the processor time, the least of some
+# runs, and the memory that `ebrd` takes; and, where valgrind is there, instructions. Run it by hand, as `bench/measure.sh` at the
+# top of the repository; it wants GNU time and bash. Nothing here is a test.
 set -eu
 top=$(dirname -- "$(readlink -f -- "$0")")/..
 program=$top/crates/ebrd/out/ebrd
@@ -47,7 +47,7 @@ procedures() {
 }
 
 # rows COUNT KIND: a table of three columns with a key; its rows by a block, or each by a statement and a commit; and behind the
-# block an UPDATE or a SELECT of all, or a loop over them; or the same UPDATE where a trigger does nothing before each row, changes
+# block an UPDATE or a query of all, or a loop over them; or the same UPDATE where a trigger does nothing before each row, changes
 # it, or writes a line of a log after it
 rows() {
     awk -v count="$1" -v kind="$2" 'BEGIN {
@@ -62,6 +62,10 @@ rows() {
         if (kind == "after") print "CREATE TABLE log_t (id NUMBER, n NUMBER);\nCREATE TRIGGER a AFTER UPDATE ON t FOR EACH ROW BEGIN INSERT INTO log_t VALUES (:NEW.id, :NEW.n); END;\n/"
         if (kind ~ /^(update|empty|before|after)$/) print "UPDATE t SET n = n + 1;\nCOMMIT;"
         if (kind == "select") print "SELECT * FROM t;"
+        if (kind == "sorted") print "SELECT * FROM t ORDER BY n;"
+        if (kind == "joined") print "SELECT a.id, b.id FROM t a, t b WHERE a.n = b.id;"
+        if (kind == "product") print "SELECT a.id, b.v FROM t a, t b;"
+        if (kind == "sorted_product") print "SELECT a.id, b.v FROM t a, t b ORDER BY a.n + b.n;"
         if (kind == "loop") print "DECLARE s NUMBER := 0; BEGIN FOR r IN (SELECT * FROM t) LOOP s := s + r.n; END LOOP; DBMS_OUTPUT.PUT_LINE(s); END;\n/"
     }'
 }
@@ -170,24 +174,34 @@ kinds() {
 echo
 echo '| Script | 10,000 rows | 20,000 rows |'
 echo '|---|---|---|'
-kinds '10000 20000' 'block update select loop'
+kinds '10000 20000' 'block update select sorted loop'
 
 echo
 echo '| Script | 5,000 rows | 10,000 rows | 20,000 rows |'
 echo '|---|---|---|---|'
 kinds '5000 10000 20000' statements
 
+# short_kinds SIZES KINDS: the same of runs so short that other work on the machine shows
+short_kinds() {
+    for kind in $2; do
+        printf '| %s' "$kind"
+        for count in $1; do
+            rows "$count" "$kind" >"$work/$kind.sql"
+            printf ' | %s ms' "$(least 40 "$work/$kind.sql")"
+        done
+        echo ' |'
+    done
+}
+
 echo
 echo '| Script | 1,000 rows | 2,000 rows |'
 echo '|---|---|---|'
-for kind in block update empty before after; do
-    printf '| %s' "$kind"
-    for count in 1000 2000; do
-        rows "$count" "$kind" >"$work/$kind.sql"
-        printf ' | %s ms' "$(least 40 "$work/$kind.sql")"
-    done
-    echo ' |'
-done
+short_kinds '1000 2000' 'block update empty before after'
+
+echo
+echo '| Script | 200 rows | 400 rows |'
+echo '|---|---|---|'
+short_kinds '200 400' 'block select sorted joined product sorted_product'
 
 # The block as it is; the UPDATE over the block; the triggers over the UPDATE.
 if command -v valgrind >/dev/null; then
