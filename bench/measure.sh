@@ -46,14 +46,15 @@ procedures() {
     }'
 }
 
-# rows COUNT KIND: a table of three columns with a key; its rows by a block, or each by a statement and a commit; and behind the
-# block an UPDATE or a query of all, or a loop over them; or the same UPDATE where a trigger does nothing before each row, changes
+# rows COUNT KIND: a table of three columns with a key; its rows by a block, or each by a statement and a commit, and then perhaps
+# a query of all; and behind the block an UPDATE or a query of all, or a loop over them; or the same UPDATE where a trigger does nothing before each row, changes
 # it, or writes a line of a log after it
 rows() {
     awk -v count="$1" -v kind="$2" 'BEGIN {
         print "CREATE TABLE t (id NUMBER PRIMARY KEY, v VARCHAR2(30), n NUMBER);"
-        if (kind == "statements") {
+        if (kind ~ /^statements/) {
             for (i = 1; i <= count; i++) printf "INSERT INTO t VALUES (%d, \047x\047, %d);\nCOMMIT;\n", i, i
+            if (kind == "statements_select") print "SELECT * FROM t;"
             exit
         }
         printf "BEGIN FOR i IN 1 .. %d LOOP INSERT INTO t VALUES (i, \047text of a row\047, i); END LOOP; COMMIT; END;\n/\n", count
@@ -179,7 +180,7 @@ kinds '10000 20000' 'block update select sorted loop'
 echo
 echo '| Script | 5,000 rows | 10,000 rows | 20,000 rows |'
 echo '|---|---|---|---|'
-kinds '5000 10000 20000' statements
+kinds '5000 10000 20000' 'statements statements_select'
 
 # short_kinds SIZES KINDS: the same of runs so short that other work on the machine shows
 short_kinds() {
