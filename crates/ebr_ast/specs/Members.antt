@@ -40,14 +40,14 @@ variables_before n [] = 0
 variables_before n (i ∷ is) = if is_declared n i then 0 else if is_variable i then suc (variables_before n is) else variables_before n is
 
 -- the code that an item gives an exception
-abbrev pub given : List ℕ → PackageItem → Option ℕ
-given n (item.Decl (decl.ExceptionInit m k)) = if bytes_eq n m then Some k else None
-given n i = None
+abbrev pub pragma_code : List ℕ → PackageItem → Option ℕ
+pragma_code n (item.Decl (decl.ExceptionInit m k)) = if bytes_eq n m then Some k else None
+pragma_code n i = None
 
 -- the code that EXCEPTION_INIT gives an exception
 abbrev pub code_given : List ℕ → List PackageItem → Option ℕ
 code_given n [] = None
-code_given n (i ∷ is) = option_or (code_given n is) (given n i)
+code_given n (i ∷ is) = option_or (code_given n is) (pragma_code n i)
 
 abbrev pub is_named : List ℕ → Subprogram → Bool
 is_named n s = bytes_eq n s.head.name

@@ -58,7 +58,7 @@ impl PackageItems {
     {
         let mut notes = no_notes(alloc);
         let done = note_items(&mut notes, list.as_slice());
-        let (list, notes) = kept(list, notes, done)?;
+        let (list, notes) = both_if_done(list, notes, done)?;
         Ok(Shared::new(alloc, PackageItems { list, notes })?)
     }
 
@@ -95,7 +95,11 @@ impl PackageItems {
 }
 
 /// A list with what is noted of it, where all was noted. It is generic, so that what it drops is dropped by one call.
-fn kept<L: Drop, N: Drop>(list: L, notes: N, done: Result<(), NoMemory>) -> Result<(L, N), NoMemory>
+fn both_if_done<L: Drop, N: Drop>(
+    list: L,
+    notes: N,
+    done: Result<(), NoMemory>,
+) -> Result<(L, N), NoMemory>
     ensures both { IfOk result (λ it. it ≡ (list, notes)) }
     ensures done { OnOk result (is_ok done ≡ true) }
 {
@@ -219,7 +223,7 @@ fn note_codes(codes: &mut IndexMap<Name, u64>, items: &[PackageItem]) -> Result<
 }
 
 fn note_given(codes: &mut IndexMap<Name, u64>, item: &PackageItem) -> Result<(), NoMemory>
-    ensures { OnOk result (inside.NotesLast (λ n. spec.given n item.now) codes.old.entries codes.new.entries) }
+    ensures { OnOk result (inside.NotesLast (λ n. spec.pragma_code n item.now) codes.old.entries codes.new.entries) }
 {
     match item {
         PackageItem::Decl(declaration) => note_pragma(codes, declaration),
@@ -228,7 +232,7 @@ fn note_given(codes: &mut IndexMap<Name, u64>, item: &PackageItem) -> Result<(),
 }
 
 fn note_pragma(codes: &mut IndexMap<Name, u64>, declaration: &Decl) -> Result<(), NoMemory>
-    ensures { OnOk result (inside.NotesLast (λ n. spec.given n (PackageItem.Decl declaration.now)) codes.old.entries codes.new.entries) }
+    ensures { OnOk result (inside.NotesLast (λ n. spec.pragma_code n (PackageItem.Decl declaration.now)) codes.old.entries codes.new.entries) }
 {
     match declaration {
         Decl::ExceptionInit(name, code) => note_last(codes, name, *code),
@@ -271,7 +275,7 @@ impl Subprograms {
     {
         let mut places = IndexMap::new(alloc);
         let done = note_subprograms(&mut places, list.as_slice());
-        let (list, places) = kept(list, places, done)?;
+        let (list, places) = both_if_done(list, places, done)?;
         Ok(Subprograms { list, places })
     }
 

@@ -9,7 +9,7 @@ use Rattle.ebr_run.specs.Packages.{PackageState, Made, state_of, forget, same_ma
 use Rattle.ebr_run.specs.State.{Memory, Row, Runs, Outcome, End, Normal, Raised, Stopped, Waiting, with_memory, with_packages, bare, done, broken}
 use Rattle.ebr_run.specs.Values.{unfit, when_fit}
 use Rattle.ebr_run.specs.Expressions.{Calls}
-use Rattle.ebr_run.specs.Calls.{Formal, Part, Making, Parts, returned_on, returned, left_on, left, fresh, body, entered, received, agrees, enter, too_deep, kept_on, first_state, make, outdated, refer_to, refer_in, by_frames, by_makings, most_makings, most_calls, calls_of}
+use Rattle.ebr_run.specs.Calls.{Formal, Part, Making, Parts, returned_on, returned, left_on, left, fresh, body, entered, received, agrees, enter, too_deep, forget_on, first_state, make, outdated, refer_to, refer_in, by_frames, by_makings, most_makings, most_calls, calls_of}
 use Rattle.ebr_bodies.proofs.CodeStates.{Kept, Keeps, if_keeps, by_itself_keeps}
 use Rattle.ebr_bodies.proofs.CodeValues.{when_fit_keeps}
 use Rattle.ebr_bodies.proofs.CodeOperators.{CallsKeep}
@@ -71,7 +71,7 @@ too_deep_keeps (Some p) σ h = h
 
 -- ---- packages
 
-kept_on_keeps : (e : End) (p : Word) (o : Outcome) → Kept o → Kept (kept_on e p o)
+kept_on_keeps : (e : End) (p : Word) (o : Outcome) → Kept o → Kept (forget_on e p o)
 kept_on_keeps (Raised f) p o h = h
 kept_on_keeps (Stopped c) p o h = h
 kept_on_keeps e p o h = h

@@ -116,10 +116,10 @@ answered_keeps a σ k h c = c a σ h
 
 next_answer_keeps : (given : List Answer) (σ : State) (k : Answer → Runs) → Keep σ → AnswersKeep k → Kept (next_answer given σ k)
 next_answer_keeps [] σ k h c = h
-next_answer_keeps (a ∷ given) σ k h c = answered_keeps a (record σ { given = given }) k h c
+next_answer_keeps (a ∷ given) σ k h c = answered_keeps a (record σ { answers = given }) k h c
 
 pub asked_keeps : (q : Ask) (σ : State) (k : Answer → Runs) → IsOfCode q → Keep σ → AnswersKeep k → Kept (asked q σ k)
-asked_keeps q σ k own h c = next_answer_keeps σ.given (record σ { asks = σ.asks ++ q ∷ [] }) k (one_more σ.asks q h own) c
+asked_keeps q σ k own h c = next_answer_keeps σ.answers (record σ { asks = σ.asks ++ q ∷ [] }) k (one_more σ.asks q h own) c
 
 pub when_done_keeps : (a : Answer) (k : Runs) → Keeps k → Keeps (when_done a k)
 when_done_keeps answer.Done k c σ h = c σ h

@@ -13,7 +13,7 @@ use Rattle.ebr_ast.specs.declared.view.EditionView.{EditionView}
 use Rattle.ebr_ast.specs.declared.view.Object.{Object}
 use Rattle.ebr_sqlcheck.specs.Checked.{Checked, must, on}
 use Rattle.ebr_tx.specs.Data.{Data}
-use Rattle.ebr_dml.specs.Steps.{Standing, started}
+use Rattle.ebr_dml.specs.Steps.{DmlState, started}
 use Rattle.ebr_exec.specs.Places.{Names, Place, target, questions_on}
 use Rattle.ebr_fire.specs.declared.firing.Firing.{Firing}
 use Rattle.ebr_bodies.specs.Agree.{RunAlike, AnswerAlike, AppliesAlike, applied_firings}
@@ -64,7 +64,7 @@ module _ (m n : Names) (p : Place) (sees : SeesSame m n p.edition) where
   StartSame (Ok k) = AllByRecursion (ReadySame m n) k.before × AllByRecursion (ReadySame m n) k.after
   StartSame (Err code) = Unit {0}
 
-  start_sees : (x : Checked) (y : Result Standing Code) (before after : Result (List Ready) Code) → AllSame m n before → AllSame m n after
+  start_sees : (x : Checked) (y : Result DmlState Code) (before after : Result (List Ready) Code) → AllSame m n before → AllSame m n after
       → StartSame (on (λ u. on (λ st. on (λ b. on (start_of st b) after) before) y) x)
   start_sees (Ok u) (Ok st) (Ok b) (Ok a) h g = (h, g)
   start_sees (Ok u) (Ok st) (Ok b) (Err code) h g = tt

@@ -22,7 +22,7 @@ use Rattle.ebr_tx.specs.Data.{Data}
 use Rattle.ebr_tx.specs.Calls.{after_begin, after_mark, mark_of}
 use Rattle.ebr_query.specs.Queries.{Query}
 use Rattle.ebr_dml.specs.Plans.{trigger_table}
-use Rattle.ebr_dml.specs.Steps.{Standing, started}
+use Rattle.ebr_dml.specs.Steps.{DmlState, started}
 use Rattle.ebr_database.specs.Base.{Base, with_data}
 use Rattle.ebr_database.specs.Outcome.{Outcome, gives, after, and_then, go_on}
 use Rattle.ebr_exec.specs.Places.{Names, Place, Under, id_of, is_changing, touched, target, questions_on}
@@ -62,11 +62,11 @@ is_appliable v s = true
 
 -- A change that may begin: the rows to come, and the triggers.
 pub record Start : Type 0 where
-  pub standing : Standing
+  pub standing : DmlState
   pub before : List Ready
   pub after : List Ready
 
-abbrev pub start_of : Standing → List Ready → List Ready → Result Start Code
+abbrev pub start_of : DmlState → List Ready → List Ready → Result Start Code
 start_of standing before after = Ok (record { standing = standing; before = before; after = after })
 
 -- In a transaction that has begun, in this order: ORA-04043; EBR-0013; ORA-04098 where a trigger of either timing is invalid.

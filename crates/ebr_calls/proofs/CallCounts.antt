@@ -18,7 +18,7 @@ use Rattle.ebr_run.specs.State.{Memory, Outcome, End, Runs, Row, Normal, Exit, C
 use Rattle.ebr_run.specs.Values.{unfit, when_fit}
 use Rattle.ebr_run.specs.Scope.{body_key}
 use Rattle.ebr_run.specs.Expressions.{Calls}
-use Rattle.ebr_run.specs.Calls.{Formal, Part, Making, Parts, returned_on, left_on, left, fresh, body, entered, received, agrees, enter, too_deep, kept_on, first_state, make, outdated, refer_to, refer_in, by_frames, by_makings}
+use Rattle.ebr_run.specs.Calls.{Formal, Part, Making, Parts, returned_on, left_on, left, fresh, body, entered, received, agrees, enter, too_deep, forget_on, first_state, make, outdated, refer_to, refer_in, by_frames, by_makings}
 use Rattle.ebr_run.specs.Units.{with_specification}
 use Rattle.ebr_code.specs.declared.book.Subprogram.{Subprogram}
 use Rattle.ebr_code.specs.declared.book.Initial.{Initial}
@@ -66,18 +66,18 @@ body_counts : (p : Part) → MeaningCounts p.run → (calls : Calls) → CallsCo
 body_counts p h calls hc σ = by_itself_counts p.autonomous _ (λ τ.
     let o = p.run calls (bare τ) in
     let x = h.by calls hc (bare τ) in
-    returned_counts τ.left τ.asks τ.given o.end p.function o refl (record { left_is = x.left_is; made = x.made; used = x.used; asks_are = x.asks_are; given_are = x.given_are; even = x.even; kinds = x.kinds })) σ
+    returned_counts τ.left τ.asks τ.answers o.end p.function o refl (record { left_is = x.left_is; made = x.made; used = x.used; asks_are = x.asks_are; given_are = x.given_are; even = x.even; kinds = x.kinds })) σ
 
 pub entered_counts : (p : Part) → MeaningCounts p.run → (calls : Calls) → CallsCount calls → (vs : List Value) → CountsIn (entered p calls vs)
 entered_counts p h calls hc vs σ =
     let o = body p calls (with_memory (fresh vs) σ) in
     let x = body_counts p h calls hc (with_memory (fresh vs) σ) in
-    left_counts σ.left σ.asks σ.given o.end p σ.memory o refl (record { left_is = x.left_is; made = x.made; used = x.used; asks_are = x.asks_are; given_are = x.given_are; even = x.even; kinds = x.kinds })
+    left_counts σ.left σ.asks σ.answers o.end p σ.memory o refl (record { left_is = x.left_is; made = x.made; used = x.used; asks_are = x.asks_are; given_are = x.given_are; even = x.even; kinds = x.kinds })
 
 received_counts : (fs : List Formal) (vs : List Value) (next : Runs) → CountsIn next → CountsIn (received fs vs next)
 received_counts [] vs next h σ = h σ
 received_counts (f ∷ fs) [] next h σ = h σ
-received_counts (f ∷ fs) (v ∷ vs) next h σ = either σ.left σ.asks σ.given f.takes _ _ (fit_counts (unfit (Some f.ty) v) (received fs vs next) (received_counts fs vs next h) σ) (received_counts fs vs next h σ)
+received_counts (f ∷ fs) (v ∷ vs) next h σ = either σ.left σ.asks σ.answers f.takes _ _ (fit_counts (unfit (Some f.ty) v) (received fs vs next) (received_counts fs vs next h) σ) (received_counts fs vs next h σ)
   where
     fit_counts : (o : Option Code) (k : Runs) → CountsIn k → CountsIn (when_fit o k)
     fit_counts None k g τ = g τ
@@ -85,7 +85,7 @@ received_counts (f ∷ fs) (v ∷ vs) next h σ = either σ.left σ.asks σ.give
 
 enter_counts : (p : Option Part) → PartCounts p → (f : Callee) (calls : Calls) → CallsCount calls → (vs : List Value) → CountsIn (enter p f calls vs)
 enter_counts None h f calls hc vs σ = record { left_is = refl; made = []; used = []; asks_are = sym (append-nil _); given_are = refl; even = refl; kinds = tt }
-enter_counts (Some p) h f calls hc vs σ = either σ.left σ.asks σ.given (agrees f p) _ _ (received_counts p.formals vs (entered p calls vs) (entered_counts p h calls hc vs) σ) (record { left_is = refl; made = []; used = []; asks_are = sym (append-nil _); given_are = refl; even = refl; kinds = tt })
+enter_counts (Some p) h f calls hc vs σ = either σ.left σ.asks σ.answers (agrees f p) _ _ (received_counts p.formals vs (entered p calls vs) (entered_counts p h calls hc vs) σ) (record { left_is = refl; made = []; used = []; asks_are = sym (append-nil _); given_are = refl; even = refl; kinds = tt })
 
 deep_counts : (p : Option Part) → CountsIn (too_deep p)
 deep_counts None σ = record { left_is = refl; made = []; used = []; asks_are = sym (append-nil _); given_are = refl; even = refl; kinds = tt }
@@ -93,7 +93,7 @@ deep_counts (Some p) σ = record { left_is = refl; made = []; used = []; asks_ar
 
 -- ---- packages
 
-pub kept_counts : (l : ℕ) (s : List Ask) (w : List Answer) (e : End) (p : Word) (o : Outcome) → o.end ≡ e → Counts l s w o → Counts l s w (kept_on e p o)
+pub kept_counts : (l : ℕ) (s : List Ask) (w : List Answer) (e : End) (p : Word) (o : Outcome) → o.end ≡ e → Counts l s w o → Counts l s w (forget_on e p o)
 kept_counts l s w (Raised f) p o same h = record { left_is = h.left_is; made = h.made; used = h.used; asks_are = h.asks_are; given_are = h.given_are; even = evened l s w (Raised f) o same h; kinds = h.kinds }
 kept_counts l s w (Stopped c) p o same h = record { left_is = h.left_is; made = h.made; used = h.used; asks_are = h.asks_are; given_are = h.given_are; even = evened l s w (Stopped c) o same h; kinds = h.kinds }
 kept_counts l s w Normal p o same h = h
@@ -110,7 +110,7 @@ make_counts (Some m) h made p calls hc σ =
     let o = m.run calls first in
     let x = h.by calls hc first in
     let o' = left part σ.memory o in
-    kept_counts σ.left σ.asks σ.given o'.end p o' refl (left_counts σ.left σ.asks σ.given o.end part σ.memory o refl (record { left_is = x.left_is; made = x.made; used = x.used; asks_are = x.asks_are; given_are = x.given_are; even = x.even; kinds = x.kinds }))
+    kept_counts σ.left σ.asks σ.answers o'.end p o' refl (left_counts σ.left σ.asks σ.answers o.end part σ.memory o refl (record { left_is = x.left_is; made = x.made; used = x.used; asks_are = x.asks_are; given_are = x.given_are; even = x.even; kinds = x.kinds }))
 
 outdated_counts : (b : Bool) (parts : Parts) → PartsCount parts → (p : Word) (calls : Calls) → CallsCount calls → CountsIn (outdated b parts p calls)
 outdated_counts true parts h p calls hc σ = record { left_is = refl; made = []; used = []; asks_are = sym (append-nil _); given_are = refl; even = refl; kinds = tt }
@@ -120,7 +120,7 @@ refer_to_counts : (s : Option PackageState) (parts : Parts) → PartsCount parts
 refer_to_counts None parts h p calls hc σ = make_counts (parts.making p) (h.making p) (parts.made p) p calls hc σ
 refer_to_counts (Some s) parts h p calls hc σ =
     let x = outdated_counts s.stateful parts h p calls hc (with_packages (forget p σ.packages) σ) in
-    either σ.left σ.asks σ.given (same_made s.made (parts.made p)) _ _ (record { left_is = refl; made = []; used = []; asks_are = sym (append-nil _); given_are = refl; even = refl; kinds = tt }) (record { left_is = x.left_is; made = x.made; used = x.used; asks_are = x.asks_are; given_are = x.given_are; even = x.even; kinds = x.kinds })
+    either σ.left σ.asks σ.answers (same_made s.made (parts.made p)) _ _ (record { left_is = refl; made = []; used = []; asks_are = sym (append-nil _); given_are = refl; even = refl; kinds = tt }) (record { left_is = x.left_is; made = x.made; used = x.used; asks_are = x.asks_are; given_are = x.given_are; even = x.even; kinds = x.kinds })
 
 refer_in_counts : (row : Option Row) (r : Reference) (parts : Parts) → PartsCount parts → (p : Word) (calls : Calls) → CallsCount calls → CountsIn (refer_in row r parts p calls)
 refer_in_counts None r parts h p calls hc σ = refer_to_counts (state_of p σ.packages) parts h p calls hc σ

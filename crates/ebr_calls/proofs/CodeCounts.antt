@@ -56,7 +56,7 @@ pub record MeaningCounts (m : Meaning) : Type 0 where
 
 -- ---- operands
 
-pop_from_counts : (vs : List Value) (next : Then) (σ : State) → ((v : Value) → CountsIn (next v)) → Counts σ.left σ.asks σ.given (pop_from vs next σ)
+pop_from_counts : (vs : List Value) (next : Then) (σ : State) → ((v : Value) → CountsIn (next v)) → Counts σ.left σ.asks σ.answers (pop_from vs next σ)
 pop_from_counts [] next σ h = record { left_is = refl; made = []; used = []; asks_are = sym (append-nil _); given_are = refl; even = refl; kinds = tt }
 pop_from_counts (v ∷ vs) next σ h = let x = h v (with_operands vs σ) in record { left_is = x.left_is; made = x.made; used = x.used; asks_are = x.asks_are; given_are = x.given_are; even = x.even; kinds = x.kinds }
 
@@ -118,7 +118,7 @@ column_counts image.Old k σ = on_row_counts σ.row _ (λ r. push_counts _) σ
 
 row_counts : (ts : List Known) (rows : List (List Value)) → CountsIn (only_row ts rows holding)
 row_counts ts [] σ = record { left_is = refl; made = []; used = []; asks_are = sym (append-nil _); given_are = refl; even = refl; kinds = tt }
-row_counts ts (row ∷ []) σ = either σ.left σ.asks σ.given (row_fits ts row) _ _ (record { left_is = refl; made = []; used = []; asks_are = sym (append-nil _); given_are = refl; even = refl; kinds = tt }) (record { left_is = refl; made = []; used = []; asks_are = sym (append-nil _); given_are = refl; even = refl; kinds = tt })
+row_counts ts (row ∷ []) σ = either σ.left σ.asks σ.answers (row_fits ts row) _ _ (record { left_is = refl; made = []; used = []; asks_are = sym (append-nil _); given_are = refl; even = refl; kinds = tt }) (record { left_is = refl; made = []; used = []; asks_are = sym (append-nil _); given_are = refl; even = refl; kinds = tt })
 row_counts ts (row ∷ other ∷ rows) σ = record { left_is = refl; made = []; used = []; asks_are = sym (append-nil _); given_are = refl; even = refl; kinds = tt }
 
 rows_count : (l : Lookup) (rows : List (List Value)) → CountsIn (rows_to l rows)
@@ -191,8 +191,8 @@ operate_counts (does.Attribute l a) calls hc σ = on_some_counts (attribute_of a
 operate_counts (does.Binary o) calls hc σ = pop_counts _ (λ y. pop_counts _ (λ x. on_value_counts (binary o x y InCode) push push_counts)) σ
 operate_counts (does.Function f n) calls hc σ = let x = on_value_counts (function f (last n σ) InCode) push push_counts (with_operands (beneath n σ) σ) in record { left_is = x.left_is; made = x.made; used = x.used; asks_are = x.asks_are; given_are = x.given_are; even = x.even; kinds = x.kinds }
 operate_counts does.Unsigned calls hc σ = pop_counts _ (λ x. on_value_counts (unsigned x) push push_counts) σ
-operate_counts (does.Refer r p) calls hc σ = let o = calls.refer r p (bare σ) in let x = hc.refer r p (bare σ) in go_on_counts σ.left σ.asks σ.given o.end o (holding σ.memory.operands) refl (record { left_is = x.left_is; made = x.made; used = x.used; asks_are = x.asks_are; given_are = x.given_are; even = x.even; kinds = x.kinds }) (holding_counts σ.memory.operands)
-operate_counts (does.Call f) calls hc σ = let o = calls.call f (last f.arguments σ) (bare σ) in let x = hc.call f (last f.arguments σ) (bare σ) in give_on_counts σ.left σ.asks σ.given o.end f.results o (above (beneath f.arguments σ)) refl (record { left_is = x.left_is; made = x.made; used = x.used; asks_are = x.asks_are; given_are = x.given_are; even = x.even; kinds = x.kinds }) (λ vs τ. record { left_is = refl; made = []; used = []; asks_are = sym (append-nil _); given_are = refl; even = refl; kinds = tt })
+operate_counts (does.Refer r p) calls hc σ = let o = calls.refer r p (bare σ) in let x = hc.refer r p (bare σ) in go_on_counts σ.left σ.asks σ.answers o.end o (holding σ.memory.operands) refl (record { left_is = x.left_is; made = x.made; used = x.used; asks_are = x.asks_are; given_are = x.given_are; even = x.even; kinds = x.kinds }) (holding_counts σ.memory.operands)
+operate_counts (does.Call f) calls hc σ = let o = calls.call f (last f.arguments σ) (bare σ) in let x = hc.call f (last f.arguments σ) (bare σ) in give_on_counts σ.left σ.asks σ.answers o.end f.results o (above (beneath f.arguments σ)) refl (record { left_is = x.left_is; made = x.made; used = x.used; asks_are = x.asks_are; given_are = x.given_are; even = x.even; kinds = x.kinds }) (λ vs τ. record { left_is = refl; made = []; used = []; asks_are = sym (append-nil _); given_are = refl; even = refl; kinds = tt })
 operate_counts does.Return calls hc σ = record { left_is = refl; made = []; used = []; asks_are = sym (append-nil _); given_are = refl; even = refl; kinds = tt }
 operate_counts (does.Give t) calls hc σ = pop_counts (result_given t) (λ v. when_fit_counts (unfit t v) _ (λ τ. record { left_is = refl; made = []; used = []; asks_are = sym (append-nil _); given_are = refl; even = refl; kinds = tt })) σ
 operate_counts (does.Raise f) calls hc σ = record { left_is = refl; made = []; used = []; asks_are = sym (append-nil _); given_are = refl; even = refl; kinds = tt }
@@ -203,10 +203,10 @@ operate_counts does.PutLine calls hc σ = pop_counts _ (λ v. line_counts (print
 operate_counts (does.Sql s n l) calls hc σ = let x = asked_counts (ask.Sql s (last n σ) (σ.left - σ.steps)) (looked_up l) (looked_up_counts l) (bare σ) (omega arith) in record { left_is = x.left_is; made = x.made; used = x.used; asks_are = x.asks_are; given_are = x.given_are; even = x.even; kinds = x.kinds }
 operate_counts (does.Transact t) calls hc σ = let x = asked_counts (transact t) (λ a. when_done a done) (λ a. when_done_counts a done (λ τ. record { left_is = refl; made = []; used = []; asks_are = sym (append-nil _); given_are = refl; even = refl; kinds = tt })) (bare σ) (transact_fits σ.left t) in record { left_is = x.left_is; made = x.made; used = x.used; asks_are = x.asks_are; given_are = x.given_are; even = x.even; kinds = x.kinds }
 operate_counts (does.Affect n) calls hc σ = record { left_is = refl; made = []; used = []; asks_are = sym (append-nil _); given_are = refl; even = refl; kinds = tt }
-operate_counts (does.Open l) calls hc σ = either σ.left σ.asks σ.given (is_open (cursor_at l σ)) _ _ (record { left_is = refl; made = []; used = []; asks_are = sym (append-nil _); given_are = refl; even = refl; kinds = tt }) (record { left_is = refl; made = []; used = []; asks_are = sym (append-nil _); given_are = refl; even = refl; kinds = tt })
+operate_counts (does.Open l) calls hc σ = either σ.left σ.asks σ.answers (is_open (cursor_at l σ)) _ _ (record { left_is = refl; made = []; used = []; asks_are = sym (append-nil _); given_are = refl; even = refl; kinds = tt }) (record { left_is = refl; made = []; used = []; asks_are = sym (append-nil _); given_are = refl; even = refl; kinds = tt })
 operate_counts (does.Reset l) calls hc σ = kept_done σ (with_cursor l Closed σ) (cursor_keeps l Closed σ)
 operate_counts (does.Fetch l ts) calls hc σ = kept_then σ (moved_on l σ) (row_fetched (fetched ts (cursor_at l σ))) (cursor_keeps l _ σ) (fetched_counts (fetched ts (cursor_at l σ)))
-operate_counts (does.Close l) calls hc σ = either σ.left σ.asks σ.given (is_open (cursor_at l σ)) _ _ (kept_done σ (with_cursor l Closed σ) (cursor_keeps l Closed σ)) (record { left_is = refl; made = []; used = []; asks_are = sym (append-nil _); given_are = refl; even = refl; kinds = tt })
+operate_counts (does.Close l) calls hc σ = either σ.left σ.asks σ.answers (is_open (cursor_at l σ)) _ _ (kept_done σ (with_cursor l Closed σ) (cursor_keeps l Closed σ)) (record { left_is = refl; made = []; used = []; asks_are = sym (append-nil _); given_are = refl; even = refl; kinds = tt })
 operate_counts does.Broken calls hc σ = record { left_is = refl; made = []; used = []; asks_are = sym (append-nil _); given_are = refl; even = refl; kinds = tt }
 
 -- ---- instructions
@@ -217,7 +217,7 @@ AllCount (m ∷ ms) = MeaningCounts m × AllCount ms
 
 run_all_counts : (ms : List Meaning) → AllCount ms → (calls : Calls) → CallsCount calls → CountsIn (run_all ms calls)
 run_all_counts [] h calls hc σ = record { left_is = refl; made = []; used = []; asks_are = sym (append-nil _); given_are = refl; even = refl; kinds = tt }
-run_all_counts (m ∷ ms) h calls hc σ = go_on_counts σ.left σ.asks σ.given (m calls σ).end (m calls σ) (run_all ms calls) refl (h.0.by calls hc σ) (run_all_counts ms h.1 calls hc)
+run_all_counts (m ∷ ms) h calls hc σ = go_on_counts σ.left σ.asks σ.answers (m calls σ).end (m calls σ) (run_all ms calls) refl (h.0.by calls hc σ) (run_all_counts ms h.1 calls hc)
 
 abbrev pub AllHandle : List Handling → Type 0
 AllHandle [] = Unit {0}
@@ -227,11 +227,11 @@ pub handled_counts : (k : ℕ) (hs : List Handling) → AllHandle hs → (calls 
 handled_counts k [] h calls hc f σ = record { left_is = refl; made = []; used = []; asks_are = sym (append-nil _); given_are = refl; even = refl; kinds = tt }
 handled_counts k (x ∷ hs) h calls hc f σ =
     let y = h.0.by calls hc (with_fault k f (bare σ)) in
-    either σ.left σ.asks σ.given (is_caught (catches x.caught) f) _ _ (record { left_is = y.left_is; made = y.made; used = y.used; asks_are = y.asks_are; given_are = y.given_are; even = y.even; kinds = y.kinds }) (handled_counts k hs h.1 calls hc f σ)
+    either σ.left σ.asks σ.answers (is_caught (catches x.caught) f) _ _ (record { left_is = y.left_is; made = y.made; used = y.used; asks_are = y.asks_are; given_are = y.given_are; even = y.even; kinds = y.kinds }) (handled_counts k hs h.1 calls hc f σ)
 
 pub numbers_count : (k : ℕ) (reversed : Bool) (low high : Value) (body : Runs) → CountsIn body → CountsIn (over_numbers k reversed low high body)
 numbers_count k reversed (value.Num low) (value.Num high) body h σ =
-    either σ.left σ.asks σ.given (int_lt high low) _ _ (record { left_is = refl; made = []; used = []; asks_are = sym (append-nil _); given_are = refl; even = refl; kinds = tt }) (counting_counts (suc (unsigned_abs (high -ℤ low))) (in_turn k reversed low high body) (λ n τ.
+    either σ.left σ.asks σ.answers (int_lt high low) _ _ (record { left_is = refl; made = []; used = []; asks_are = sym (append-nil _); given_are = refl; even = refl; kinds = tt }) (counting_counts (suc (unsigned_abs (high -ℤ low))) (in_turn k reversed low high body) (λ n τ.
     let x = h (with_variable k (value.Num _) τ) in record { left_is = x.left_is; made = x.made; used = x.used; asks_are = x.asks_are; given_are = x.given_are; even = x.even; kinds = x.kinds }) σ)
 numbers_count k reversed (value.Num low) value.Null body h σ = record { left_is = refl; made = []; used = []; asks_are = sym (append-nil _); given_are = refl; even = refl; kinds = tt }
 numbers_count k reversed (value.Num low) (value.Text t) body h σ = record { left_is = refl; made = []; used = []; asks_are = sym (append-nil _); given_are = refl; even = refl; kinds = tt }
@@ -242,7 +242,7 @@ numbers_count k reversed (value.Bool b) high body h σ = record { left_is = refl
 
 decide_counts : (o : Option Value) (x : Value) (rest : List Meaning) → AllCount rest → (calls : Calls) → CallsCount calls → CountsIn (decide o x (run_all rest) calls)
 decide_counts (Some v) x rest h calls hc σ = push_counts v σ
-decide_counts None x rest h calls hc σ = go_on_counts σ.left σ.asks σ.given Normal (push x σ) (run_all rest calls) refl (push_counts x σ) (run_all_counts rest h calls hc)
+decide_counts None x rest h calls hc σ = go_on_counts σ.left σ.asks σ.answers Normal (push x σ) (run_all rest calls) refl (push_counts x σ) (run_all_counts rest h calls hc)
 
 abbrev PartsCount : Instruction-F Meaning Handling → Type 0
 PartsCount (code.Do o) = Unit {0}
@@ -256,11 +256,11 @@ PartsCount (code.Closing l a) = AllCount a
 act_counts : (i : Instruction-F Meaning Handling) → PartsCount i → (calls : Calls) → CallsCount calls → CountsIn (act i calls)
 act_counts (code.Do o) h calls hc σ = operate_counts o calls hc σ
 act_counts (code.Decide o a) h calls hc σ = pop_counts _ (λ x. decide_counts (decided o x) x a h calls hc) σ
-act_counts (code.If a b) h calls hc σ = pop_counts _ (λ v τ. either τ.left τ.asks τ.given (is_true v) _ _ (run_all_counts a h.0 calls hc τ) (run_all_counts b h.1 calls hc τ)) σ
+act_counts (code.If a b) h calls hc σ = pop_counts _ (λ v τ. either τ.left τ.asks τ.answers (is_true v) _ _ (run_all_counts a h.0 calls hc τ) (run_all_counts b h.1 calls hc τ)) σ
 act_counts (code.Loop a b) h calls hc σ = loop_counts (run_all a calls) (run_all b calls) (run_all_counts a h.0 calls hc) (run_all_counts b h.1 calls hc) σ
 act_counts (code.Numbers k r a) h calls hc σ = pop_counts _ (λ high. pop_counts _ (λ low τ. let x = numbers_count k r low high (run_all a calls) (run_all_counts a h calls hc) (bare τ) in record { left_is = x.left_is; made = x.made; used = x.used; asks_are = x.asks_are; given_are = x.given_are; even = x.even; kinds = x.kinds })) σ
-act_counts (code.Guard a k hs) h calls hc σ = let o = run_all a calls σ in catch_on_counts σ.left σ.asks σ.given o.end o (handled k hs calls) refl (run_all_counts a h.0 calls hc σ) (handled_counts k hs h.1 calls hc)
-act_counts (code.Closing l a) h calls hc σ = let o = run_all a calls σ in finish_on_counts σ.left σ.asks σ.given o.end o (with_cursor l Closed) refl (run_all_counts a h calls hc σ) (cursor_keeps l Closed)
+act_counts (code.Guard a k hs) h calls hc σ = let o = run_all a calls σ in catch_on_counts σ.left σ.asks σ.answers o.end o (handled k hs calls) refl (run_all_counts a h.0 calls hc σ) (handled_counts k hs h.1 calls hc)
+act_counts (code.Closing l a) h calls hc σ = let o = run_all a calls σ in finish_on_counts σ.left σ.asks σ.answers o.end o (with_cursor l Closed) refl (run_all_counts a h calls hc σ) (cursor_keeps l Closed)
 
 abbrev P : Instruction → Type 0
 P i = MeaningCounts (meaning_of i)

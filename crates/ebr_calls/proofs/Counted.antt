@@ -11,7 +11,7 @@ use Rattle.ebr_run.specs.State.{Outcome, End, Runs, Normal, Exit, Continue, Retu
 use Rattle.ebr_run.specs.Packages.{PackageState}
 use Rattle.ebr_run.specs.Run.{Frame, standing, start, run_part}
 use Rattle.ebr_run.specs.Values.{with_cursor}
-use Rattle.ebr_run.specs.Calls.{Part, left, returned, kept, calls_of}
+use Rattle.ebr_run.specs.Calls.{Part, left, returned, forget_if_failed, calls_of}
 use Rattle.ebr_code.specs.declared.instruction.Instruction.{Instruction}
 use Rattle.ebr_code.specs.declared.instruction.Lookup.{Lookup}
 use Rattle.ebr_code.specs.declared.book.Unit as compiled
@@ -35,14 +35,14 @@ code_counts : (book : Book) (m n : ℕ) (code : List Instruction) → CountsIn (
 code_counts book m n code = (run_counts code).by (calls_at book m n) (calls_count book m n)
 
 turn_counts : (head body : Runs) → CountsIn head → CountsIn body → CountsIn (rest_of_turn head body)
-turn_counts head body h b = step_counts (λ τ. after_turn (body τ) (loop head body)) (λ τ. turn_on_counts τ.left τ.asks τ.given (body τ).end (body τ) (loop head body) refl (b τ) (loop_counts head body h b))
+turn_counts head body h b = step_counts (λ τ. after_turn (body τ) (loop head body)) (λ τ. turn_on_counts τ.left τ.asks τ.answers (body τ).end (body τ) (loop head body) refl (b τ) (loop_counts head body h b))
 
 itself_counts : (function : Bool) (body : Runs) → CountsIn body → CountsIn (by_itself function body)
 itself_counts function body b σ =
     let o = body (bare σ) in
     let x = b (bare σ) in
     let o' = returned function o in
-    close_on_counts σ.left σ.asks σ.given o'.end o' refl (returned_counts σ.left σ.asks σ.given o.end function o refl (record { left_is = x.left_is; made = x.made; used = x.used; asks_are = x.asks_are; given_are = x.given_are; even = x.even; kinds = x.kinds }))
+    close_on_counts σ.left σ.asks σ.answers o'.end o' refl (returned_counts σ.left σ.asks σ.answers o.end function o refl (record { left_is = x.left_is; made = x.made; used = x.used; asks_are = x.asks_are; given_are = x.given_are; even = x.even; kinds = x.kinds }))
 
 resume_counts : (book : Book) (m n : ℕ) (ts : List Task) (s : Saved) (l : ℕ) (t : List Ask) (w : List Answer) (o : Outcome) → Counts l t w o → Counts l t w (resume book m n ts s o)
 resume_counts book m n [] s l t w o h = h
@@ -62,7 +62,7 @@ resume_counts book m n (task.Autonomous function code ∷ ts) s l t w o h =
 resume_counts book m n (task.Close ∷ ts) s l t w o h = resume_counts book m n ts s l t w _ (close_on_counts l t w o.end o refl h)
 resume_counts book m n (task.Making name m' ∷ ts) s l t w o h =
     let o1 = left nothing (memory_of s) o in
-    let o2 = kept name o1 in
+    let o2 = forget_if_failed name o1 in
     resume_counts book m' n ts (outer s) l t w _ (go_on_counts l t w o2.end o2 _ refl (kept_counts l t w o1.end name o1 refl (left_counts l t w o.end nothing (memory_of s) o refl h)) (holding_counts (operands_of s)))
 resume_counts book m n (task.Call c ∷ ts) s l t w o h =
     let p = part_in c.unit c.place in
@@ -80,7 +80,7 @@ left_even leaves.Raised f given = refl
 after_counts : (p : Pending) (l : Lookup) (f : Fault) (a : Answer) → CountsIn (after p l f a)
 after_counts pending.Lookup l f a = looked_up_counts l a
 after_counts pending.Done l f a = when_done_counts a done (λ τ. record { left_is = refl; made = []; used = []; asks_are = sym (append-nil _); given_are = refl; even = refl; kinds = tt })
-after_counts (pending.Close e) l f a = when_done_counts a (ended (left_with e f)) (λ τ. kept_at τ τ (left_with e f) (left_even e f τ.given) (record { left_is = refl; asks_are = refl; given_are = refl }))
+after_counts (pending.Close e) l f a = when_done_counts a (ended (left_with e f)) (λ τ. kept_at τ τ (left_with e f) (left_even e f τ.answers) (record { left_is = refl; asks_are = refl; given_are = refl }))
 
 -- All that a run will do behind an answer makes asks behind those that there are.
 pub stands_count : (book : Book) (m : Running) (a : Answer) (asks : List Ask) (given : List Answer) → Counts m.left asks given (stands book m (Some a) asks given)
@@ -115,6 +115,6 @@ code_counted book u arguments packages frame left answers =
     let o = run_part (part_at u 0) (parts_of book) arguments σ in
     let h = run_part_counts (part_at u 0) (part_counts (slice_get u.subprograms 0)) book arguments σ in
     record {
-      taken = subst (λ (asks : List Ask). HasTaken (standing o.end) (length asks) (length answers)) (sym h.asks_are) (taken_as o.end h.made h.used o.state.given answers h.even h.given_are);
+      taken = subst (λ (asks : List Ask). HasTaken (standing o.end) (length asks) (length answers)) (sym h.asks_are) (taken_as o.end h.made h.used o.state.answers answers h.even h.given_are);
       kinds = subst (AreOfRun left) (sym h.asks_are) h.kinds;
     }

@@ -74,7 +74,7 @@ pub record IsIn (codes : Book) (f : Course) (m : Machine) (shown levels : ℕ) (
   pub asks : List Ask
   pub answers : List Answer
   pub has : Has codes m p.packages most_steps run asks answers
-  pub counted : (given : List Answer) → IsCounted most_steps given (run given)
+  pub counted : (coming : List Answer) → IsCounted most_steps coming (run coming)
   pub by : (coming : List Answer) (quit : Option ℕ) → f coming quit ≡ then_run (run_on run (state_at before (answers ++ coming) (after (length answers) quit))) rest
   pub went_on : AllContinue answers
   pub count : length asks ≡ length answers

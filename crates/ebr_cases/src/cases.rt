@@ -13,7 +13,7 @@ const CASE: &str = "\n=== ";
 #[derive(Drop)]
 pub struct Checked {
     /// Lines that tell it.
-    pub told: Bytes,
+    pub report: Bytes,
     /// Whether there is a case, and each came to what is written.
     pub right: bool,
 }
@@ -28,7 +28,7 @@ fn script_runs(
     alloc: Global,
     setup: &str,
     case: &str,
-    told: &mut Bytes,
+    report: &mut Bytes,
 ) -> Result<Option<bool>, NoMemory> {
     let mut script = Script::new(alloc);
     if !is_nothing(setup) && !script.add(setup)? {
@@ -37,7 +37,7 @@ fn script_runs(
     if !script.add(case)? {
         return Ok(None);
     }
-    Ok(Some(script.runs(alloc, told)?))
+    Ok(Some(script.runs(alloc, report)?))
 }
 
 /// Runs a case of several scripts. None where the texts are no such case.
@@ -45,7 +45,7 @@ fn rehearsal_runs(
     alloc: Global,
     setup: &str,
     case: &str,
-    told: &mut Bytes,
+    report: &mut Bytes,
 ) -> Result<Option<bool>, NoMemory> {
     let mut rehearsal = Rehearsal::new(alloc);
     if !is_nothing(setup) && !rehearsal.add(alloc, setup)? {
@@ -54,7 +54,7 @@ fn rehearsal_runs(
     if !rehearsal.add(alloc, case)? {
         return Ok(None);
     }
-    Ok(Some(rehearsal.runs(alloc, told)?))
+    Ok(Some(rehearsal.runs(alloc, report)?))
 }
 
 /// Whether a case came to what is written. What it came to is told where it didn't.
@@ -62,19 +62,19 @@ fn is_as_written(
     alloc: Global,
     setup: &str,
     case: &str,
-    told: &mut Bytes,
+    report: &mut Bytes,
 ) -> Result<bool, NoMemory> {
     if title_of(case).contains('\n') {
-        told.extend(b"more than a line in front of the first heading\n")?;
+        report.extend(b"more than a line in front of the first heading\n")?;
         return Ok(false);
     }
-    if let Some(right) = script_runs(alloc, setup, case, told)? {
+    if let Some(right) = script_runs(alloc, setup, case, report)? {
         return Ok(right);
     }
-    if let Some(right) = rehearsal_runs(alloc, setup, case, told)? {
+    if let Some(right) = rehearsal_runs(alloc, setup, case, report)? {
         return Ok(right);
     }
-    told.extend(b"neither a script with its replies nor a rehearsal\n")?;
+    report.extend(b"neither a script with its replies nor a rehearsal\n")?;
     Ok(false)
 }
 
@@ -87,15 +87,15 @@ fn title_of(case: &str) -> &str {
 }
 
 /// Whether a case came to what is written. It is told behind its title where it didn't.
-fn is_right(alloc: Global, setup: &str, case: &str, told: &mut Bytes) -> Result<bool, NoMemory> {
+fn is_right(alloc: Global, setup: &str, case: &str, report: &mut Bytes) -> Result<bool, NoMemory> {
     let mut what = Bytes::new(alloc);
     if is_as_written(alloc, setup, case, &mut what)? {
         return Ok(true);
     }
-    told.extend(b"=== ")?;
-    told.extend(title_of(case).as_bytes())?;
-    told.push(b'\n')?;
-    told.extend(what.as_slice())?;
+    report.extend(b"=== ")?;
+    report.extend(title_of(case).as_bytes())?;
+    report.push(b'\n')?;
+    report.extend(what.as_slice())?;
     Ok(false)
 }
 
@@ -112,20 +112,20 @@ fn count_line(alloc: Global, name: &str, cases: u32, wrong: u32) -> Result<Strin
 
 /// Runs the cases of a file, which has a newline in front of its first line and none at its end.
 fn check_cases(alloc: Global, name: &str, file: &str) -> Result<Checked, NoMemory> {
-    let mut told = Bytes::new(alloc);
+    let mut report = Bytes::new(alloc);
     let mut cases = 0u32;
     let mut wrong = 0u32;
     let mut parts = file.split(CASE);
     let setup = parts.next().unwrap_or("");
     for case in parts {
         cases = cases.saturating_add(1);
-        if !is_right(alloc, setup, case, &mut told)? {
+        if !is_right(alloc, setup, case, &mut report)? {
             wrong = wrong.saturating_add(1);
         }
     }
-    told.extend(count_line(alloc, name, cases, wrong)?.as_bytes())?;
+    report.extend(count_line(alloc, name, cases, wrong)?.as_bytes())?;
     let right = cases > 0 && wrong == 0;
-    Ok(Checked { told, right })
+    Ok(Checked { report, right })
 }
 
 /// Runs the cases of a file.

@@ -49,9 +49,12 @@ fn file_checked(rt: HostRuntime, name: &str) -> Result<Checked, NoMemory> {
 }
 
 fn unread(alloc: Global, name: &str) -> Result<Checked, NoMemory> {
-    let mut told = Bytes::from_slice(alloc, name.as_bytes())?;
-    told.extend(b": can't be read\n")?;
-    Ok(Checked { told, right: false })
+    let mut report = Bytes::from_slice(alloc, name.as_bytes())?;
+    report.extend(b": can't be read\n")?;
+    Ok(Checked {
+        report,
+        right: false,
+    })
 }
 
 /// Checks the file that a word names, and writes what it came to. Whether all is as written, and was told.
@@ -60,7 +63,7 @@ fn word_checked(rt: HostRuntime, word: &[u8]) -> Result<bool, NoMemory> {
         return Ok(false);
     };
     let checked = file_checked(rt, name)?;
-    let written = rt.stdout().write_all(checked.told.as_slice()).is_ok();
+    let written = rt.stdout().write_all(checked.report.as_slice()).is_ok();
     Ok(checked.right && written)
 }
 

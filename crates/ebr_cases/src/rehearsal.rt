@@ -93,7 +93,7 @@ impl Rehearsal {
         &self,
         alloc: Global,
         outcome: &MemOutcome,
-        told: &mut Bytes,
+        report: &mut Bytes,
     ) -> Result<bool, NoMemory> {
         let mut right = outcome.ends.len() == self.sessions.len();
         for (end, session) in outcome.ends.as_slice().iter().zip(self.sessions.as_slice()) {
@@ -102,7 +102,12 @@ impl Rehearsal {
             };
             let number = end.session.0;
             let what = format!(in alloc; "replies {number}")?;
-            if !is_wanted(told, what.as_str(), session.replies.as_slice(), sink.held())? {
+            if !is_wanted(
+                report,
+                what.as_str(),
+                session.replies.as_slice(),
+                sink.held(),
+            )? {
                 right = false;
             }
         }
@@ -114,20 +119,20 @@ impl Rehearsal {
         &self,
         alloc: Global,
         outcome: &MemOutcome,
-        told: &mut Bytes,
+        report: &mut Bytes,
     ) -> Result<bool, NoMemory> {
-        let printed = self.all_print(alloc, outcome, told)?;
+        let printed = self.all_print(alloc, outcome, report)?;
         let held = outcome.report.held();
-        let summed = is_wanted(told, "summary", self.summary.as_slice(), held)?;
-        Ok(is_done(alloc, told, outcome.code.status())? && printed && summed)
+        let summed = is_wanted(report, "summary", self.summary.as_slice(), held)?;
+        Ok(is_done(alloc, report, outcome.code.status())? && printed && summed)
     }
 
     /// Rehearses the scripts. Whether they came to their replies and the summary; what they came to is told where they didn't.
-    pub fn runs(&self, alloc: Global, told: &mut Bytes) -> Result<bool, NoMemory> {
+    pub fn runs(&self, alloc: Global, report: &mut Bytes) -> Result<bool, NoMemory> {
         let words = rehearse_words(self.sessions.len());
         let files = self.files(alloc, words)?;
         let outcome = rehearsed(alloc, words, files, None, None)?;
-        let so = self.is_so(alloc, &outcome, told);
+        let so = self.is_so(alloc, &outcome, report);
         release(outcome);
         so
     }

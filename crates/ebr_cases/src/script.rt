@@ -39,17 +39,17 @@ impl Script {
         &self,
         alloc: Global,
         outcome: &MemOutcome,
-        told: &mut Bytes,
+        report: &mut Bytes,
     ) -> Result<bool, NoMemory> {
         let held = outcome.report.held();
-        let printed = is_wanted(told, "replies", self.replies.as_slice(), held)?;
-        Ok(is_done(alloc, told, outcome.code.status())? && printed)
+        let printed = is_wanted(report, "replies", self.replies.as_slice(), held)?;
+        Ok(is_done(alloc, report, outcome.code.status())? && printed)
     }
 
     /// Runs the script. Whether it came to its replies; what it came to is told where it didn't.
-    pub fn runs(&self, alloc: Global, told: &mut Bytes) -> Result<bool, NoMemory> {
+    pub fn runs(&self, alloc: Global, report: &mut Bytes) -> Result<bool, NoMemory> {
         let outcome = served(alloc, TRY, self.script.as_slice(), NO_FAULTS)?;
-        let so = self.is_so(alloc, &outcome, told);
+        let so = self.is_so(alloc, &outcome, report);
         release(outcome);
         so
     }

@@ -54,8 +54,8 @@ fn initial(
     match value {
         None => must(least, 6, !constant),
         Some(e) => {
-            let told = expression(e.get(), place, known, least);
-            must(least, 4, alike(declared_type(place.seen, ty), told.ty));
+            let typed = expression(e.get(), place, known, least);
+            must(least, 4, alike(declared_type(place.seen, ty), typed.ty));
         }
     }
 }

@@ -60,9 +60,9 @@ fn gives(
     match value {
         None => must(least, 7, place.gives.is_none()),
         Some(e) => {
-            let told = expression(e.get(), place, known, least);
+            let typed = expression(e.get(), place, known, least);
             must(least, 7, place.gives.is_some());
-            must(least, 4, alike(type_in(place.gives), told.ty));
+            must(least, 4, alike(type_in(place.gives), typed.ty));
         }
     }
 }
@@ -230,8 +230,8 @@ fn add_variable<'a>(
 fn print(e: &Expr, place: &Place<'_>, known: &Scopes<'_>, least: &mut Option<u8>)
     ensures { least.new ≡ noted (spec.print_sites e.now (env place.now known.now)) least.old }
 {
-    let told = expression(e, place, known, least);
-    must(least, 4, is_plain(told.ty));
+    let typed = expression(e, place, known, least);
+    must(least, 4, is_plain(typed.ty));
 }
 
 fn raise_number(
@@ -262,8 +262,8 @@ fn statement<'a>(
     match it {
         Stmt::Null => Ok(()),
         Stmt::Assign(to, e) => {
-            let told = expression(e.get(), place, known, least);
-            target(to, told.ty, place, known, least);
+            let typed = expression(e.get(), place, known, least);
+            target(to, typed.ty, place, known, least);
             Ok(())
         }
         Stmt::Block(inner) => block(alloc, inner.get(), place, known, least),

@@ -34,7 +34,7 @@ fn head(alloc: Global, it: &Head, place: &Place<'_>, least: &mut Option<u8>) -> 
 }
 
 /// What a subprogram gives; none where it is a procedure.
-fn given(ty: &Option<ParameterType>, seen: &Seen<'_>) -> Option<Option<ValueType>>
+fn result_type(ty: &Option<ParameterType>, seen: &Seen<'_>) -> Option<Option<ValueType>>
     ensures { result ≡ option_map (declared.parameter_type seen.now.view) ty.now }
 {
     match ty {
@@ -57,7 +57,7 @@ fn subprogram<'a>(
     head(alloc, &it.head, place, least)?;
     let depth = known.depth();
     add_parameters(it.head.parameters.as_slice(), place, known)?;
-    let inner = place.within_subprogram(given(&it.head.result, place.seen));
+    let inner = place.within_subprogram(result_type(&it.head.result, place.seen));
     block(alloc, &it.body, &inner, known, least)?;
     known.cut(depth);
     Ok(())

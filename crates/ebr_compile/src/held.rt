@@ -13,7 +13,7 @@ pub fn without<T: Drop, R>(_held: T, made: R) -> R
 }
 
 /// A value, where what was done with it was done.
-pub fn kept<T: Drop>(held: T, done: Result<(), NoMemory>) -> Result<T, NoMemory>
+pub fn value_if_done<T: Drop>(held: T, done: Result<(), NoMemory>) -> Result<T, NoMemory>
     ensures value { IfOk result (λ it. it ≡ held) }
     ensures done { OnOk result (is_ok done ≡ true) }
 {

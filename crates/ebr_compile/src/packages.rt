@@ -10,7 +10,7 @@ ghost use Rattle.ebr_code.specs.Codes as codes;
 ghost use Rattle.ebr_code.specs.Units as spec;
 ghost use Rattle.ebr_compile.specs.inside.Items as inside;
 
-use crate::held::{kept, release, without};
+use crate::held::{release, value_if_done, without};
 use crate::units::{key_of, subprogram};
 use ebr_ast::{Decl, PackageBody, PackageItem, Subprogram, Subprograms};
 use ebr_base::{Class, CloneIn, List, Name, NoMemory, Shared};
@@ -107,7 +107,7 @@ fn in_specification<'a>(
     let mut around = Around::outside(alloc, seen, Some(key));
     around.set_owner(owner);
     let done = around.add_heads(alloc, name, items);
-    kept(around, done)
+    value_if_done(around, done)
 }
 
 /// How a package's state is made by its specification.
@@ -206,7 +206,7 @@ fn in_body<'a>(
     let items = visible_items(seen, &it.name);
     let mut around = in_specification(alloc, &it.name, items, seen)?;
     let done = add_body(alloc, it, items, &mut around, out);
-    kept(around, done)
+    value_if_done(around, done)
 }
 
 /// Adds the code of a body's initial part, which has variables and cursors of its own.

@@ -77,7 +77,7 @@ pub fn alone(it: &Block) -> bool
 }
 
 /// The type of what a subprogram gives.
-fn given(
+fn result_type(
     alloc: Global,
     seen: &Seen<'_>,
     ty: &Option<ParameterType>,
@@ -126,7 +126,7 @@ fn body_of<'a>(
     ensures code { IfOk result (λ code. code ≡ codes.block_code body.now (run.within_subprogram head.now around.old)) }
     ensures around { OnOk result (around.new ≡ around.old) }
 {
-    let gives = given(alloc, around.seen(), &head.result)?;
+    let gives = result_type(alloc, around.seen(), &head.result)?;
     let outer = around.result();
     let mark = around.mark();
     let frame = around.enter_frame();

@@ -25,12 +25,12 @@ replied_apart db s q a now answer left e other edition differ agree never never'
     by None is here = cc
     by (Some x) is here = reply_alike db other differ s x e is here q agree never never'
 
-module _ {K : Type 0} (told : K → Keeper) (old new : EngineState K) (s : SessionId) (q : Ask) where
+module _ {K : Type 0} (as_keeper : K → Keeper) (old new : EngineState K) (s : SessionId) (q : Ask) where
   -- the database behind one more entry
   behind : (x : Entry) → new.history ≡ old.history ++ x ∷ [] → new.sessions ≡ old.sessions → database_of new ≡ next (database_of old) x
   behind x entry sessions = ap (λ n. After (Build [] n) new.history) sessions ∙ ap (After (first_of old)) entry ∙ After-append (first_of old) old.history x
 
-  by_answer : (given_up : Bool) (a : Answer) → new.history ≡ old.history ++ entry_of s q a ∷ [] → new.sessions ≡ old.sessions → Gives told given_up old.keeper new.keeper a (Reply (database_of old) s q)
+  by_answer : (given_up : Bool) (a : Answer) → new.history ≡ old.history ++ entry_of s q a ∷ [] → new.sessions ≡ old.sessions → Gives as_keeper given_up old.keeper new.keeper a (Reply (database_of old) s q)
       → IsApart (database_of old) s q a (database_of new)
   by_answer true a entry sessions g = subst (λ y. IsApart (database_of old) s q y (database_of new)) (sym g.0) tt
   by_answer false answer.DiskFault entry sessions g = tt
@@ -38,5 +38,5 @@ module _ {K : Type 0} (told : K → Keeper) (old new : EngineState K) (s : Sessi
   by_answer false answer.Stopped entry sessions g = absurd g
   by_answer false a entry sessions g = replied_apart (database_of old) s q a (database_of new) g.0 (behind (entry_of s q a) entry sessions)
 
-  pub answer_apart : (a : Answer) → AnswersAsk told old new s q a → IsApart (database_of old) s q a (database_of new)
+  pub answer_apart : (a : Answer) → AnswersAsk as_keeper old new s q a → IsApart (database_of old) s q a (database_of new)
   answer_apart a h = by_answer (has_given_up old.history) a h.entry h.sessions h.gives

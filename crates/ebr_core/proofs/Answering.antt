@@ -123,23 +123,23 @@ is_last_answer why.NoMemory r old new goes g = g
 pub wanted : (old new : Keeper) (made : List Record) → Grew old new made → GaveUp old new made why.NoMemory
 wanted old new made g = record { faults = g.faults; moment = g.moment; holds = g.holds; cause = tt }
 
-module _ {K : Type 0} (told : K → Keeper) where
+module _ {K : Type 0} (as_keeper : K → Keeper) where
   -- a reply with a copy of its answer, or without memory for one
-  pub tried : (old new : Current K) (given : Answer × Option EditionView) (result : Result ((Answer × Option EditionView) × Answer) Halt) (r : Replied) → IsReplied told old new given.0 r → Copies given result → Tries told old new result r
-  tried old new given (Ok pair) r h c = (subst (λ (g : Answer × Option EditionView). IsReplied told old new g.0 r) (sym c.0) h, c.1 ∙ ap (λ (g : Answer × Option EditionView). g.0) (sym c.0))
-  tried old new given (Err why) r h c = subst (GaveUp (told old.world.keeper) (told new.world.keeper) r.records) (sym c) (wanted (told old.world.keeper) (told new.world.keeper) r.records h.kept)
+  pub tried : (old new : Current K) (given : Answer × Option EditionView) (result : Result ((Answer × Option EditionView) × Answer) Halt) (r : Replied) → IsReplied as_keeper old new given.0 r → Copies given result → Tries as_keeper old new result r
+  tried old new given (Ok pair) r h c = (subst (λ (g : Answer × Option EditionView). IsReplied as_keeper old new g.0 r) (sym c.0) h, c.1 ∙ ap (λ (g : Answer × Option EditionView). g.0) (sym c.0))
+  tried old new given (Err why) r h c = subst (GaveUp (as_keeper old.world.keeper) (as_keeper new.world.keeper) r.records) (sym c) (wanted (as_keeper old.world.keeper) (as_keeper new.world.keeper) r.records h.grew)
 
   -- the history is legal at any time
-  pub legal_now : (p : Parts K) → IsSound told p → HasLegalHistory (state_of told p)
+  pub legal_now : (p : Parts K) → IsSound as_keeper p → HasLegalHistory (state_of as_keeper p)
   legal_now p h = by p.stopped h.stands
     where
-      by : (b : Bool) → Stands told b p → HasLegalHistory (state_of told p)
-      by false r = subst (Legal (first told p)) (append-nil p.history.items) (r.legal [] tt)
-      by true r = subst (Legal (first told p)) (append-nil p.history.items) (r.legal [] tt)
+      by : (b : Bool) → Stands as_keeper b p → HasLegalHistory (state_of as_keeper p)
+      by false r = subst (Legal (first as_keeper p)) (append-nil p.history.items) (r.legal [] tt)
+      by true r = subst (Legal (first as_keeper p)) (append-nil p.history.items) (r.legal [] tt)
 
-  pub live_is : (p : Parts K) (s : SessionId) (b : Bool) → IsSound told p → b ≡ lives_at p.living.items s.0 → IsTrue b ↔ IsLive (database_of (state_of told p)) s
+  pub live_is : (p : Parts K) (s : SessionId) (b : Bool) → IsSound as_keeper p → b ≡ lives_at p.living.items s.0 → IsTrue b ↔ IsLive (database_of (state_of as_keeper p)) s
   live_is p s b h is =
-      let e : b ≡ is_some (session_edition (database_of (state_of told p)) s) = is ∙ ap (λ bs. lives_at bs s.0) h.living ∙ lives_is (database_of (state_of told p)).sessions s.0 in
+      let e : b ≡ is_some (session_edition (database_of (state_of as_keeper p)) s) = is ∙ ap (λ bs. lives_at bs s.0) h.living ∙ lives_is (database_of (state_of as_keeper p)).sessions s.0 in
       (λ yes. sym e ∙ yes, λ yes. e ∙ yes)
 
 true_false : true ≡ false → ⊥
@@ -147,15 +147,15 @@ true_false e = cc
 
 -- ---- the parts with one entry more
 
-module _ {K : Type 0} (told : K → Keeper) where
+module _ {K : Type 0} (as_keeper : K → Keeper) where
   pub record Entered (old new : Parts K) (s : SessionId) (x : Entry) (book : Option EditionView) (living : List Bool) : Type 0 where
     pub entry : new.history.items ≡ old.history.items ++ x ∷ []
     pub books : new.books.items ≡ slice_set old.books.items (s.0 - 1) book
     pub living_is : new.living.items ≡ living
 
-  module _ (old : Parts K) (s : SessionId) (h : IsSound told old) (live : IsLive (database told old) s) where
+  module _ (old : Parts K) (s : SessionId) (h : IsSound as_keeper old) (live : IsLive (database as_keeper old) s) where
     abbrev pub db : Database
-    db = database told old
+    db = database as_keeper old
 
     abbrev pub at : LiveSession db s
     at = live_session db s live
@@ -163,20 +163,20 @@ module _ {K : Type 0} (told : K → Keeper) where
     lives_s : lives_at old.living.items s.0 ≡ true
     lives_s = ap (λ bs. lives_at bs s.0) h.living ∙ at_there db.sessions s.0 at.session at.there ∙ ap is_some at.is_in
 
-    enough : (b : Bool) → Stands told b old → vec_len old.history < vec_capacity old.history
+    enough : (b : Bool) → Stands as_keeper b old → vec_len old.history < vec_capacity old.history
     enough false r = let e = one_left old.living.items s.0 lives_s in let m = r.room in omega (arith, e, m)
     enough true r = let e = one_left old.living.items s.0 lives_s in let m = r.room in omega (arith, e, m)
 
     first_place : 1 ≤ s.0
     first_place = (within old.living.items s.0 lives_s).0
 
-    pub has_room : HasRoom told old s
+    pub has_room : HasRoom as_keeper old s
     has_room = record { first = first_place; last = (within old.living.items s.0 lives_s).1; books = h.books; room = enough old.stopped h.stands }
 
-    abbrev pub runs : old.stopped ≡ false → Runs told old
-    runs is = subst (λ b. Stands told b old) is h.stands
+    abbrev pub runs : old.stopped ≡ false → Runs as_keeper old
+    runs is = subst (λ b. Stands as_keeper b old) is h.stands
 
-    abbrev pub is_held : old.stopped ≡ false → IsHeld told old.current s
+    abbrev pub is_held : old.stopped ≡ false → IsHeld as_keeper old.current s
     is_held is = record { database = db; edition = at.edition; session = at.session; holds = (runs is).holds; has = record { there = at.there; edition = at.is_in } }
 
     given_before : (b : Bool) → old.stopped ≡ b → has_given_up old.history.items ≡ b
@@ -186,32 +186,32 @@ module _ {K : Type 0} (told : K → Keeper) where
       same_len : length new.living.items ≡ length old.living.items
       same_len = ap (λ (bs : List Bool). length bs) a.living_is ∙ len
 
-      after : database told new ≡ next db x
-      after = ap (λ n. After (Build [] n) new.history.items) same_len ∙ ap (After (first told old)) a.entry ∙ After-append (first told old) old.history.items x
+      after : database as_keeper new ≡ next db x
+      after = ap (λ n. After (Build [] n) new.history.items) same_len ∙ ap (After (first as_keeper old)) a.entry ∙ After-append (first as_keeper old) old.history.items x
 
       books_len : length new.books.items ≡ length new.living.items
       books_len = ap (λ (bs : List (Option EditionView)). length bs) a.books ∙ length_set old.books.items (s.0 - 1) book ∙ h.books ∙ sym same_len
 
-      legal_on : (P : Database → List Entry → Type 0) → ((more : List Entry) → P (next db x) more → Legal (first told old) ((old.history.items ++ x ∷ []) ++ more))
-          → (more : List Entry) → P (database told new) more → Legal (first told new) (new.history.items ++ more)
+      legal_on : (P : Database → List Entry → Type 0) → ((more : List Entry) → P (next db x) more → Legal (first as_keeper old) ((old.history.items ++ x ∷ []) ++ more))
+          → (more : List Entry) → P (database as_keeper new) more → Legal (first as_keeper new) (new.history.items ++ more)
       legal_on P f more p =
           subst (λ n. Legal (Build [] n) (new.history.items ++ more)) (sym same_len)
-          (subst (λ es. Legal (first told old) (es ++ more)) (sym a.entry) (f more (subst (λ d. P d more) after p)))
+          (subst (λ es. Legal (first as_keeper old) (es ++ more)) (sym a.entry) (f more (subst (λ d. P d more) after p)))
 
-      whole : (P : Database → List Entry → Type 0) → ((more : List Entry) → P (database told new) more → Legal (first told new) (new.history.items ++ more)) → P (database told new) [] → HasLegalHistory (state_of told new)
-      whole P f none = subst (Legal (first told new)) (append-nil new.history.items) (f [] none)
+      whole : (P : Database → List Entry → Type 0) → ((more : List Entry) → P (database as_keeper new) more → Legal (first as_keeper new) (new.history.items ++ more)) → P (database as_keeper new) [] → HasLegalHistory (state_of as_keeper new)
+      whole P f none = subst (Legal (first as_keeper new)) (append-nil new.history.items) (f [] none)
 
-      lives_after : IsSound told new → (r : SessionId) → lives_at living r.0 ≡ true → IsLive (database told new) r
+      lives_after : IsSound as_keeper new → (r : SessionId) → lives_at living r.0 ≡ true → IsLive (database as_keeper new) r
       lives_after sound r is =
-          sym (ap (λ bs. lives_at bs r.0) (sym a.living_is ∙ sound.living) ∙ lives_is (database told new).sessions r.0) ∙ is
+          sym (ap (λ bs. lives_at bs r.0) (sym a.living_is ∙ sound.living) ∙ lives_is (database as_keeper new).sessions r.0) ∙ is
 
       was_live : (r : SessionId) → IsLive db r → lives_at old.living.items r.0 ≡ true
       was_live r is = ap (λ bs. lives_at bs r.0) h.living ∙ lives_is db.sessions r.0 ∙ is
 
-      answers_by : (ask : Ask) (y : Answer) → x ≡ entry_of s ask y → IsSound told new → ((r : SessionId) → (r.0 ≡ s.0 → ⊥) → lives_at old.living.items r.0 ≡ true → lives_at living r.0 ≡ true)
-          → (y ≢ answer.Stopped → ask ≢ Leave → lives_at living s.0 ≡ true) → HasLegalHistory (state_of told new) → HasBook y book
+      answers_by : (ask : Ask) (y : Answer) → x ≡ entry_of s ask y → IsSound as_keeper new → ((r : SessionId) → (r.0 ≡ s.0 → ⊥) → lives_at old.living.items r.0 ≡ true → lives_at living r.0 ≡ true)
+          → (y ≢ answer.Stopped → ask ≢ Leave → lives_at living s.0 ≡ true) → HasLegalHistory (state_of as_keeper new) → HasBook y book
           → (ask ≡ Leave → has_given_up old.history.items ≡ false → y ≡ answer.Done)
-          → Gives told (has_given_up old.history.items) old.current.world.keeper new.current.world.keeper y (Reply db s ask) → AnswersAsk told (state_of told old) (state_of told new) s ask y
+          → Gives as_keeper (has_given_up old.history.items) old.current.world.keeper new.current.world.keeper y (Reply db s ask) → AnswersAsk as_keeper (state_of as_keeper old) (state_of as_keeper new) s ask y
       answers_by ask y same sound others stays legal has leaves gives = record {
         entry = a.entry ∙ ap (λ e. old.history.items ++ e ∷ []) same;
         legal = legal;
@@ -225,11 +225,11 @@ module _ {K : Type 0} (told : K → Keeper) where
         gives = gives;
       }
 
-    entered : (new : Parts K) (x : Entry) (book : Option EditionView) (living : List Bool) → Adds told old new s x book living → Entered old new s x book living
+    entered : (new : Parts K) (x : Entry) (book : Option EditionView) (living : List Bool) → Adds as_keeper old new s x book living → Entered old new s x book living
     entered new x book living a = record { entry = a.entry; books = a.books; living_is = a.living_is }
 
     -- the room that was made before
-    pub room_on : (mid : Parts K) → Keeps told old mid → HasRoom told mid s
+    pub room_on : (mid : Parts K) → Keeps as_keeper old mid → HasRoom as_keeper mid s
     room_on mid k =
         let r = has_room in
         let living : length mid.living.items ≡ length old.living.items = ap (λ (bs : List Bool). length bs) k.living in
@@ -246,21 +246,21 @@ module _ {K : Type 0} (told : K → Keeper) where
     left_others : (r : SessionId) → (r.0 ≡ s.0 → ⊥) → lives_at old.living.items r.0 ≡ true → lives_at (slice_set old.living.items (s.0 - 1) false) r.0 ≡ true
     left_others r differ is = other_lives old.living.items s.0 r.0 lives_s differ ∙ is
 
-    left_lives : (new : Parts K) (y : Answer) (a : Adds told old new s (entry s Leave y) None (slice_set old.living.items (s.0 - 1) false)) → new.living.items ≡ lives (database told new)
+    left_lives : (new : Parts K) (y : Answer) (a : Adds as_keeper old new s (entry s Leave y) None (slice_set old.living.items (s.0 - 1) false)) → new.living.items ≡ lives (database as_keeper new)
     left_lives new y a =
         a.living_is ∙ ap (λ bs. slice_set bs (s.0 - 1) false) h.living ∙ sym (lives_left db s at.edition at.session at.there at.is_in)
         ∙ ap lives (sym (after new (entry s Leave y) None _ (entered new _ None _ a) left_len))
 
-    module _ (new : Parts K) (a : Adds told old new s (entry s Leave answer.Stopped) None (slice_set old.living.items (s.0 - 1) false)) (current : new.current ≡ old.current) (is : old.stopped ≡ true) where
+    module _ (new : Parts K) (a : Adds as_keeper old new s (entry s Leave answer.Stopped) None (slice_set old.living.items (s.0 - 1) false)) (current : new.current ≡ old.current) (is : old.stopped ≡ true) where
       abbrev es : Entered old new s (entry s Leave answer.Stopped) None (slice_set old.living.items (s.0 - 1) false)
       es = entered new _ None _ a
 
-      had : HasStopped told old
-      had = subst (λ b. Stands told b old) is h.stands
+      had : HasStopped as_keeper old
+      had = subst (λ b. Stands as_keeper b old) is h.stands
 
-      stays_stopped : HasStopped told new
+      stays_stopped : HasStopped as_keeper new
       stays_stopped = record {
-        legal = legal_on new _ None _ es left_len AllStopped (is_stopped (first told old) old.history.items (entry s Leave answer.Stopped) live had.legal refl refl);
+        legal = legal_on new _ None _ es left_len AllStopped (is_stopped (first as_keeper old) old.history.items (entry s Leave answer.Stopped) live had.legal refl refl);
         room =
             let e = one_left old.living.items s.0 lives_s in
             let m = had.room in
@@ -268,55 +268,55 @@ module _ {K : Type 0} (told : K → Keeper) where
             omega (arith, e, m, c, a.len, a.room);
       }
 
-      pub stop_sound : IsSound told new
+      pub stop_sound : IsSound as_keeper new
       stop_sound = record {
         living = left_lives new answer.Stopped a;
         books = books_len new _ None _ es left_len;
         stopped = a.stopped ∙ is ∙ sym (given_up_before old.history.items (entry s Leave answer.Stopped) (given_before true is)) ∙ ap has_given_up (sym a.entry);
-        stands = subst (λ b. Stands told b new) (sym (a.stopped ∙ is)) stays_stopped;
+        stands = subst (λ b. Stands as_keeper b new) (sym (a.stopped ∙ is)) stays_stopped;
       }
 
-      pub stop_answers : (ask : Ask) (y : Answer) → y ≡ answer.Stopped → AnswersAsk told (state_of told old) (state_of told new) s ask y
-      stop_answers ask y same = subst (λ y. AnswersAsk told (state_of told old) (state_of told new) s ask y) (sym same)
+      pub stop_answers : (ask : Ask) (y : Answer) → y ≡ answer.Stopped → AnswersAsk as_keeper (state_of as_keeper old) (state_of as_keeper new) s ask y
+      stop_answers ask y same = subst (λ y. AnswersAsk as_keeper (state_of as_keeper old) (state_of as_keeper new) s ask y) (sym same)
           (answers_by new _ None _ es left_len ask answer.Stopped refl stop_sound left_others (λ y' stays. absurd (y' refl)) (whole new _ None _ es left_len AllStopped stays_stopped.legal tt) refl (λ q gave. absurd (true_false (sym (given_before true is) ∙ gave)))
-          (subst (λ b. Gives told b old.current.world.keeper new.current.world.keeper answer.Stopped (Reply db s ask)) (sym (given_before true is))
+          (subst (λ b. Gives as_keeper b old.current.world.keeper new.current.world.keeper answer.Stopped (Reply db s ask)) (sym (given_before true is))
           (refl, ap (λ (c : Current K). c.world.keeper) current)))
 
     -- ---- it runs
 
     module _ (new : Parts K) (is : old.stopped ≡ false) where
       module _ (ask : Ask) (y : Answer) (book : Option EditionView) (living : List Bool) (e : Entered old new s (entry s ask y) book living) (len : length living ≡ length old.living.items)
-          (r : IsReplied told old.current new.current y (Reply db s ask)) (last : is_last y ≡ false)
+          (r : IsReplied as_keeper old.current new.current y (Reply db s ask)) (last : is_last y ≡ false)
           (room : vec_len new.history + live_count new.living.items + 1 ≤ vec_capacity new.history)
           (stopped : new.stopped ≡ old.stopped) (lives_new : living ≡ lives (Reply db s ask).database) where
-        goes_legal : (more : List Entry) → Legal (database told new) more → Legal (first told new) (new.history.items ++ more)
-        goes_legal = legal_on new _ book living e len Legal (goes_on (first told old) old.history.items (entry s ask y) live (runs is).legal last r.answer)
+        goes_legal : (more : List Entry) → Legal (database as_keeper new) more → Legal (first as_keeper new) (new.history.items ++ more)
+        goes_legal = legal_on new _ book living e len Legal (goes_on (first as_keeper old) old.history.items (entry s ask y) live (runs is).legal last r.answer)
 
-        runs_on : Runs told new
+        runs_on : Runs as_keeper new
         runs_on = record {
           legal = goes_legal;
-          holds = subst (Holds told new.current) (sym (after new _ book living e len)) r.holds;
-          goes = r.kept.stopped ∙ (runs is).goes;
+          holds = subst (Holds as_keeper new.current) (sym (after new _ book living e len)) r.holds;
+          goes = r.grew.stopped ∙ (runs is).goes;
           room = room;
         }
 
-        pub reply_sound : IsSound told new
+        pub reply_sound : IsSound as_keeper new
         reply_sound = record {
           living = e.living_is ∙ lives_new ∙ ap lives (sym (after new _ book living e len));
           books = books_len new _ book living e len;
           stopped = stopped ∙ is ∙ sym (never_given_up old.history.items (entry s ask y) (given_before false is) last) ∙ ap has_given_up (sym e.entry);
-          stands = subst (λ b. Stands told b new) (sym (stopped ∙ is)) runs_on;
+          stands = subst (λ b. Stands as_keeper b new) (sym (stopped ∙ is)) runs_on;
         }
 
         pub reply_answers : ((r : SessionId) → (r.0 ≡ s.0 → ⊥) → lives_at old.living.items r.0 ≡ true → lives_at living r.0 ≡ true) → (y ≢ answer.Stopped → ask ≢ Leave → lives_at living s.0 ≡ true)
-            → entry s ask y ≡ entry_of s ask y → HasBook y book → (ask ≡ Leave → has_given_up old.history.items ≡ false → y ≡ answer.Done) → IsAnswer y (Reply db s ask) (told old.current.world.keeper) (told new.current.world.keeper)
-            → AnswersAsk told (state_of told old) (state_of told new) s ask y
+            → entry s ask y ≡ entry_of s ask y → HasBook y book → (ask ≡ Leave → has_given_up old.history.items ≡ false → y ≡ answer.Done) → IsAnswer y (Reply db s ask) (as_keeper old.current.world.keeper) (as_keeper new.current.world.keeper)
+            → AnswersAsk as_keeper (state_of as_keeper old) (state_of as_keeper new) s ask y
         reply_answers others stays same has leaves answers =
             answers_by new _ book living e len ask y same reply_sound others stays (whole new _ book living e len Legal goes_legal tt) has leaves
-            (subst (λ b. Gives told b old.current.world.keeper new.current.world.keeper y (Reply db s ask)) (sym (given_before false is)) answers)
+            (subst (λ b. Gives as_keeper b old.current.world.keeper new.current.world.keeper y (Reply db s ask)) (sym (given_before false is)) answers)
 
       -- a session leaves
-      module _ (a : Adds told old new s (entry s Leave answer.Done) None (slice_set old.living.items (s.0 - 1) false)) (r : IsReplied told old.current new.current answer.Done (Reply db s Leave)) where
+      module _ (a : Adds as_keeper old new s (entry s Leave answer.Done) None (slice_set old.living.items (s.0 - 1) false)) (r : IsReplied as_keeper old.current new.current answer.Done (Reply db s Leave)) where
         left_room : vec_len new.history + live_count new.living.items + 1 ≤ vec_capacity new.history
         left_room =
             let e = one_left old.living.items s.0 lives_s in
@@ -327,23 +327,23 @@ module _ {K : Type 0} (told : K → Keeper) where
         left_is : slice_set old.living.items (s.0 - 1) false ≡ lives (Reply db s Leave).database
         left_is = ap (λ bs. slice_set bs (s.0 - 1) false) h.living ∙ sym (lives_left db s at.edition at.session at.there at.is_in)
 
-        pub leave_sound : IsSound told new
+        pub leave_sound : IsSound as_keeper new
         leave_sound = reply_sound Leave answer.Done None _ (entered new _ None _ a) left_len r refl left_room a.stopped left_is
 
-        pub leave_answers : (y : Answer) → y ≡ answer.Done → AnswersAsk told (state_of told old) (state_of told new) s Leave y
-        leave_answers y same = subst (λ y. AnswersAsk told (state_of told old) (state_of told new) s Leave y) (sym same)
-            (reply_answers Leave answer.Done None _ (entered new _ None _ a) left_len r refl left_room a.stopped left_is left_others (λ y' stays. absurd (stays refl)) refl refl (λ q gave. refl) (r.answer, r.kept))
+        pub leave_answers : (y : Answer) → y ≡ answer.Done → AnswersAsk as_keeper (state_of as_keeper old) (state_of as_keeper new) s Leave y
+        leave_answers y same = subst (λ y. AnswersAsk as_keeper (state_of as_keeper old) (state_of as_keeper new) s Leave y) (sym same)
+            (reply_answers Leave answer.Done None _ (entered new _ None _ a) left_len r refl left_room a.stopped left_is left_others (λ y' stays. absurd (stays refl)) refl refl (λ q gave. refl) (r.answer, r.grew))
 
       -- another ask, with room made before
-      module _ (mid : Parts K) (k : Keeps told old mid) (ask : Ask) (stays : ask ≢ Leave) where
+      module _ (mid : Parts K) (k : Keeps as_keeper old mid) (ask : Ask) (stays : ask ≢ Leave) where
         suits : Suits db ask (Reply db s ask)
         suits = reply_suits db s at.edition at.session at.there at.is_in ask stays
 
         same_lives : old.living.items ≡ lives (Reply db s ask).database
         same_lives = h.living ∙ sym suits.lives_are
 
-        module _ (y copy : Answer) (book : Option EditionView) (a : Adds told mid new s (entry s ask copy) book mid.living.items) (same : copy ≡ y) (current : new.current ≡ mid.current)
-            (r : IsReplied told old.current mid.current y (Reply db s ask)) (comes : ComesWith ask y book)
+        module _ (y copy : Answer) (book : Option EditionView) (a : Adds as_keeper mid new s (entry s ask copy) book mid.living.items) (same : copy ≡ y) (current : new.current ≡ mid.current)
+            (r : IsReplied as_keeper old.current mid.current y (Reply db s ask)) (comes : ComesWith ask y book)
             (room : vec_len mid.history + (length mid.living.items + 2) ≤ vec_capacity mid.history) where
           on_old : Entered old new s (entry s ask y) book old.living.items
           on_old = record {
@@ -352,8 +352,8 @@ module _ {K : Type 0} (told : K → Keeper) where
             living_is = a.living_is ∙ k.living;
           }
 
-          replied : IsReplied told old.current new.current y (Reply db s ask)
-          replied = subst (λ c. IsReplied told old.current c y (Reply db s ask)) (sym current) r
+          replied : IsReplied as_keeper old.current new.current y (Reply db s ask)
+          replied = subst (λ c. IsReplied as_keeper old.current c y (Reply db s ask)) (sym current) r
 
           replies : Replies ask y
           replies = subst (Replies ask) (sym r.answer) suits.answer_is
@@ -364,17 +364,17 @@ module _ {K : Type 0} (told : K → Keeper) where
               let c : live_count new.living.items ≡ live_count mid.living.items = ap live_count a.living_is in
               omega (arith, m, c, room, a.len, a.room)
 
-          pub asked_sound : IsSound told new
+          pub asked_sound : IsSound as_keeper new
           asked_sound = reply_sound ask y book old.living.items on_old refl replied (is_no_last ask y replies) enough_room (a.stopped ∙ k.stopped) same_lives
 
-          pub asked_answers : AnswersAsk told (state_of told old) (state_of told new) s ask y
+          pub asked_answers : AnswersAsk as_keeper (state_of as_keeper old) (state_of as_keeper new) s ask y
           asked_answers =
               reply_answers ask y book old.living.items on_old refl replied (is_no_last ask y replies) enough_room (a.stopped ∙ k.stopped) same_lives
-              (λ r' differ is'. is') (λ y' stays'. lives_s) (entry_is s ask y replies) (has_book ask y book replies comes) (λ q gave. absurd (stays q)) (is_answer ask y (Reply db s ask) _ _ replies r.answer replied.kept)
+              (λ r' differ is'. is') (λ y' stays'. lives_s) (entry_is s ask y replies) (has_book ask y book replies comes) (λ q gave. absurd (stays q)) (is_answer ask y (Reply db s ask) _ _ replies r.answer replied.grew)
 
         -- it gives up
-        module _ (why : Halt) (g : GivesUp told mid new s (entry s ask (last_answer why))) (current : new.current ≡ mid.current)
-            (up : GaveUp (told old.current.world.keeper) (told mid.current.world.keeper) (Reply db s ask).records why) where
+        module _ (why : Halt) (g : GivesUp as_keeper mid new s (entry s ask (last_answer why))) (current : new.current ≡ mid.current)
+            (up : GaveUp (as_keeper old.current.world.keeper) (as_keeper mid.current.world.keeper) (Reply db s ask).records why) where
           on_last : Entered old new s (entry s ask (last_answer why)) None old.living.items
           on_last = record {
             entry = g.entry ∙ ap (λ es. es ++ entry s ask (last_answer why) ∷ []) k.entries;
@@ -382,10 +382,10 @@ module _ {K : Type 0} (told : K → Keeper) where
             living_is = g.living ∙ k.living;
           }
 
-          last_legal : (more : List Entry) → AllStopped (database told new) more → Legal (first told new) (new.history.items ++ more)
-          last_legal = legal_on new _ None _ on_last refl AllStopped (gives_up (first told old) old.history.items (entry s ask (last_answer why)) live (runs is).legal (last_is why))
+          last_legal : (more : List Entry) → AllStopped (database as_keeper new) more → Legal (first as_keeper new) (new.history.items ++ more)
+          last_legal = legal_on new _ None _ on_last refl AllStopped (gives_up (first as_keeper old) old.history.items (entry s ask (last_answer why)) live (runs is).legal (last_is why))
 
-          has_stopped : HasStopped told new
+          has_stopped : HasStopped as_keeper new
           has_stopped = record {
             legal = last_legal;
             room =
@@ -394,19 +394,19 @@ module _ {K : Type 0} (told : K → Keeper) where
                 omega (arith, m, c, g.len, g.room, k.len, k.room);
           }
 
-          pub last_sound : IsSound told new
+          pub last_sound : IsSound as_keeper new
           last_sound = record {
             living = g.living ∙ k.living ∙ same_lives ∙ ap lives (sym (after new _ None _ on_last refl));
             books = books_len new _ None _ on_last refl;
             stopped = g.stopped ∙ sym (given_up_now old.history.items (entry s ask (last_answer why)) (last_is why)) ∙ ap has_given_up (sym g_entry);
-            stands = subst (λ b. Stands told b new) (sym g.stopped) has_stopped;
+            stands = subst (λ b. Stands as_keeper b new) (sym g.stopped) has_stopped;
           }
             where
               g_entry : new.history.items ≡ old.history.items ++ entry s ask (last_answer why) ∷ []
               g_entry = on_last.entry
 
-          pub last_answers : (y : Answer) → y ≡ last_answer why → AnswersAsk told (state_of told old) (state_of told new) s ask y
-          last_answers y same = subst (λ y. AnswersAsk told (state_of told old) (state_of told new) s ask y) (sym same)
+          pub last_answers : (y : Answer) → y ≡ last_answer why → AnswersAsk as_keeper (state_of as_keeper old) (state_of as_keeper new) s ask y
+          last_answers y same = subst (λ y. AnswersAsk as_keeper (state_of as_keeper old) (state_of as_keeper new) s ask y) (sym same)
               (answers_by new _ None _ on_last refl ask (last_answer why) (last_entry s ask why) last_sound (λ r' differ is'. is') (λ y' stays'. lives_s) (whole new _ None _ on_last refl AllStopped last_legal tt) (last_book why) (λ q gave. absurd (stays q))
-              (subst (λ b. Gives told b old.current.world.keeper new.current.world.keeper (last_answer why) (Reply db s ask)) (sym (given_before false is))
-              (is_last_answer why (Reply db s ask) _ _ (runs is).goes (subst (λ (c : Current K). GaveUp (told old.current.world.keeper) (told c.world.keeper) (Reply db s ask).records why) (sym current) up))))
+              (subst (λ b. Gives as_keeper b old.current.world.keeper new.current.world.keeper (last_answer why) (Reply db s ask)) (sym (given_before false is))
+              (is_last_answer why (Reply db s ask) _ _ (runs is).goes (subst (λ (c : Current K). GaveUp (as_keeper old.current.world.keeper) (as_keeper c.world.keeper) (Reply db s ask).records why) (sym current) up))))

@@ -18,19 +18,19 @@ use Rattle.ebr_core.specs.declared.current.Current.{Current}
 use Rattle.ebr_core.specs.Machine.{lists_of, reply_begin}
 use Rattle.ebr_core.specs.inside.Held.{Holds, IsReplied}
 
-pub begun : {K : Type 0} (told : K → Keeper) (old new : Current K) (db : Database) (e d : EditionNo) (s : SessionId) (x : Session) (v : EditionView) → Holds told old db → session_at db.sessions s.0 ≡ Some x → d ≡ e
+pub begun : {K : Type 0} (as_keeper : K → Keeper) (old new : Current K) (db : Database) (e d : EditionNo) (s : SessionId) (x : Session) (v : EditionView) → Holds as_keeper old db → session_at db.sessions s.0 ≡ Some x → d ≡ e
     → new.world.catalogue ≡ old.world.catalogue → new.world.keeper ≡ old.world.keeper → AreCurrent (lists_of db) new.views → AreCurrent (lists_of db) new.world.book
-    → Seated (told old.world.keeper).used new.world.tx.contents new.seats.items (call_opened db s x) → IsViewOf (lists_of db) e v
-    → IsReplied told old new (answer.View v) (reply_begin d db s x)
-begun told old new db e d s x v h there same catalogue keeper views books seated seen = record {
+    → Seated (as_keeper old.world.keeper).used new.world.tx.contents new.seats.items (call_opened db s x) → IsViewOf (lists_of db) e v
+    → IsReplied as_keeper old new (answer.View v) (reply_begin d db s x)
+begun as_keeper old new db e d s x v h there same catalogue keeper views books seated seen = record {
   answer = ap answer.View (seen.is ∙ ap (λ k. seen_in (lists_of db) k) (sym same));
-  kept = subst (λ k. Grew (told old.world.keeper) (told k) []) (sym keeper) (grew_same (told old.world.keeper));
+  grew = subst (λ k. Grew (as_keeper old.world.keeper) (as_keeper k) []) (sym keeper) (grew_same (as_keeper old.world.keeper));
   holds = record {
     catalogue_is = catalogue ∙ h.catalogue_is;
     own_keys = h.own_keys;
     views_are = views;
     books_are = books;
-    seated = subst (λ k. Seated (told k).used new.world.tx.contents new.seats.items (call_opened db s x)) (sym keeper) seated;
+    seated = subst (λ k. Seated (as_keeper k).used new.world.tx.contents new.seats.items (call_opened db s x)) (sym keeper) seated;
     reached = h.reached;
     early = early_opened db s h.early x there;
   };

@@ -15,7 +15,7 @@ use Rattle.ebr_base.specs.declared.table.TableDef.{TableDef}
 use Rattle.ebr_tx.specs.Calls.{IsMarkOf, after_add_table}
 use Rattle.ebr_cross.specs.declared.record.CatalogueRecord.{CatalogueRecord}
 use Rattle.ebr_cross.specs.declared.record.CatalogueRecord.TheVariants as made
-use Rattle.ebr_cross.specs.Catalogue.{HaveOwnKeys, View, kept}
+use Rattle.ebr_cross.specs.Catalogue.{HaveOwnKeys, View, as_catalogue}
 use Rattle.ebr_cross.specs.Definitions.{outcome}
 use Rattle.ebr_record.specs.declared.record.Record.{Record}
 use Rattle.ebr_record.specs.Keeper.{Keeper, share, used_by}
@@ -124,35 +124,35 @@ may_be r = Ok r
 same_made : (x y : CatalogueRecord) → may_be x ≡ may_be y → x ≡ y
 same_made x y e = cc
 
-module _ {K : Type 0} (told : K → Keeper) where
+module _ {K : Type 0} (as_keeper : K → Keeper) where
   -- the same but for the keeper
   abbrev with_keeper : Current K → K → Current K
   with_keeper now k = record now { world = record now.world { keeper = k } }
 
-  held_on : (old new : Current K) (db : Database) → Holds told old db → new ≡ with_keeper old new.world.keeper → Grew (told old.world.keeper) (told new.world.keeper) [] → Holds told new db
-  held_on old new db h same kept =
-      subst (λ c. Holds told c db) (sym same)
-      (holds_on told old (with_keeper old new.world.keeper) db h refl refl refl db refl h.reached h.early (record {
+  held_on : (old new : Current K) (db : Database) → Holds as_keeper old db → new ≡ with_keeper old new.world.keeper → Grew (as_keeper old.world.keeper) (as_keeper new.world.keeper) [] → Holds as_keeper new db
+  held_on old new db h same grew =
+      subst (λ c. Holds as_keeper c db) (sym same)
+      (holds_on as_keeper old (with_keeper old new.world.keeper) db h refl refl refl db refl h.reached h.early (record {
         data_is = h.seated.data_is;
-        used_is = omega (arith, kept.used, h.seated.used_is);
+        used_is = omega (arith, grew.used, h.seated.used_is);
         storable = h.seated.storable;
         sit = h.seated.sit;
       }))
 
-  pub not_carried : (old new : Current K) (db : Database) (out : Result CatalogueRecord Code) (f : Failure) → Holds told old db → new ≡ with_keeper old new.world.keeper
-      → KeepsOutcome (told old.world.keeper) (told new.world.keeper) (Err f) out (recorded out (used_by db.records)) → Carries told old new (Err f) db (recorded out (used_by db.records))
-  not_carried old new db out (Refused code) h same k = record { is = k; holds = held_on old new db h same k.kept }
+  pub not_carried : (old new : Current K) (db : Database) (out : Result CatalogueRecord Code) (f : Failure) → Holds as_keeper old db → new ≡ with_keeper old new.world.keeper
+      → KeepsOutcome (as_keeper old.world.keeper) (as_keeper new.world.keeper) (Err f) out (recorded out (used_by db.records)) → Carries as_keeper old new (Err f) db (recorded out (used_by db.records))
+  not_carried old new db out (Refused code) h same k = record { is = k; holds = held_on old new db h same k.grew }
   not_carried old new db out (Halted why) h same k = k
 
   -- there was no memory behind the record
   pub carried_short : (old mid new : Current K) (db : Database) (out : Result CatalogueRecord Code) (u : Unit {0}) → new.world.keeper ≡ mid.world.keeper
-      → KeepsOutcome (told old.world.keeper) (told mid.world.keeper) (Ok u) out (recorded out (used_by db.records))
-      → GaveUp (told old.world.keeper) (told new.world.keeper) (recorded out (used_by db.records)).made why.NoMemory
+      → KeepsOutcome (as_keeper old.world.keeper) (as_keeper mid.world.keeper) (Ok u) out (recorded out (used_by db.records))
+      → GaveUp (as_keeper old.world.keeper) (as_keeper new.world.keeper) (recorded out (used_by db.records)).made why.NoMemory
   carried_short old mid new db out u same k =
-      subst (λ x. GaveUp (told old.world.keeper) (told x) (recorded out (used_by db.records)).made why.NoMemory) (sym same)
-      (subst (λ m. GaveUp (told old.world.keeper) (told mid.world.keeper) m why.NoMemory) (sym k.2.made) (kept_stops _ _ _ k.2.kept))
+      subst (λ x. GaveUp (as_keeper old.world.keeper) (as_keeper x) (recorded out (used_by db.records)).made why.NoMemory) (sym same)
+      (subst (λ m. GaveUp (as_keeper old.world.keeper) (as_keeper mid.world.keeper) m why.NoMemory) (sym k.2.made) (kept_stops _ _ _ k.2.grew))
 
-  module _ (old : Current K) (db : Database) (e : EditionNo) (sessions : List EditionNo) (what : Definition) (text : List ℕ) (h : Holds told old db) (fit : IsTextOf what text) where
+  module _ (old : Current K) (db : Database) (e : EditionNo) (sessions : List EditionNo) (what : Definition) (text : List ℕ) (h : Holds as_keeper old db) (fit : IsTextOf what text) where
     defines_so : (r : CatalogueRecord) → outcome (lists_of db) e sessions what text ≡ Ok r → Defines db r
     defines_so r is = defines db e sessions what text r fit.spelled fit.small is h.reached
 
@@ -165,100 +165,100 @@ module _ {K : Type 0} (told : K → Keeper) where
 
     -- it was carried out
     pub carried : (mid new : Current K) (u : Unit {0}) → mid ≡ with_keeper old mid.world.keeper → new.world.keeper ≡ mid.world.keeper
-        → KeepsOutcome (told old.world.keeper) (told mid.world.keeper) (Ok u) (outcome (lists_of db) e sessions what text) (recorded (outcome (lists_of db) e sessions what text) (used_by db.records))
+        → KeepsOutcome (as_keeper old.world.keeper) (as_keeper mid.world.keeper) (Ok u) (outcome (lists_of db) e sessions what text) (recorded (outcome (lists_of db) e sessions what text) (used_by db.records))
         → ((r : CatalogueRecord) → outcome (lists_of db) e sessions what text ≡ Ok r → Applied (lists_of db) r mid new)
-        → IsMade told old new db (recorded (outcome (lists_of db) e sessions what text) (used_by db.records))
+        → IsMade as_keeper old new db (recorded (outcome (lists_of db) e sessions what text) (used_by db.records))
     carried mid new u same keeper k applied =
         let r = k.0 in
         let m = defines_so r k.1 in
         let a = applied r k.1 in
-        let grown = subst (λ x. Grew (told old.world.keeper) (told x) (record_of r ∷ [])) (sym keeper) k.2.kept in
+        let grown = subst (λ x. Grew (as_keeper old.world.keeper) (as_keeper x) (record_of r ∷ [])) (sym keeper) k.2.grew in
         let seats : new.seats.items ≡ old.seats.items = ap (λ v. v.items) (a.noticed.seats ∙ ap (λ (c : Current K). c.seats) same) in
         let after : new.world.tx.contents ≡ with_table_of old.world.tx.contents r = a.noticed.tables ∙ ap (λ (c : Current K). with_table_of c.world.tx.contents r) same in
         record {
           definition = r;
-          is = record { made = k.2.made; value = k.2.value; kept = grown };
+          is = record { made = k.2.made; value = k.2.value; grew = grown };
           holds = record {
-            catalogue_is = a.catalogue ∙ ap kept (sym m.lists);
+            catalogue_is = a.catalogue ∙ ap as_catalogue (sym m.lists);
             own_keys = subst HaveOwnKeys (sym m.lists) a.own_keys;
             views_are = subst (λ c. AreCurrent c new.views) (sym m.lists) a.noticed.views;
             books_are = subst (λ c. AreCurrent c new.world.book) (sym m.lists) a.noticed.books;
-            seated = subst (λ l. Seated (told new.world.keeper).used new.world.tx.contents l (with_definition_of db r)) (sym seats)
-                (seated_on r db (told old.world.keeper).used (told new.world.keeper).used old.world.tx.contents new.world.tx.contents old.seats.items m h.seated grown.used after);
+            seated = subst (λ l. Seated (as_keeper new.world.keeper).used new.world.tx.contents l (with_definition_of db r)) (sym seats)
+                (seated_on r db (as_keeper old.world.keeper).used (as_keeper new.world.keeper).used old.world.tx.contents new.world.tx.contents old.seats.items m h.seated grown.used after);
             reached = m.reached;
             early = early_records db (record_of r ∷ []) h.early;
           };
         }
 
   -- what holds behind a definition that was carried out
-  pub held_behind : (old new : Current K) (db : Database) (o : Recorded) (res : Result (Unit {0}) Failure) → Carries told old new res db o → OnOk res (HoldsSome told new)
+  pub held_behind : (old new : Current K) (db : Database) (o : Recorded) (res : Result (Unit {0}) Failure) → Carries as_keeper old new res db o → OnOk res (HoldsSome as_keeper new)
   held_behind old new db o (Ok u) m = record { database = with_definition_of db m.definition; holds = m.holds }
   held_behind old new db o (Err f) m = tt
 
   -- the outcome is that of the definition, where no other transaction holds the table
   pub defined_on : (old new : Current K) (db : Database) (s : SessionId) (e d : EditionNo) (sessions : List EditionNo) (what : Definition) (text : List ℕ) (res : Result (Unit {0}) Failure) (c : Data) → c ≡ data_of db
-      → sessions ≡ editions_in_use db → false ≡ is_held c (own_of s) (table_changed (lists_of db) what) → d ≡ e → Carries told old new res db (recorded (outcome (lists_of db) e sessions what text) (used_by db.records))
-      → Carries told old new res db (recorded (defined (lists_of db) (data_of db) s d (editions_in_use db) what text) (used_by db.records))
+      → sessions ≡ editions_in_use db → false ≡ is_held c (own_of s) (table_changed (lists_of db) what) → d ≡ e → Carries as_keeper old new res db (recorded (outcome (lists_of db) e sessions what text) (used_by db.records))
+      → Carries as_keeper old new res db (recorded (defined (lists_of db) (data_of db) s d (editions_in_use db) what text) (used_by db.records))
   defined_on old new db s e d sessions what text res c is in_use free same carries =
-      subst (λ o. Carries told old new res db (recorded o (used_by db.records)))
+      subst (λ o. Carries as_keeper old new res db (recorded o (used_by db.records)))
       (ap (λ l. outcome (lists_of db) e l what text) in_use ∙ ap (λ k. outcome (lists_of db) k (editions_in_use db) what text) (sym same)
       ∙ ap (λ b. if b then Err (Ora 54) else outcome (lists_of db) d (editions_in_use db) what text) (free ∙ ap (λ k. is_held k (own_of s) (table_changed (lists_of db) what)) is)) carries
 
-  pub held_by_other : (old : Current K) (db : Database) (s : SessionId) (d : EditionNo) (what : Definition) (text : List ℕ) → Holds told old db → true ≡ is_held old.world.tx.contents (own_of s) (table_changed (lists_of db) what)
-      → IsRefused told old old db (recorded (defined (lists_of db) (data_of db) s d (editions_in_use db) what text) (used_by db.records)) (Ora 54)
+  pub held_by_other : (old : Current K) (db : Database) (s : SessionId) (d : EditionNo) (what : Definition) (text : List ℕ) → Holds as_keeper old db → true ≡ is_held old.world.tx.contents (own_of s) (table_changed (lists_of db) what)
+      → IsRefused as_keeper old old db (recorded (defined (lists_of db) (data_of db) s d (editions_in_use db) what text) (used_by db.records)) (Ora 54)
   held_by_other old db s d what text h held =
-      subst (λ o. IsRefused told old old db (recorded o (used_by db.records)) (Ora 54))
+      subst (λ o. IsRefused as_keeper old old db (recorded o (used_by db.records)) (Ora 54))
       (ap (λ b. if b then Err (Ora 54) else outcome (lists_of db) d (editions_in_use db) what text) (held ∙ ap (λ k. is_held k (own_of s) (table_changed (lists_of db) what)) h.seated.data_is))
-      (record { is = record { made = refl; value = refl; kept = grew_same (told old.world.keeper) }; holds = h })
+      (record { is = record { made = refl; value = refl; grew = grew_same (as_keeper old.world.keeper) }; holds = h })
 
   -- ---- the reply
 
-  made_replied : (old mid new : Current K) (db : Database) (e : EditionNo) (what : Definition) (o : Recorded) (m : IsMade told old mid db o) (x : Result Answer Halt)
-      → AnswersIn told mid new x (with_definition_of db m.definition) (answer_in (View (lists_of (with_definition_of db m.definition)) e) what)
-      → Replies told old new x (defined_by db e what o)
+  made_replied : (old mid new : Current K) (db : Database) (e : EditionNo) (what : Definition) (o : Recorded) (m : IsMade as_keeper old mid db o) (x : Result Answer Halt)
+      → AnswersIn as_keeper mid new x (with_definition_of db m.definition) (answer_in (View (lists_of (with_definition_of db m.definition)) e) what)
+      → Replies as_keeper old new x (defined_by db e what o)
   made_replied old mid new db e what o m (Ok a) h = record {
     answer = h.0 ∙ by m.definition o.made o.value m.is.made m.is.value;
-    kept = subst (λ l. Grew (told old.world.keeper) (told new.world.keeper) l) (sym m.is.made) (subst (λ k. Grew (told old.world.keeper) (told k) (record_of m.definition ∷ [])) (sym h.2) m.is.kept);
-    holds = subst (λ l. Holds told new (record db { records = db.records ++ l })) (sym m.is.made) h.1;
+    grew = subst (λ l. Grew (as_keeper old.world.keeper) (as_keeper new.world.keeper) l) (sym m.is.made) (subst (λ k. Grew (as_keeper old.world.keeper) (as_keeper k) (record_of m.definition ∷ [])) (sym h.2) m.is.grew);
+    holds = subst (λ l. Holds as_keeper new (record db { records = db.records ++ l })) (sym m.is.made) h.1;
   }
     where
       by : (r : CatalogueRecord) (l : List Record) (v : Result CatalogueRecord Code) → l ≡ record_of r ∷ [] → v ≡ Ok r
           → answer_in (View (lists_of (with_definition_of db r)) e) what ≡ definition_answer (db.records ++ l) e what v
-      by r l v is told = ap (λ k. definition_answer (db.records ++ k) e what (Ok r)) (sym is) ∙ ap (definition_answer (db.records ++ l) e what) (sym told)
+      by r l v is as_keeper = ap (λ k. definition_answer (db.records ++ k) e what (Ok r)) (sym is) ∙ ap (definition_answer (db.records ++ l) e what) (sym as_keeper)
   made_replied old mid new db e what o m (Err w) h =
-      subst (λ y. GaveUp (told old.world.keeper) (told new.world.keeper) o.made y) (sym h.0)
-      (subst (λ l. GaveUp (told old.world.keeper) (told new.world.keeper) l why.NoMemory) (sym m.is.made)
-      (subst (λ k. GaveUp (told old.world.keeper) (told k) (record_of m.definition ∷ []) why.NoMemory) (sym h.1) (kept_stops _ _ _ m.is.kept)))
+      subst (λ y. GaveUp (as_keeper old.world.keeper) (as_keeper new.world.keeper) o.made y) (sym h.0)
+      (subst (λ l. GaveUp (as_keeper old.world.keeper) (as_keeper new.world.keeper) l why.NoMemory) (sym m.is.made)
+      (subst (λ k. GaveUp (as_keeper old.world.keeper) (as_keeper k) (record_of m.definition ∷ []) why.NoMemory) (sym h.1) (kept_stops _ _ _ m.is.grew)))
 
-  pub replied_made : (old mid new : Current K) (db : Database) (e d : EditionNo) (what : Definition) (o : Recorded) (m : IsMade told old mid db o) (x : Result Answer Halt) → d ≡ e
-      → AnswersIn told mid new x (with_definition_of db m.definition) (answer_in (View (lists_of (with_definition_of db m.definition)) e) what)
-      → Replies told old new x (defined_by db d what o)
-  replied_made old mid new db e d what o m x same h = subst (λ k. Replies told old new x (defined_by db k what o)) (sym same) (made_replied old mid new db e what o m x h)
+  pub replied_made : (old mid new : Current K) (db : Database) (e d : EditionNo) (what : Definition) (o : Recorded) (m : IsMade as_keeper old mid db o) (x : Result Answer Halt) → d ≡ e
+      → AnswersIn as_keeper mid new x (with_definition_of db m.definition) (answer_in (View (lists_of (with_definition_of db m.definition)) e) what)
+      → Replies as_keeper old new x (defined_by db d what o)
+  replied_made old mid new db e d what o m x same h = subst (λ k. Replies as_keeper old new x (defined_by db k what o)) (sym same) (made_replied old mid new db e what o m x h)
 
-  pub replied_refused : (old new : Current K) (db : Database) (d : EditionNo) (what : Definition) (o : Recorded) (code : Code) (a : Answer) → a ≡ answer.Refused code 0 [] → IsRefused told old new db o code
-      → IsReplied told old new a (defined_by db d what o)
+  pub replied_refused : (old new : Current K) (db : Database) (d : EditionNo) (what : Definition) (o : Recorded) (code : Code) (a : Answer) → a ≡ answer.Refused code 0 [] → IsRefused as_keeper old new db o code
+      → IsReplied as_keeper old new a (defined_by db d what o)
   replied_refused old new db d what o code a said r = record {
     answer = said ∙ sym (ap (definition_answer (db.records ++ o.made) d what) r.is.value);
-    kept = subst (λ l. Grew (told old.world.keeper) (told new.world.keeper) l) (sym r.is.made) r.is.kept;
-    holds = subst (λ l. Holds told new (record db { records = l })) (sym (ap (λ l. db.records ++ l) r.is.made ∙ append-nil db.records)) r.holds;
+    grew = subst (λ l. Grew (as_keeper old.world.keeper) (as_keeper new.world.keeper) l) (sym r.is.made) r.is.grew;
+    holds = subst (λ l. Holds as_keeper new (record db { records = l })) (sym (ap (λ l. db.records ++ l) r.is.made ∙ append-nil db.records)) r.holds;
   }
 
   -- ---- behind the commit
 
-  pub behind_on : (old mid new : Current K) (first next : Replied) (x : Result Answer Halt) → Grew (told old.world.keeper) (told mid.world.keeper) first.records → Replies told mid new x next
-      → Replies told old new x (behind first next)
-  behind_on old mid new first next (Ok a) g r = record { answer = r.answer; kept = grew_grew _ _ _ _ _ g r.kept; holds = r.holds }
+  pub behind_on : (old mid new : Current K) (first next : Replied) (x : Result Answer Halt) → Grew (as_keeper old.world.keeper) (as_keeper mid.world.keeper) first.records → Replies as_keeper mid new x next
+      → Replies as_keeper old new x (behind first next)
+  behind_on old mid new first next (Ok a) g r = record { answer = r.answer; grew = grew_grew _ _ _ _ _ g r.grew; holds = r.holds }
   behind_on old mid new first next (Err w) g r = grew_gave_up _ _ _ _ _ w g r
 
-  pub then_replied : (old mid new : Current K) (first : Replied) (next : Database → Replied) (x : Result Answer Halt) → IsReplied told old mid answer.Done first → Replies told mid new x (next first.database)
-      → Replies told old new x (then_reply first.answer first next)
+  pub then_replied : (old mid new : Current K) (first : Replied) (next : Database → Replied) (x : Result Answer Halt) → IsReplied as_keeper old mid answer.Done first → Replies as_keeper mid new x (next first.database)
+      → Replies as_keeper old new x (then_reply first.answer first next)
   then_replied old mid new first next x m r =
-      subst (λ a. Replies told old new x (then_reply a first next)) m.answer (behind_on old mid new first (next first.database) x m.kept r)
+      subst (λ a. Replies as_keeper old new x (then_reply a first next)) m.answer (behind_on old mid new first (next first.database) x m.grew r)
 
-  pub refused_first : (old new : Current K) (first : Replied) (next : Database → Replied) (code : Code) (a : Answer) → a ≡ answer.Refused code 0 [] → IsReplied told old new (answer.Refused code 0 []) first
-      → IsReplied told old new a (then_reply first.answer first next)
+  pub refused_first : (old new : Current K) (first : Replied) (next : Database → Replied) (code : Code) (a : Answer) → a ≡ answer.Refused code 0 [] → IsReplied as_keeper old new (answer.Refused code 0 []) first
+      → IsReplied as_keeper old new a (then_reply first.answer first next)
   refused_first old new first next code a said m =
-      subst (λ k. IsReplied told old new a (then_reply k first next)) m.answer (subst (λ k. IsReplied told old new k first) (sym said) m)
+      subst (λ k. IsReplied as_keeper old new a (then_reply k first next)) m.answer (subst (λ k. IsReplied as_keeper old new k first) (sym said) m)
 
 -- the session behind a commit
 at_is : (xs : List Session) (n : ℕ) → session_at xs n ≡ at xs n
@@ -272,8 +272,8 @@ same_edition false x = refl
 abbrev pub committed : Database → SessionId → Session → Session
 committed db s x = at_end (own_on_top (data_of db) s && done_by (commit (on_top db s) (base_in db)).value) x
 
-pub committed_there : {K : Type 0} (told : K → Keeper) (db : Database) (s : SessionId) (e : EditionNo) (x : Session) → HasSession told db s e x → HasSession told (reply_commit db s x).database s e (committed db s x)
-committed_there told db s e x has = record {
+pub committed_there : {K : Type 0} (as_keeper : K → Keeper) (db : Database) (s : SessionId) (e : EditionNo) (x : Session) → HasSession as_keeper db s e x → HasSession as_keeper (reply_commit db s x).database s e (committed db s x)
+committed_there as_keeper db s e x has = record {
   there = at_is (slice_set db.sessions (s.0 - 1) (committed db s x)) s.0 ∙ at_here db.sessions s.0 x (committed db s x) (sym (at_is db.sessions s.0) ∙ has.there);
   edition = same_edition (own_on_top (data_of db) s && done_by (commit (on_top db s) (base_in db)).value) x ∙ has.edition;
 }

@@ -71,31 +71,31 @@ tested e db s x q = unless_refused (first_tests db s x q) db (reply_in e db s x 
 reply_is : (db : Database) (e : EditionNo) (s : SessionId) (x : Session) (q : Ask) → session_at db.sessions s.0 ≡ Some x → x.edition ≡ Some e → Reply db s q ≡ counting s q (tested e db s x q)
 reply_is db e s x q is edition = ap (λ o. reply_to o db s q) is ∙ ap (λ o. reply_while o db s x q) edition
 
-module _ {K : Type 0} (told : K → Keeper) (old mid : Current K) (s : SessionId) (q : Ask) where
-  pub seat_there : (a : Answer) → (h : IsHeld told old s) → IsReplied told old mid a (tested h.edition h.database s h.session q) → HasSeat mid.seats.items s
+module _ {K : Type 0} (as_keeper : K → Keeper) (old mid : Current K) (s : SessionId) (q : Ask) where
+  pub seat_there : (a : Answer) → (h : IsHeld as_keeper old s) → IsReplied as_keeper old mid a (tested h.edition h.database s h.session q) → HasSeat mid.seats.items s
   seat_there a h m =
       let here = tested_there s h.session (first_tests h.database s h.session q) h.edition h.database q h.has.there in
-      let sd = seated (told mid.world.keeper).used mid.world.tx.contents mid.seats.items (tested h.edition h.database s h.session q).database s here.session m.holds.seated here.is in
+      let sd = seated (as_keeper mid.world.keeper).used mid.world.tx.contents mid.seats.items (tested h.edition h.database s h.session q).database s here.session m.holds.seated here.is in
       seat_within mid.seats.items s sd.seat sd.there
 
-  pub counted_on : (new : Current K) → new.world ≡ mid.world → new.views ≡ mid.views → (a : Answer) (db : Database) (e : EditionNo) (x : Session) → HasSession told db s e x → IsReplied told old mid a (tested e db s x q)
-      → ((y : Session) → session_at (tested e db s x q).database.sessions s.0 ≡ Some y → Seated (told mid.world.keeper).used mid.world.tx.contents new.seats.items (with_session (tested e db s x q).database s (counted q a y)))
-      → IsReplied told old new a (Reply db s q)
+  pub counted_on : (new : Current K) → new.world ≡ mid.world → new.views ≡ mid.views → (a : Answer) (db : Database) (e : EditionNo) (x : Session) → HasSession as_keeper db s e x → IsReplied as_keeper old mid a (tested e db s x q)
+      → ((y : Session) → session_at (tested e db s x q).database.sessions s.0 ≡ Some y → Seated (as_keeper mid.world.keeper).used mid.world.tx.contents new.seats.items (with_session (tested e db s x q).database s (counted q a y)))
+      → IsReplied as_keeper old new a (Reply db s q)
   counted_on new world views a db e x has m seats =
       let r : Replied = tested e db s x q in
       let here = tested_there s x (first_tests db s x q) e db q has.there in
       let after : counted_in r.database s q r.answer (session_at r.database.sessions s.0) ≡ with_session r.database s (counted q a here.session) =
       ap (counted_in r.database s q r.answer) here.is ∙ ap (λ b. with_session r.database s (counted q b here.session)) (sym m.answer) in
-      subst (IsReplied told old new a) (sym (reply_is db e s x q has.there has.edition))
-      (subst (λ d. IsReplied told old new a (record r { database = d })) (sym after) (record {
+      subst (IsReplied as_keeper old new a) (sym (reply_is db e s x q has.there has.edition))
+      (subst (λ d. IsReplied as_keeper old new a (record r { database = d })) (sym after) (record {
         answer = m.answer;
-        kept = subst (λ (w : World K Units). Grew (told old.world.keeper) (told w.keeper) r.records) (sym world) m.kept;
+        grew = subst (λ (w : World K Units). Grew (as_keeper old.world.keeper) (as_keeper w.keeper) r.records) (sym world) m.grew;
         holds = record {
           catalogue_is = ap (λ (w : World K Units). w.catalogue) world ∙ m.holds.catalogue_is;
           own_keys = m.holds.own_keys;
           views_are = subst (AreCurrent (lists_of r.database)) (sym views) m.holds.views_are;
           books_are = subst (λ (w : World K Units). AreCurrent (lists_of r.database) w.book) (sym world) m.holds.books_are;
-          seated = subst (λ (w : World K Units). Seated (told w.keeper).used w.tx.contents new.seats.items (with_session r.database s (counted q a here.session))) (sym world) (seats here.session here.is);
+          seated = subst (λ (w : World K Units). Seated (as_keeper w.keeper).used w.tx.contents new.seats.items (with_session r.database s (counted q a here.session))) (sym world) (seats here.session here.is);
           reached = m.holds.reached;
           early = early_counted r.database s m.holds.early here.session here.is q a;
         };

@@ -29,7 +29,7 @@ left_there db s x there = session_here db.sessions s.0 x (left x) there
 pub left_seat : (used : ℕ) (d : Data) (seats : List Seat) (db : Database) (s : SessionId) (x : Session) → session_at db.sessions s.0 ≡ Some x → Seated used d seats (reply_leave db s x).database → HasSeat seats s
 left_seat used d seats db s x there h = has_seat d seats s (record { used = used; database = (reply_leave db s x).database; session = left x; holds = h; there = left_there db s x there })
 
-module _ {K : Type 0} (told : K → Keeper) (old new : Current K) (db : Database) (s : SessionId) (e : EditionNo) (x : Session) (h : Holds told old db) (there : session_at db.sessions s.0 ≡ Some x) (edition : x.edition ≡ Some e)
+module _ {K : Type 0} (as_keeper : K → Keeper) (old new : Current K) (db : Database) (s : SessionId) (e : EditionNo) (x : Session) (h : Holds as_keeper old db) (there : session_at db.sessions s.0 ≡ Some x) (edition : x.edition ≡ Some e)
     (catalogue : new.world.catalogue ≡ old.world.catalogue) (views : new.views ≡ old.views) (books : new.world.book ≡ old.world.book) (keeper : new.world.keeper ≡ old.world.keeper) where
   abbrev is_counted : Replied
   is_counted = record { database = with_session (reply_leave db s x).database s (counted Leave Done (left x)); answer = Done; records = []; questions = [] }
@@ -40,8 +40,8 @@ module _ {K : Type 0} (told : K → Keeper) (old new : Current K) (db : Database
   reply_is : Reply db s Leave ≡ is_counted
   reply_is = leave_is db s e x there edition ∙ counted_is
 
-  pub has_left : Seated (told old.world.keeper).used new.world.tx.contents new.seats.items (with_session (reply_leave db s x).database s (counted Leave Done (left x))) → IsReplied told old new Done (Reply db s Leave)
+  pub has_left : Seated (as_keeper old.world.keeper).used new.world.tx.contents new.seats.items (with_session (reply_leave db s x).database s (counted Leave Done (left x))) → IsReplied as_keeper old new Done (Reply db s Leave)
   has_left seated =
-      subst (IsReplied told old new Done) (sym reply_is)
-      (leaves_on told old new db h catalogue views books is_counted (sym (append-nil db.records))
+      subst (IsReplied as_keeper old new Done) (sym reply_is)
+      (leaves_on as_keeper old new db h catalogue views books is_counted (sym (append-nil db.records))
       (early_counted (reply_leave db s x).database s (early_leave db s h.early x there) (left x) (left_there db s x there) Leave Done) keeper Done (record { answer = refl; none = refl; holds = seated }))

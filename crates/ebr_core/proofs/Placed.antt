@@ -36,19 +36,19 @@ second true true e = refl
 second true false e = cc
 second false b e = cc
 
-module _ {K : Type 0} (told : K → Keeper) (now : Current K) (s : SessionId) where
-  pub placed_call : (ask : Ask) → ask ≡ PushAuto → IsPlaced told now s ask → (db : Database) (e : EditionNo) (x : Session) → Holds told now db → HasSession told db s e x → is_some x.call ≡ true
+module _ {K : Type 0} (as_keeper : K → Keeper) (now : Current K) (s : SessionId) where
+  pub placed_call : (ask : Ask) → ask ≡ PushAuto → IsPlaced as_keeper now s ask → (db : Database) (e : EditionNo) (x : Session) → Holds as_keeper now db → HasSession as_keeper db s e x → is_some x.call ≡ true
   placed_call ask is placed db e x h has = of_not (is_some x.call) (subst (λ a. is_misplaced db s x a ≡ false) is (placed db e x h has))
 
-  pub placed_end : (ask : Ask) (failed : Bool) → ask ≡ EndCall failed → IsPlaced told now s ask → (db : Database) (e : EditionNo) (x : Session) → Holds told now db → HasSession told db s e x → own_on_top (data_of db) s ≡ true
+  pub placed_end : (ask : Ask) (failed : Bool) → ask ≡ EndCall failed → IsPlaced as_keeper now s ask → (db : Database) (e : EditionNo) (x : Session) → Holds as_keeper now db → HasSession as_keeper db s e x → own_on_top (data_of db) s ≡ true
   placed_end ask failed is placed db e x h has = second (is_some x.call) (own_on_top (data_of db) s) (subst (λ a. is_misplaced db s x a ≡ false) is (placed db e x h has))
 
-  pub placed_level : IsHeld told now s → (ask : Ask) (failed : Bool) → ask ≡ PopAuto failed → IsPlaced told now s ask → (seat : Seat) → seat_at now.seats.items s.0 ≡ Some seat → 0 < seat.levels
+  pub placed_level : IsHeld as_keeper now s → (ask : Ask) (failed : Bool) → ask ≡ PopAuto failed → IsPlaced as_keeper now s ask → (seat : Seat) → seat_at now.seats.items s.0 ≡ Some seat → 0 < seat.levels
   placed_level h ask failed is placed seat at =
       let there = h.has.there in
-      let sd = held (told now.world.keeper).used now.world.tx.contents now.seats.items h.database s h.session h.holds.seated there in
+      let sd = held (as_keeper now.world.keeper).used now.world.tx.contents now.seats.items h.database s h.session h.holds.seated there in
       let own : own_on_top (data_of h.database) s ≡ false = subst (λ a. is_misplaced h.database s h.session a ≡ false) is (placed h.database h.edition h.session h.holds h.has) in
-      let level : (sd.seat.levels == 0) ≡ false = sym (own_here (told now.world.keeper).used now.world.tx.contents now.seats.items h.database s h.session h.holds.seated there) ∙ own in
+      let level : (sd.seat.levels == 0) ≡ false = sym (own_here (as_keeper now.world.keeper).used now.world.tx.contents now.seats.items h.database s h.session h.holds.seated there) ∙ own in
       above sd.seat.levels (eqb-false sd.seat.levels 0 level) (ap (λ (q : Seat). q.levels) (same_Some sd.seat seat (sym sd.there ∙ at)))
     where
       above : (n : ℕ) → (n ≡ 0 → ⊥) → n ≡ seat.levels → 0 < seat.levels
@@ -57,18 +57,18 @@ module _ {K : Type 0} (told : K → Keeper) (now : Current K) (s : SessionId) wh
   -- the first tests of the session's seat are those of the session
   pub tests_are : (ask : Ask) (seat : Seat) (res : Option Code) → Some seat ≡ seat_at now.seats.items s.0
       → ((db : Database) (r : SessionId) (x : Session) → seat.call ≡ x.call → seat.levels ≡ levels (data_of db) r → seat.asks ≡ min 50000 x.asks → seat.carried ≡ min 16777217 x.carried → res ≡ first_tests db r x ask)
-      → (db : Database) (e : EditionNo) (x : Session) → Holds told now db → HasSession told db s e x → res ≡ first_tests db s x ask
+      → (db : Database) (e : EditionNo) (x : Session) → Holds as_keeper now db → HasSession as_keeper db s e x → res ≡ first_tests db s x ask
   tests_are ask seat res at by db e x h has =
-      let sd = held (told now.world.keeper).used now.world.tx.contents now.seats.items db s x h.seated has.there in
+      let sd = held (as_keeper now.world.keeper).used now.world.tx.contents now.seats.items db s x h.seated has.there in
       let same : sd.seat ≡ seat = same_Some sd.seat seat (sym sd.there ∙ sym at) in
       let levels_eq : sd.seat.levels ≡ levels (data_of db) s = sym (levels_are now.world.tx.contents s sd.seat.levels sd.sits.stack) ∙ ap (λ d. levels d s) h.seated.data_is in
       by db s x (ap (λ (q : Seat). q.call) (sym same) ∙ sd.sits.call) (ap (λ (q : Seat). q.levels) (sym same) ∙ levels_eq)
       (ap (λ (q : Seat). q.asks) (sym same) ∙ sd.sits.asks) (ap (λ (q : Seat). q.carried) (sym same) ∙ sd.sits.carried)
 
-  pub refused_here : (db : Database) → Holds told now db → (code : Code) (a : Answer) → a ≡ answer.Refused code 0 [] → IsReplied told now now a (refused db code)
+  pub refused_here : (db : Database) → Holds as_keeper now db → (code : Code) (a : Answer) → a ≡ answer.Refused code 0 [] → IsReplied as_keeper now now a (refused db code)
   refused_here db h code a is =
-      subst (λ b. IsReplied told now now b (refused db code)) (sym is)
-      (leaves_on told now now db h refl refl refl (refused db code) (sym (append-nil db.records)) h.early refl (answer.Refused code 0 []) (record { answer = refl; none = refl; holds = h.seated }))
+      subst (λ b. IsReplied as_keeper now now b (refused db code)) (sym is)
+      (leaves_on as_keeper now now db h refl refl refl (refused db code) (sym (append-nil db.records)) h.early refl (answer.Refused code 0 []) (record { answer = refl; none = refl; holds = h.seated }))
 
 last_test : (a b c : Bool) → some_code (if a then Some (Ebr 10) else (if b then Some (Ebr 11) else (if c then Some (Ebr 15) else None))) ≡ None → c ≡ false
 last_test true b c e = cc

@@ -51,10 +51,10 @@ recorded_if b d used = then_run (kept_if b (record_of d) used) (λ u used'. give
 
 kept_by : (b : Bool) (d : CatalogueRecord) (used n : ℕ) (old new : Keeper) (res : Result (Unit {0}) Failure)
     → Shows (kept_if b (record_of d) used) n old new res → KeepsOutcome old new res (Ok d) (recorded_if b d used)
-kept_by true d used n old new (Ok u) s = (d, refl, record { made = refl; value = refl; kept = s.kept })
+kept_by true d used n old new (Ok u) s = (d, refl, record { made = refl; value = refl; grew = s.grew })
 kept_by false d used n old new (Ok u) s = absurd (is_refused (Ebr 42) s.value)
 kept_by true d used n old new (Err (Refused code)) s = absurd (is_done code s.value)
-kept_by false d used n old new (Err (Refused code)) s = record { made = refl; value = ap (λ k. Err k) (same_code (Ebr 42) code s.value); kept = s.kept }
+kept_by false d used n old new (Err (Refused code)) s = record { made = refl; value = ap (λ k. Err k) (same_code (Ebr 42) code s.value); grew = s.grew }
 kept_by true d used n old new (Err (Halted why)) s = s
 kept_by false d used n old new (Err (Halted why)) s = s
 
@@ -69,4 +69,4 @@ outcome_kept r (Err code) used n old new res is s = absurd (none_made code r is)
 -- an outcome that is refused
 pub not_kept : (out : Result CatalogueRecord Code) (code : Code) (used : ℕ) (k : Keeper) → record_made out ≡ Err code → NotKept k k (recorded out used) code
 not_kept (Ok d) code used k is = absurd (one_made (record_of d) code is)
-not_kept (Err other) code used k is = record { made = refl; value = ap (λ c. Err c) (same_refusal other code is); kept = grew_same k }
+not_kept (Err other) code used k is = record { made = refl; value = ap (λ c. Err c) (same_refusal other code is); grew = grew_same k }

@@ -12,7 +12,7 @@ use Rattle.ebr_asks.specs.declared.ask.Ask.{Ask}
 use Rattle.ebr_asks.specs.declared.ask.Ask.TheVariants.{Sql}
 use Rattle.ebr_asks.specs.declared.answer.Answer.{Answer}
 use Rattle.ebr_cross.specs.declared.catalogue.Catalogue.{Catalogue}
-use Rattle.ebr_cross.specs.Catalogue.{HaveOwnKeys, IsViewOf, kept}
+use Rattle.ebr_cross.specs.Catalogue.{HaveOwnKeys, IsViewOf, as_catalogue}
 use Rattle.ebr_tx.specs.declared.savepoints.TxMark.{TxMark}
 use Rattle.ebr_tx.specs.Data.{Data, stack_of, named_at}
 use Rattle.ebr_tx.specs.Calls.{IsMarkOf}
@@ -86,13 +86,13 @@ module _ (d d' : Data) (t : TxId) (under : UnderChange) (l : Leaves d t under d'
 on_top_of : (d : Data) (s : SessionId) (t : TxId) (seat : Seat) (x : Session) → IsSeatOf d s seat x → t ≡ named_at s seat.levels → AreEarly d → IsTop d t
 on_top_of d s t seat x h is early = subst (IsTop d) (sym is) (record { stack = h.stack; early = early })
 
-module _ {K : Type 0} (told : K → Keeper) (old : Current K) (db : Database) (h : Holds told old db) (s : SessionId) (x : Session) (there : session_at db.sessions s.0 ≡ Some x) (t : TxId) where
+module _ {K : Type 0} (as_keeper : K → Keeper) (old : Current K) (db : Database) (h : Holds as_keeper old db) (s : SessionId) (x : Session) (there : session_at db.sessions s.0 ≡ Some x) (t : TxId) where
   early_now : AreEarly old.world.tx.contents
   early_now = subst AreEarly (sym h.seated.data_is) h.early.early
 
   pub fits : IsTopOf old.seats.items s t → Fits old.world.catalogue old.world.book old.world.tx.contents t
   fits is_top =
-      let sd : SeatOf old.world.tx.contents old.seats.items s x = seated (told old.world.keeper).used old.world.tx.contents old.seats.items db s x h.seated there in
+      let sd : SeatOf old.world.tx.contents old.seats.items s x = seated (as_keeper old.world.keeper).used old.world.tx.contents old.seats.items db s x h.seated there in
       record {
         fit = record {
           current = record { lists = lists_of db; own_keys = h.own_keys; current = h.books_are; is = h.catalogue_is };
@@ -105,42 +105,42 @@ module _ {K : Type 0} (told : K → Keeper) (old : Current K) (db : Database) (h
 
 -- ---- behind it
 
-module _ {K : Type 0} (told : K → Keeper) (old new : Current K) (db : Database) (h : Holds told old db) (s : SessionId) (x : Session) (there : session_at db.sessions s.0 ≡ Some x) (e d : EditionNo) (same : d ≡ e)
+module _ {K : Type 0} (as_keeper : K → Keeper) (old new : Current K) (db : Database) (h : Holds as_keeper old db) (s : SessionId) (x : Session) (there : session_at db.sessions s.0 ≡ Some x) (e d : EditionNo) (same : d ≡ e)
     (stmt : SqlTree) (binds : List Value) (left room : ℕ) (t : TxId) (v : EditionView) where
   run_reply : IsTopOf old.seats.items s t → IsViewOf (lists_of db) e v → room ≡ room_for x.carried (Sql stmt binds left)
       → Stmt (names_in (lists_of db)) max_levels (own_place d (on_top db s)) stmt binds left (room_for x.carried (Sql stmt binds left)) (base_in db)
-      ≡ Stmt (names_in (lists_of db)) 50 (own_place v.edition t) stmt binds left room (base_of old.world.tx.contents (told old.world.keeper))
+      ≡ Stmt (names_in (lists_of db)) 50 (own_place v.edition t) stmt binds left room (base_of old.world.tx.contents (as_keeper old.world.keeper))
   run_reply is_top seen room_is =
-      let top : on_top db s ≡ t = top_here (told old.world.keeper).used old.world.tx.contents old.seats.items db s x h.seated there t is_top in
-      let base : base_in db ≡ record { data_now = old.world.tx.contents; used = (told old.world.keeper).used } = base_is (told old.world.keeper).used old.world.tx.contents old.seats.items db s x h.seated there in
+      let top : on_top db s ≡ t = top_here (as_keeper old.world.keeper).used old.world.tx.contents old.seats.items db s x h.seated there t is_top in
+      let base : base_in db ≡ record { data_now = old.world.tx.contents; used = (as_keeper old.world.keeper).used } = base_is (as_keeper old.world.keeper).used old.world.tx.contents old.seats.items db s x h.seated there in
       let at : d ≡ v.edition = same ∙ sym (ap (λ (w : EditionView). w.edition) seen.is) in
       λ i. Stmt (names_in (lists_of db)) 50 (own_place (at i) (top i)) stmt binds left (sym room_is i) (base i)
 
   pub ran_reply : IsTopOf old.seats.items s t → IsViewOf (lists_of db) e v → room ≡ room_for x.carried (Sql stmt binds left)
       → new.world.catalogue ≡ old.world.catalogue → AreCurrent (lists_of db) new.views → new.seats ≡ old.seats
       → Remains old.world.catalogue t (λ u table. false) old.world.book old.world.tx.contents new.world.book new.world.tx.contents → (r : Result Answer Halt)
-      → Tells (Stmt (names_in (lists_of db)) 50 (own_place v.edition t) stmt binds left room (base_of old.world.tx.contents (told old.world.keeper)))
-      (base_of new.world.tx.contents (told new.world.keeper)) (told old.world.keeper) (told new.world.keeper) r
-      → Replies told old new r (reply_sql d db s x stmt binds left)
+      → Tells (Stmt (names_in (lists_of db)) 50 (own_place v.edition t) stmt binds left room (base_of old.world.tx.contents (as_keeper old.world.keeper)))
+      (base_of new.world.tx.contents (as_keeper new.world.keeper)) (as_keeper old.world.keeper) (as_keeper new.world.keeper) r
+      → Replies as_keeper old new r (reply_sql d db s x stmt binds left)
   ran_reply is_top seen room_is catalogue views seats remains (Err why) tells =
-      subst (λ (o : Outcome Base Answer). GaveUp (told old.world.keeper) (told new.world.keeper) o.made why) (sym (run_reply is_top seen room_is)) tells
+      subst (λ (o : Outcome Base Answer). GaveUp (as_keeper old.world.keeper) (as_keeper new.world.keeper) o.made why) (sym (run_reply is_top seen room_is)) tells
   ran_reply is_top seen room_is catalogue views seats remains (Ok a) tells =
       let o : Outcome Base Answer = Stmt (names_in (lists_of db)) max_levels (own_place d (on_top db s)) stmt binds left (room_for x.carried (Sql stmt binds left)) (base_in db) in
-      let said : Said o (base_of new.world.tx.contents (told new.world.keeper)) (told old.world.keeper) (told new.world.keeper) a =
-      subst (λ o'. Said o' (base_of new.world.tx.contents (told new.world.keeper)) (told old.world.keeper) (told new.world.keeper) a) (sym (run_reply is_top seen room_is)) tells in
+      let said : Said o (base_of new.world.tx.contents (as_keeper new.world.keeper)) (as_keeper old.world.keeper) (as_keeper new.world.keeper) a =
+      subst (λ o'. Said o' (base_of new.world.tx.contents (as_keeper new.world.keeper)) (as_keeper old.world.keeper) (as_keeper new.world.keeper) a) (sym (run_reply is_top seen room_is)) tells in
       let made : MakesOf (base_in db) o = statement_makes (names_in (lists_of db)) max_levels (own_place d (on_top db s)) stmt binds left (room_for x.carried (Sql stmt binds left)) (base_in db) in
       let lists : lists_of (after_outcome db o) ≡ lists_of db = same_lists db.records o.made made.commits in
-      let sits : Seated (told new.world.keeper).used new.world.tx.contents old.seats.items (after_outcome db o) =
-      seated_on old.world.tx.contents new.world.tx.contents t (λ u table. false) remains.leaves (told old.world.keeper).used (told new.world.keeper).used old.seats.items db o h.seated made said.state remains.storable in
+      let sits : Seated (as_keeper new.world.keeper).used new.world.tx.contents old.seats.items (after_outcome db o) =
+      seated_on old.world.tx.contents new.world.tx.contents t (λ u table. false) remains.leaves (as_keeper old.world.keeper).used (as_keeper new.world.keeper).used old.seats.items db o h.seated made said.state remains.storable in
       record {
         answer = sym said.value;
-        kept = said.kept;
+        grew = said.grew;
         holds = record {
-          catalogue_is = catalogue ∙ h.catalogue_is ∙ ap kept (sym lists);
+          catalogue_is = catalogue ∙ h.catalogue_is ∙ ap as_catalogue (sym lists);
           own_keys = subst HaveOwnKeys (sym lists) h.own_keys;
           views_are = subst (λ c. AreCurrent c new.views) (sym lists) views;
           books_are = subst (λ c. AreCurrent c new.world.book) (sym lists) (remains.current (lists_of db) h.own_keys h.books_are h.catalogue_is);
-          seated = subst (λ (q : Vec Seat Global). Seated (told new.world.keeper).used new.world.tx.contents q.items (after_outcome db o)) (sym seats) sits;
+          seated = subst (λ (q : Vec Seat Global). Seated (as_keeper new.world.keeper).used new.world.tx.contents q.items (after_outcome db o)) (sym seats) sits;
           reached = reached_commits db.records o.made made.commits h.reached;
           early = early_ran db o (subst AreEarly sits.data_is (remains.leaves.keeps.early (subst AreEarly (sym h.seated.data_is) h.early.early))) h.early;
         };

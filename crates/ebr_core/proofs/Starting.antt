@@ -1,7 +1,7 @@
 -- The database with which the engine begins.
 use Rattle.std.proofs.Common.{◌≡◌, ℕ, zero, suc, ◌+◌, ◌≤◌, true, false, List, [], ◌++◌, length, replicate, refl, sym, ap, subst, ◌∙◌, arith}
 use Rattle.std.specs.Prelude.{vec_len, vec_capacity}
-use Rattle.ebr_cross.specs.Catalogue.{Lists, first_lists, kept}
+use Rattle.ebr_cross.specs.Catalogue.{Lists, first_lists, as_catalogue}
 use Rattle.ebr_editions.specs.Editions.{first_edition}
 use Rattle.ebr_record.specs.Keeper.{Keeper, used_by}
 use Rattle.ebr_tx.specs.Calls.{first_data}
@@ -22,10 +22,10 @@ use Rattle.ebr_core.proofs.Lives.{all_there, count_most}
 use Rattle.ebr_core.proofs.ReachedRecords.{none_reached}
 use Rattle.ebr_core.proofs.Spellings.{own_keys}
 
-pub first_holds : {K : Type 0} (told : K → Keeper) (now : Current K) (n : ℕ) → now.world.catalogue ≡ kept first_lists
+pub first_holds : {K : Type 0} (as_keeper : K → Keeper) (now : Current K) (n : ℕ) → now.world.catalogue ≡ as_catalogue first_lists
     → ((c : Lists) → AreCurrent c now.views) → ((c : Lists) → AreCurrent c now.world.book) → now.world.tx.contents ≡ first_data n → Begin n first_edition now.seats.items
-    → IsEmpty (told now.world.keeper) → Holds told now (Build [] n)
-first_holds told now n catalogue views books contents begin empty = record {
+    → IsEmpty (as_keeper now.world.keeper) → Holds as_keeper now (Build [] n)
+first_holds as_keeper now n catalogue views books contents begin empty = record {
   catalogue_is = catalogue;
   own_keys = own_keys [];
   views_are = views first_lists;
@@ -41,26 +41,26 @@ length_of : {X : Type 0} (n : ℕ) (x : X) → length (replicate n x) ≡ n
 length_of zero x = refl
 length_of (suc n) x = ap suc (length_of n x)
 
-module _ {K : Type 0} (told : K → Keeper) (p : Parts K) (n : ℕ) (living : p.living.items ≡ replicate n true) (books : p.books.items ≡ no_books n) (empty : p.history.items ≡ []) (running : p.stopped ≡ false) where
+module _ {K : Type 0} (as_keeper : K → Keeper) (p : Parts K) (n : ℕ) (living : p.living.items ≡ replicate n true) (books : p.books.items ≡ no_books n) (empty : p.history.items ≡ []) (running : p.stopped ≡ false) where
   living_len : length p.living.items ≡ n
   living_len = ap length living ∙ length_of n true
 
-  is_first : database told p ≡ Build [] n
+  is_first : database as_keeper p ≡ Build [] n
   is_first = ap (λ k. After (Build [] k) p.history.items) living_len ∙ ap (After (Build [] n)) empty
 
-  module _ (room : vec_len p.history + (n + 1) ≤ vec_capacity p.history) (holds : Holds told p.current (Build [] n)) (goes : (told p.current.world.keeper).stopped ≡ false) where
-    runs : Runs told p
+  module _ (room : vec_len p.history + (n + 1) ≤ vec_capacity p.history) (holds : Holds as_keeper p.current (Build [] n)) (goes : (as_keeper p.current.world.keeper).stopped ≡ false) where
+    runs : Runs as_keeper p
     runs = record {
-      legal = λ more. subst (λ es. Legal (After (first told p) es) more → Legal (first told p) (es ++ more)) (sym empty) (λ h. h);
-      holds = subst (Holds told p.current) (sym is_first) holds;
+      legal = λ more. subst (λ es. Legal (After (first as_keeper p) es) more → Legal (first as_keeper p) (es ++ more)) (sym empty) (λ h. h);
+      holds = subst (Holds as_keeper p.current) (sym is_first) holds;
       goes = goes;
       room = let m = count_most p.living.items in let l = living_len in omega (arith, room, m, l);
     }
 
-    pub starts : IsSound told p
+    pub starts : IsSound as_keeper p
     starts = record {
       living = living ∙ sym (all_there n _) ∙ ap lives (sym is_first);
       books = ap (λ (bs : List (Option EditionView)). length bs) books ∙ length_of n _ ∙ sym living_len;
       stopped = running ∙ ap has_given_up (sym empty);
-      stands = subst (λ b. Stands told b p) (sym running) runs;
+      stands = subst (λ b. Stands as_keeper b p) (sym running) runs;
     }

@@ -28,7 +28,7 @@ use Rattle.ebr_tx.specs.Conflicts.{touch_refusal}
 use Rattle.ebr_tx.specs.Calls.{after_begin, after_lock, after_pop, back_to_answer, back_to_savepoint, levels, push_refusal, savepoint_named, with_commit}
 use Rattle.ebr_query.specs.Queries as queries
 use Rattle.ebr_query.specs.Queries.{Answered, Query}
-use Rattle.ebr_query.specs.Results.{chosen, given}
+use Rattle.ebr_query.specs.Results.{chosen, result_rows}
 use Rattle.ebr_query.specs.Rows.{Row, max_product, product, product_size}
 use Rattle.ebr_query.specs.Seen.{rows_of_sources}
 use Rattle.ebr_dml.specs.declared.taken.Taken.{Taken}
@@ -225,8 +225,8 @@ else_stored d (Err code) next each = (refl, refl)
 
 product_stored : (q : Select) (relations : List Relation) (d : Data) (t : TxId) (binds : List Value) (rows : List Row) → SameStored d (queries.over_product q relations d t binds rows).after
 product_stored q relations d t binds rows =
-    else_stored d (chosen q relations binds rows) (λ result. queries.else_refused d (given q relations binds result) (λ values. queries.with_locks values t d (queries.to_lock q.for_update result))) (λ result.
-    else_stored d (given q relations binds result) (λ values. queries.with_locks values t d (queries.to_lock q.for_update result)) (λ values. locks_stored values t d (queries.to_lock q.for_update result)))
+    else_stored d (chosen q relations binds rows) (λ result. queries.else_refused d (result_rows q relations binds result) (λ values. queries.with_locks values t d (queries.to_lock q.for_update result))) (λ result.
+    else_stored d (result_rows q relations binds result) (λ values. queries.with_locks values t d (queries.to_lock q.for_update result)) (λ values. locks_stored values t d (queries.to_lock q.for_update result)))
 
 large_stored : (large : Bool) (d : Data) (a : Answered) → SameStored d a.after → SameStored d (if large then queries.refused d (Ebr 13) else a).after
 large_stored true d a h = (refl, refl)

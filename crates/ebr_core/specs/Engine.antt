@@ -93,12 +93,12 @@ IsAnswer a r old new = (a ≡ r.answer) × Grew old new r.records
 
 -- Before it gave up it answers as the machine does, and from then on that it has stopped, and keeps nothing.
 abbrev pub Gives : {K : Type 0} → (K → Keeper) → Bool → K → K → Answer → Replied → Type 0
-Gives told false old new a r = IsAnswer a r (told old) (told new)
-Gives told true old new a r = (a ≡ Stopped) × (new ≡ old)
+Gives as_keeper false old new a r = IsAnswer a r (as_keeper old) (as_keeper new)
+Gives as_keeper true old new a r = (a ≡ Stopped) × (new ≡ old)
 
 -- What comes of an ask: its answer and one entry, in a history that is legal with it. Leave always finds its memory. Other sessions
 -- that live stay so, and the session itself unless it leaves or is answered Stopped.
-pub record AnswersAsk {K : Type 0} (told : K → Keeper) (old new : EngineState K) (s : SessionId) (ask : Ask) (a : Answer) : Type 0 where
+pub record AnswersAsk {K : Type 0} (as_keeper : K → Keeper) (old new : EngineState K) (s : SessionId) (ask : Ask) (a : Answer) : Type 0 where
   pub entry : new.history ≡ old.history ++ entry_of s ask a ∷ []
   pub legal : HasLegalHistory new
   pub sessions : new.sessions ≡ old.sessions
@@ -108,4 +108,4 @@ pub record AnswersAsk {K : Type 0} (told : K → Keeper) (old new : EngineState 
   pub leaves : ask ≡ Leave → has_given_up old.history ≡ false → a ≡ Done
   pub others : (r : SessionId) → (r.0 ≡ s.0 → ⊥) → IsLive (database_of old) r → IsLive (database_of new) r
   pub stays : a ≢ Stopped → ask ≢ Leave → IsLive (database_of new) s
-  pub gives : Gives told (has_given_up old.history) old.keeper new.keeper a (Reply (database_of old) s ask)
+  pub gives : Gives as_keeper (has_given_up old.history) old.keeper new.keeper a (Reply (database_of old) s ask)

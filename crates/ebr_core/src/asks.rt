@@ -30,9 +30,9 @@ pub fn begin<K: Keep>(
     s: SessionId,
     e: EditionNo,
 ) -> Result<Given, Halt>
-    requires { IsHeld K.told current.old s }
-    ensures reply { ForSession K.told current.old s (λ db d x. d ≡ e → RepliesGiven K.told current.old current.new result (spec.reply_begin d db s x)) }
-    ensures book { ForSession K.told current.old s (λ db d x. IfOk result (λ given. IsBookOf given.0 given.1)) }
+    requires { IsHeld K.as_keeper current.old s }
+    ensures reply { ForSession K.as_keeper current.old s (λ db d x. d ≡ e → RepliesGiven K.as_keeper current.old current.new result (spec.reply_begin d db s x)) }
+    ensures book { ForSession K.as_keeper current.old s (λ db d x. IfOk result (λ given. IsBookOf given.0 given.1)) }
 {
     let view = current.views.of(alloc, &current.world.catalogue, e)?;
     let book = current.world.book.book_of(alloc, &view)?;
@@ -51,9 +51,9 @@ pub fn sql<K: Keep>(
     left: u32,
     ask: &Ask,
 ) -> Result<Answer, Halt>
-    requires held { IsHeld K.told current.old s }
+    requires held { IsHeld K.as_keeper current.old s }
     requires is { ask.now ≡ asks.Sql stmt.now binds.now left }
-    ensures { ForSession K.told current.old s (λ db d x. d ≡ e → Replies K.told current.old current.new result (spec.reply_sql d db s x stmt.now binds.now left)) }
+    ensures { ForSession K.as_keeper current.old s (λ db d x. d ≡ e → Replies K.as_keeper current.old current.new result (spec.reply_sql d db s x stmt.now binds.now left)) }
 {
     let t = top_of(current.seats.as_slice(), s);
     let room = seat_of(current.seats.as_slice(), s).room_for(ask);
@@ -77,10 +77,10 @@ pub fn transact<K: Keep>(
     s: SessionId,
     ask: &Ask,
 ) -> Result<(), Failure>
-    requires held { IsHeld K.told current.old s }
+    requires held { IsHeld K.as_keeper current.old s }
     requires done { IsDone ask.now }
-    requires placed { IsPlaced K.told current.old s ask.now }
-    ensures { ForSession K.told current.old s (λ db e x. Replies K.told current.old current.new (answered result) (spec.reply_in e db s x ask.now)) }
+    requires placed { IsPlaced K.as_keeper current.old s ask.now }
+    ensures { ForSession K.as_keeper current.old s (λ db e x. Replies K.as_keeper current.old current.new (answered result) (spec.reply_in e db s x ask.now)) }
 {
     match ask {
         Ask::Commit => commit(alloc, current, s),
@@ -99,8 +99,8 @@ pub fn transact<K: Keep>(
 
 /// COMMIT.
 pub fn commit<K: Keep>(alloc: Global, current: &mut Current<K>, s: SessionId) -> Result<(), Failure>
-    requires { IsHeld K.told current.old s }
-    ensures { ForSession K.told current.old s (λ db e x. Replies K.told current.old current.new (answered result) (reply_commit db s x)) }
+    requires { IsHeld K.as_keeper current.old s }
+    ensures { ForSession K.as_keeper current.old s (λ db e x. Replies K.as_keeper current.old current.new (answered result) (reply_commit db s x)) }
 {
     asks_are_read_back();
     commit_top(
@@ -113,8 +113,8 @@ pub fn commit<K: Keep>(alloc: Global, current: &mut Current<K>, s: SessionId) ->
 }
 
 fn roll_back<K: Keep>(alloc: Global, current: &mut Current<K>, s: SessionId)
-    requires { IsHeld K.told current.old s }
-    ensures { ForSession K.told current.old s (λ db e x. IsReplied K.told current.old current.new Done (reply_rollback db s x)) }
+    requires { IsHeld K.as_keeper current.old s }
+    ensures { ForSession K.as_keeper current.old s (λ db e x. IsReplied K.as_keeper current.old current.new Done (reply_rollback db s x)) }
 {
     asks_are_read_back();
     roll_back_top(alloc, &mut current.world.tx, &mut current.seats, s);
@@ -126,8 +126,8 @@ fn savepoint<K: Keep>(
     s: SessionId,
     name: &Name,
 ) -> Result<(), Failure>
-    requires { IsHeld K.told current.old s }
-    ensures { ForSession K.told current.old s (λ db e x. Replies K.told current.old current.new (answered result) (reply_savepoint db s x name.now)) }
+    requires { IsHeld K.as_keeper current.old s }
+    ensures { ForSession K.as_keeper current.old s (λ db e x. Replies K.as_keeper current.old current.new (answered result) (reply_savepoint db s x name.now)) }
 {
     asks_are_read_back();
     savepoint_top(
@@ -141,25 +141,25 @@ fn savepoint<K: Keep>(
 }
 
 fn back_to<K: Keep>(current: &mut Current<K>, s: SessionId, name: &Name) -> Result<(), Failure>
-    requires { IsHeld K.told current.old s }
-    ensures { ForSession K.told current.old s (λ db e x. Replies K.told current.old current.new (answered result) (reply_back_to db s x name.now)) }
+    requires { IsHeld K.as_keeper current.old s }
+    ensures { ForSession K.as_keeper current.old s (λ db e x. Replies K.as_keeper current.old current.new (answered result) (reply_back_to db s x name.now)) }
 {
     asks_are_read_back();
     failed(back_to_top(&mut current.world.tx, &mut current.seats, s, name))
 }
 
 fn push<K: Keep>(current: &mut Current<K>, s: SessionId) -> Result<(), Failure>
-    requires { IsHeld K.told current.old s }
-    ensures { ForSession K.told current.old s (λ db e x. is_some x.call ≡ true → Replies K.told current.old current.new (answered result) (reply_push db s x)) }
+    requires { IsHeld K.as_keeper current.old s }
+    ensures { ForSession K.as_keeper current.old s (λ db e x. is_some x.call ≡ true → Replies K.as_keeper current.old current.new (answered result) (reply_push db s x)) }
 {
     asks_are_read_back();
     failed(push_top(&mut current.world.tx, &mut current.seats, s))
 }
 
 fn pop<K: Keep>(current: &mut Current<K>, s: SessionId, failed: bool) -> Result<(), Failure>
-    requires held { IsHeld K.told current.old s }
+    requires held { IsHeld K.as_keeper current.old s }
     requires level { (seat : Held) → seat_at current.old.seats.items s.0 ≡ Some seat → 0 < seat.levels }
-    ensures { ForSession K.told current.old s (λ db e x. Replies K.told current.old current.new (answered result) (reply_pop db s x failed)) }
+    ensures { ForSession K.as_keeper current.old s (λ db e x. Replies K.as_keeper current.old current.new (answered result) (reply_pop db s x failed)) }
 {
     asks_are_read_back();
     refused_by(pop_top(&mut current.world.tx, &mut current.seats, s, failed))
@@ -189,8 +189,8 @@ fn failed(done: Result<(), Stop>) -> Result<(), Failure>
 /// The session's edition is the one of that name from now on; EBR-0016 where its transaction has begun, ORA-38802 where there is
 /// none of that name. It takes no memory.
 fn switch<K: Keep>(current: &mut Current<K>, s: SessionId, name: &Name) -> Result<(), Failure>
-    requires { IsHeld K.told current.old s }
-    ensures { ForSession K.told current.old s (λ db e x. Replies K.told current.old current.new (answered result) (spec.reply_set db s x name.now)) }
+    requires { IsHeld K.as_keeper current.old s }
+    ensures { ForSession K.as_keeper current.old s (λ db e x. Replies K.as_keeper current.old current.new (answered result) (spec.reply_set db s x name.now)) }
 {
     if current.world.tx.begun(own_of(s)) {
         return Err(Failure::Refused(Code::Ebr(16)));
@@ -206,8 +206,8 @@ fn switch<K: Keep>(current: &mut Current<K>, s: SessionId, name: &Name) -> Resul
 
 /// The call ends. It takes no memory.
 pub fn end<K: Keep>(current: &mut Current<K>, s: SessionId, failed: bool)
-    requires { IsHeld K.told current.old s }
-    ensures { ForSession K.told current.old s (λ db e x. own_on_top (data_of db) s ≡ true → IsReplied K.told current.old current.new Done (reply_end db s x failed)) }
+    requires { IsHeld K.as_keeper current.old s }
+    ensures { ForSession K.as_keeper current.old s (λ db e x. own_on_top (data_of db) s ≡ true → IsReplied K.as_keeper current.old current.new Done (reply_end db s x failed)) }
 {
     end_call(&mut current.world.tx, &mut current.seats, s, failed);
 }

@@ -39,10 +39,10 @@ pub fn counted_reply<K: Keep>(
     s: SessionId,
     ask: &Ask,
 ) -> Result<Given, Halt>
-    requires held { IsHeld K.told current.old s }
+    requires held { IsHeld K.as_keeper current.old s }
     requires stays { ask.now ≢ Leave }
     requires fit { IsFit ask.now }
-    ensures reply { ForSession K.told current.old s (λ db e x. RepliesGiven K.told current.old current.new result (spec.Reply db s ask.now)) }
+    ensures reply { ForSession K.as_keeper current.old s (λ db e x. RepliesGiven K.as_keeper current.old current.new result (spec.Reply db s ask.now)) }
     ensures book { IfOk result (λ given. ComesWith ask.now given.0 given.1) }
 {
     let given = tested_reply(alloc, current, s, ask)?;
@@ -57,10 +57,10 @@ fn tested_reply<K: Keep>(
     s: SessionId,
     ask: &Ask,
 ) -> Result<Given, Halt>
-    requires held { IsHeld K.told current.old s }
+    requires held { IsHeld K.as_keeper current.old s }
     requires stays { ask.now ≢ Leave }
     requires fit { IsFit ask.now }
-    ensures reply { ForSession K.told current.old s (λ db e x. RepliesGiven K.told current.old current.new result (spec.unless_refused (first_tests db s x ask.now) db (spec.reply_in e db s x ask.now))) }
+    ensures reply { ForSession K.as_keeper current.old s (λ db e x. RepliesGiven K.as_keeper current.old current.new result (spec.unless_refused (first_tests db s x ask.now) db (spec.reply_in e db s x ask.now))) }
     ensures book { IfOk result (λ given. ComesWith ask.now given.0 given.1) }
 {
     match first_tests(seat_of(current.seats.as_slice(), s), ask) {
@@ -76,11 +76,11 @@ fn reply<K: Keep>(
     s: SessionId,
     ask: &Ask,
 ) -> Result<Given, Halt>
-    requires held { IsHeld K.told current.old s }
+    requires held { IsHeld K.as_keeper current.old s }
     requires stays { ask.now ≢ Leave }
     requires fit { IsFit ask.now }
-    requires placed { IsPlaced K.told current.old s ask.now }
-    ensures reply { ForSession K.told current.old s (λ db e x. RepliesGiven K.told current.old current.new result (spec.reply_in e db s x ask.now)) }
+    requires placed { IsPlaced K.as_keeper current.old s ask.now }
+    ensures reply { ForSession K.as_keeper current.old s (λ db e x. RepliesGiven K.as_keeper current.old current.new result (spec.reply_in e db s x ask.now)) }
     ensures book { IfOk result (λ given. ComesWith ask.now given.0 given.1) }
 {
     match seat_of(current.seats.as_slice(), s).edition {
@@ -96,12 +96,12 @@ fn reply_in<K: Keep>(
     e: EditionNo,
     ask: &Ask,
 ) -> Result<Given, Halt>
-    requires held { IsHeld K.told current.old s }
+    requires held { IsHeld K.as_keeper current.old s }
     requires stays { ask.now ≢ Leave }
     requires fit { IsFit ask.now }
-    requires placed { IsPlaced K.told current.old s ask.now }
-    ensures reply { ForSession K.told current.old s (λ db d x. d ≡ e → RepliesGiven K.told current.old current.new result (spec.reply_in d db s x ask.now)) }
-    ensures book { ForSession K.told current.old s (λ db d x. IfOk result (λ given. ComesWith ask.now given.0 given.1)) }
+    requires placed { IsPlaced K.as_keeper current.old s ask.now }
+    ensures reply { ForSession K.as_keeper current.old s (λ db d x. d ≡ e → RepliesGiven K.as_keeper current.old current.new result (spec.reply_in d db s x ask.now)) }
+    ensures book { ForSession K.as_keeper current.old s (λ db d x. IfOk result (λ given. ComesWith ask.now given.0 given.1)) }
 {
     if let Ask::Begin = ask {
         return begin(alloc, current, s, e);
@@ -117,11 +117,11 @@ fn reply_without_view<K: Keep>(
     e: EditionNo,
     ask: &Ask,
 ) -> Result<Answer, Halt>
-    requires held { IsHeld K.told current.old s }
+    requires held { IsHeld K.as_keeper current.old s }
     requires plain { IsPlain ask.now }
     requires fit { IsFit ask.now }
-    requires placed { IsPlaced K.told current.old s ask.now }
-    ensures { ForSession K.told current.old s (λ db d x. d ≡ e → Replies K.told current.old current.new result (spec.reply_in d db s x ask.now)) }
+    requires placed { IsPlaced K.as_keeper current.old s ask.now }
+    ensures { ForSession K.as_keeper current.old s (λ db d x. d ≡ e → Replies K.as_keeper current.old current.new result (spec.reply_in d db s x ask.now)) }
 {
     match ask {
         Ask::Sql { stmt, binds, left } => sql(

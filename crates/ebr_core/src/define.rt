@@ -6,7 +6,7 @@ ghost use Rattle.ebr_ast.specs.Views.{IsInOrder};
 ghost use Rattle.ebr_check.specs.Verdict.{is_valid};
 ghost use Rattle.ebr_base.specs.Answers.{Answers};
 ghost use Rattle.ebr_cross.specs.declared.record.CatalogueRecord.{CatalogueRecord as CatalogueMade};
-ghost use Rattle.ebr_cross.specs.Catalogue.{ForLists, HaveOwnKeys, Lists, View, kept};
+ghost use Rattle.ebr_cross.specs.Catalogue.{ForLists, HaveOwnKeys, Lists, View, as_catalogue};
 ghost use Rattle.ebr_cross.specs.Definitions.{outcome};
 ghost use Rattle.ebr_cross.specs.Records.{with_record};
 ghost use Rattle.ebr_database.specs.Database.{data_of};
@@ -46,9 +46,9 @@ pub fn ddl<K: Keep>(
     what: &Definition,
     text: &Bytes,
 ) -> Result<Answer, Halt>
-    requires held { IsHeld K.told current.old s }
+    requires held { IsHeld K.as_keeper current.old s }
     requires text { IsTextOf what.now text.now }
-    ensures { ForSession K.told current.old s (λ db d x. d ≡ e → Replies K.told current.old current.new result (spec.reply_ddl d db s x what.now text.now)) }
+    ensures { ForSession K.as_keeper current.old s (λ db d x. d ≡ e → Replies K.as_keeper current.old current.new result (spec.reply_ddl d db s x what.now text.now)) }
 {
     match commit(alloc, current, s) {
         Ok(()) => defined(alloc, current, s, e, what, text),
@@ -66,9 +66,9 @@ fn defined<K: Keep>(
     what: &Definition,
     text: &Bytes,
 ) -> Result<Answer, Halt>
-    requires held { IsHeld K.told current.old s }
+    requires held { IsHeld K.as_keeper current.old s }
     requires text { IsTextOf what.now text.now }
-    ensures { ForSession K.told current.old s (λ db d x. d ≡ e → Replies K.told current.old current.new result (spec.reply_define d s what.now text.now db)) }
+    ensures { ForSession K.as_keeper current.old s (λ db d x. d ≡ e → Replies K.as_keeper current.old current.new result (spec.reply_define d s what.now text.now db)) }
 {
     match define(alloc, current, s, e, what, text) {
         Ok(()) => answer_to(alloc, current, e, what),
@@ -86,10 +86,10 @@ fn define<K: Keep>(
     what: &Definition,
     text: &Bytes,
 ) -> Result<(), Failure>
-    requires held { IsHeld K.told current.old s }
+    requires held { IsHeld K.as_keeper current.old s }
     requires text { IsTextOf what.now text.now }
-    ensures held { OnOk result (HoldsSome K.told current.new) }
-    ensures carries { ForSession K.told current.old s (λ db d x. d ≡ e → Carries K.told current.old current.new result db (spec.recorded (spec.defined (spec.lists_of db) (data_of db) s d (spec.editions_in_use db) what.now text.now) (used_by db.records))) }
+    ensures held { OnOk result (HoldsSome K.as_keeper current.new) }
+    ensures carries { ForSession K.as_keeper current.old s (λ db d x. d ≡ e → Carries K.as_keeper current.old current.new result db (spec.recorded (spec.defined (spec.lists_of db) (data_of db) s d (spec.editions_in_use db) what.now text.now) (used_by db.records))) }
 {
     if is_held(&current.world.catalogue, &current.world.tx, s, what) {
         return Err(Failure::Refused(Code::Ora(54)));
@@ -108,9 +108,9 @@ fn carry_out<K: Keep>(
     what: &Definition,
     text: &Bytes,
 ) -> Result<(), Failure>
-    requires held { IsHeld K.told current.old s }
+    requires held { IsHeld K.as_keeper current.old s }
     requires text { IsTextOf what.now text.now }
-    ensures { ForSession K.told current.old s (λ db d x. Carries K.told current.old current.new result db (spec.recorded (outcome (spec.lists_of db) e sessions.now what.now text.now) (used_by db.records))) }
+    ensures { ForSession K.as_keeper current.old s (λ db d x. Carries K.as_keeper current.old current.new result db (spec.recorded (outcome (spec.lists_of db) e sessions.now what.now text.now) (used_by db.records))) }
 {
     keep_outcome(alloc, current, s, e, sessions, what, text)?;
     apply(alloc, current, e, sessions, what, text)?;
@@ -158,9 +158,9 @@ fn keep_outcome<K: Keep>(
     what: &Definition,
     text: &Bytes,
 ) -> Result<(), Failure>
-    requires held { IsHeld K.told current.old s }
+    requires held { IsHeld K.as_keeper current.old s }
     requires text { IsTextOf what.now text.now }
-    ensures kept { ForSession K.told current.old s (λ db d x. KeepsOutcome (K.told current.old.world.keeper) (K.told current.new.world.keeper) result (outcome (spec.lists_of db) e sessions.now what.now text.now) (spec.recorded (outcome (spec.lists_of db) e sessions.now what.now text.now) (used_by db.records))) }
+    ensures kept { ForSession K.as_keeper current.old s (λ db d x. KeepsOutcome (K.as_keeper current.old.world.keeper) (K.as_keeper current.new.world.keeper) result (outcome (spec.lists_of db) e sessions.now what.now text.now) (spec.recorded (outcome (spec.lists_of db) e sessions.now what.now text.now) (used_by db.records))) }
     ensures others { current.new ≡ record current.old { world = record current.old.world { keeper = current.new.world.keeper } } }
 {
     match record_for(alloc, current, s, e, sessions, what, text) {
@@ -180,9 +180,9 @@ fn record_for<K: Keep>(
     what: &Definition,
     text: &Bytes,
 ) -> Result<Record, Stop>
-    requires held { IsHeld K.told current.now s }
+    requires held { IsHeld K.as_keeper current.now s }
     requires text { IsTextOf what.now text.now }
-    ensures answer { ForSession K.told current.now s (λ db d x. Answers result (record_made (outcome (spec.lists_of db) e sessions.now what.now text.now))) }
+    ensures answer { ForSession K.as_keeper current.now s (λ db d x. Answers result (record_made (outcome (spec.lists_of db) e sessions.now what.now text.now))) }
     ensures payload { IfOk result (λ r. HasPayload r) }
 {
     let made = current
@@ -223,7 +223,7 @@ fn notice<K: Keep>(
 ) -> Result<(), NoMemory>
     requires { IsNew current.old.world.tx.contents made.now }
     ensures noticed { (lists : Lists) → HaveOwnKeys lists → AreCurrent lists current.old.views → AreCurrent lists current.old.world.book
-        → current.old.world.catalogue ≡ kept (with_record lists made.now) → OnOk result (Noticed lists made.now current.old current.new) }
+        → current.old.world.catalogue ≡ as_catalogue (with_record lists made.now) → OnOk result (Noticed lists made.now current.old current.new) }
     ensures catalogue { current.new.world.catalogue ≡ current.old.world.catalogue }
     ensures keeper { current.new.world.keeper ≡ current.old.world.keeper }
 {
@@ -254,8 +254,8 @@ fn answer_to<K: Keep>(
     e: EditionNo,
     what: &Definition,
 ) -> Result<Answer, Halt>
-    requires { HoldsSome K.told current.old }
-    ensures { ForHeld K.told current.old (λ db. AnswersIn K.told current.old current.new result db (spec.answer_in (View (spec.lists_of db) e) what.now)) }
+    requires { HoldsSome K.as_keeper current.old }
+    ensures { ForHeld K.as_keeper current.old (λ db. AnswersIn K.as_keeper current.old current.new result db (spec.answer_in (View (spec.lists_of db) e) what.now)) }
 {
     match what {
         Definition::CreateObject { unit, .. } => creation_answer(alloc, current, e, unit),
@@ -269,8 +269,8 @@ fn creation_answer<K: Keep>(
     e: EditionNo,
     unit: &UnitTree,
 ) -> Result<Answer, Halt>
-    requires { HoldsSome K.told current.old }
-    ensures { ForHeld K.told current.old (λ db. AnswersIn K.told current.old current.new result db (spec.creation_answer (is_valid (View (spec.lists_of db) e) unit.now))) }
+    requires { HoldsSome K.as_keeper current.old }
+    ensures { ForHeld K.as_keeper current.old (λ db. AnswersIn K.as_keeper current.old current.new result db (spec.creation_answer (is_valid (View (spec.lists_of db) e) unit.now))) }
 {
     let view = current.views.of(alloc, &current.world.catalogue, e)?;
     if passes(alloc, view.get(), unit)? {

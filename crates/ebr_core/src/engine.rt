@@ -34,15 +34,15 @@ impl<K: Keep> Model for Engine<K> {
 
     ghost coded = { Prim.hlevel (codes, a.the_row.coded, x.the_row.coded, v.the_row.coded, K.code) };
 
-    ghost view = { λ e. state_of K.told e.parts };
+    ghost view = { λ e. state_of K.as_keeper e.parts };
 
-    ghost invariant = { λ e. IsSound K.told e.parts };
+    ghost invariant = { λ e. IsSound K.as_keeper e.parts };
 }
 
 impl<K: Keep> Engine<K> {
     /// An engine with an empty database and so many live sessions, over a keeper that has kept nothing.
     pub fn start(alloc: Global, keeper: K, sessions: u32) -> Result<Engine<K>, NoMemory>
-        requires { IsEmpty (K.told keeper) }
+        requires { IsEmpty (K.as_keeper keeper) }
         ensures { IfOk result (λ e. e ≡ record { history = []; sessions = sessions; books = no_books sessions; keeper = keeper }) }
     {
         let parts = Parts::start(alloc, keeper, sessions)?;
@@ -62,7 +62,7 @@ impl<K: Keep> Engine<K> {
     pub fn answer(&mut self, s: SessionId, ask: Ask) -> Answer
         requires live { IsLive (database_of self.old) s }
         requires fit { IsFit ask }
-        ensures answers { AnswersAsk K.told self.old self.new s ask result }
+        ensures answers { AnswersAsk K.as_keeper self.old self.new s ask result }
         ensures apart { IsApart (database_of self.old) s ask result (database_of self.new) }
     {
         self.parts.answer(s, ask)

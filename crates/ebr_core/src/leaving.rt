@@ -13,8 +13,8 @@ use ebr_seats::{count_ask, leave};
 
 /// A live session leaves, which is counted too. It takes no memory.
 pub fn counted_leave<K: Keep>(current: &mut Current<K>, s: SessionId)
-    requires { IsHeld K.told current.old s }
-    ensures { ForSession K.told current.old s (λ db e x. IsReplied K.told current.old current.new Done (spec.Reply db s asks.Leave)) }
+    requires { IsHeld K.as_keeper current.old s }
+    ensures { ForSession K.as_keeper current.old s (λ db e x. IsReplied K.as_keeper current.old current.new Done (spec.Reply db s asks.Leave)) }
 {
     leave(&mut current.world.tx, &mut current.seats, s);
     count_ask(&mut current.seats, s, &Ask::Leave, &Answer::Done);

@@ -42,9 +42,9 @@ pub struct Parts<K> {
 impl<K: Keep> Parts<K> {
     /// With so many live sessions and an empty history.
     pub fn start(alloc: Global, keeper: K, sessions: u32) -> Result<Parts<K>, NoMemory>
-        requires { IsEmpty (K.told keeper) }
-        ensures sound { IfOk result (λ p. IsSound K.told p) }
-        ensures state { IfOk result (λ p. state_of K.told p ≡ record { history = []; sessions = sessions; books = no_books sessions; keeper = keeper }) }
+        requires { IsEmpty (K.as_keeper keeper) }
+        ensures sound { IfOk result (λ p. IsSound K.as_keeper p) }
+        ensures state { IfOk result (λ p. state_of K.as_keeper p ≡ record { history = []; sessions = sessions; books = no_books sessions; keeper = keeper }) }
     {
         let mut history = Vec::new(alloc);
         history.reserve(sessions as usize + 1)?;
@@ -62,11 +62,11 @@ impl<K: Keep> Parts<K> {
 
     /// Answers one ask of a live session.
     pub fn answer(&mut self, s: SessionId, ask: Ask) -> Answer
-        requires sound { IsSound K.told self.old }
-        requires live { IsLive (database K.told self.old) s }
+        requires sound { IsSound K.as_keeper self.old }
+        requires live { IsLive (database K.as_keeper self.old) s }
         requires fit { IsFit ask }
-        ensures sound { IsSound K.told self.new }
-        ensures answers { AnswersAsk K.told (state_of K.told self.old) (state_of K.told self.new) s ask result }
+        ensures sound { IsSound K.as_keeper self.new }
+        ensures answers { AnswersAsk K.as_keeper (state_of K.as_keeper self.old) (state_of K.as_keeper self.new) s ask result }
     {
         if self.stopped {
             return self.stop(s);
@@ -79,9 +79,9 @@ impl<K: Keep> Parts<K> {
 
     /// Answers that the engine has stopped. The session leaves.
     fn stop(&mut self, s: SessionId) -> Answer
-        requires { HasRoom K.told self.old s }
+        requires { HasRoom K.as_keeper self.old s }
         ensures answer { result ≡ stopped }
-        ensures adds { Adds K.told self.old self.new s (entry s leaves stopped) None (slice_set self.old.living.items (s.0 - 1) false) }
+        ensures adds { Adds K.as_keeper self.old self.new s (entry s leaves stopped) None (slice_set self.old.living.items (s.0 - 1) false) }
         ensures current { self.new.current ≡ self.old.current }
     {
         put_at(&mut self.living, place(s), false);
@@ -91,11 +91,11 @@ impl<K: Keep> Parts<K> {
 
     /// Answers a Leave, which takes no memory.
     fn leave(&mut self, s: SessionId) -> Answer
-        requires room { HasRoom K.told self.old s }
-        requires held { IsHeld K.told self.old.current s }
+        requires room { HasRoom K.as_keeper self.old s }
+        requires held { IsHeld K.as_keeper self.old.current s }
         ensures answer { result ≡ done }
-        ensures adds { Adds K.told self.old self.new s (entry s leaves done) None (slice_set self.old.living.items (s.0 - 1) false) }
-        ensures reply { ForSession K.told self.old.current s (λ db e x. IsReplied K.told self.old.current self.new.current done (spec.Reply db s leaves)) }
+        ensures adds { Adds K.as_keeper self.old self.new s (entry s leaves done) None (slice_set self.old.living.items (s.0 - 1) false) }
+        ensures reply { ForSession K.as_keeper self.old.current s (λ db e x. IsReplied K.as_keeper self.old.current self.new.current done (spec.Reply db s leaves)) }
     {
         counted_leave(&mut self.current, s);
         put_at(&mut self.living, place(s), false);
@@ -105,13 +105,13 @@ impl<K: Keep> Parts<K> {
 
     /// Answers an ask that isn't Leave, while the engine runs.
     fn reply(&mut self, s: SessionId, ask: Ask) -> Answer
-        requires sound { IsSound K.told self.old }
+        requires sound { IsSound K.as_keeper self.old }
         requires runs { self.old.stopped ≡ false }
-        requires live { IsLive (database K.told self.old) s }
+        requires live { IsLive (database K.as_keeper self.old) s }
         requires stays { ask ≢ leaves }
         requires fit { IsFit ask }
-        ensures sound { IsSound K.told self.new }
-        ensures answers { AnswersAsk K.told (state_of K.told self.old) (state_of K.told self.new) s ask result }
+        ensures sound { IsSound K.as_keeper self.new }
+        ensures answers { AnswersAsk K.as_keeper (state_of K.as_keeper self.old) (state_of K.as_keeper self.new) s ask result }
     {
         match self.try_reply(s, &ask) {
             Ok((given, copy)) => self.give(s, ask, given, copy),
@@ -121,9 +121,9 @@ impl<K: Keep> Parts<K> {
 
     /// Gives an answer, of which this is a copy.
     fn give(&mut self, s: SessionId, ask: Ask, given: Given, copy: Answer) -> Answer
-        requires { HasRoom K.told self.old s }
+        requires { HasRoom K.as_keeper self.old s }
         ensures answer { result ≡ given.0 }
-        ensures adds { Adds K.told self.old self.new s (entry s ask copy) given.1 self.old.living.items }
+        ensures adds { Adds K.as_keeper self.old self.new s (entry s ask copy) given.1 self.old.living.items }
         ensures current { self.new.current ≡ self.old.current }
     {
         let (answer, book) = given;
@@ -133,11 +133,11 @@ impl<K: Keep> Parts<K> {
 
     /// Replies to an ask that isn't Leave, with a copy of the answer for the history, and makes room for its entry.
     fn try_reply(&mut self, s: SessionId, ask: &Ask) -> Result<(Given, Answer), Halt>
-        requires held { IsHeld K.told self.old.current s }
+        requires held { IsHeld K.as_keeper self.old.current s }
         requires stays { ask.now ≢ leaves }
         requires fit { IsFit ask.now }
-        ensures keeps { Keeps K.told self.old self.new }
-        ensures reply { ForSession K.told self.old.current s (λ db e x. Tries K.told self.old.current self.new.current result (spec.Reply db s ask.now)) }
+        ensures keeps { Keeps K.as_keeper self.old self.new }
+        ensures reply { ForSession K.as_keeper self.old.current s (λ db e x. Tries K.as_keeper self.old.current self.new.current result (spec.Reply db s ask.now)) }
         ensures book { IfOk result (λ pair. ComesWith ask.now pair.0.0 pair.0.1) }
         ensures room { OnOk result (vec_len self.new.history + (length self.new.living.items + 2) ≤ vec_capacity self.new.history) }
     {
@@ -150,7 +150,7 @@ impl<K: Keep> Parts<K> {
 
     /// Room for an entry, for the one with which the engine gives up, and for a Leave of each session.
     fn make_room(&mut self) -> Result<(), NoMemory>
-        ensures keeps { Keeps K.told self.old self.new }
+        ensures keeps { Keeps K.as_keeper self.old self.new }
         ensures current { self.new.current ≡ self.old.current }
         ensures room { OnOk result (vec_len self.new.history + (length self.new.living.items + 2) ≤ vec_capacity self.new.history) }
     {
@@ -160,9 +160,9 @@ impl<K: Keep> Parts<K> {
 
     /// Gives up, with a last entry.
     fn give_up(&mut self, s: SessionId, ask: Ask, why: Halt) -> Answer
-        requires { HasRoom K.told self.old s }
+        requires { HasRoom K.as_keeper self.old s }
         ensures answer { result ≡ last_answer why }
-        ensures gives { GivesUp K.told self.old self.new s (entry s ask (last_answer why)) }
+        ensures gives { GivesUp K.as_keeper self.old self.new s (entry s ask (last_answer why)) }
         ensures current { self.new.current ≡ self.old.current }
     {
         self.add(s, ask, last_answer(why), None);
@@ -172,8 +172,8 @@ impl<K: Keep> Parts<K> {
 
     /// Adds an entry to the history, where there is room for it, and sets a book aside.
     fn add(&mut self, session: SessionId, ask: Ask, answer: Answer, book: Option<Shared<Book>>)
-        requires { HasRoom K.told self.old session }
-        ensures adds { Adds K.told self.old self.new session (entry session ask answer) book self.old.living.items }
+        requires { HasRoom K.as_keeper self.old session }
+        ensures adds { Adds K.as_keeper self.old self.new session (entry session ask answer) book self.old.living.items }
         ensures current { self.new.current ≡ self.old.current }
     {
         put_at(&mut self.books, place(session), book);
@@ -196,10 +196,10 @@ impl<K: Keep> Parts<K> {
 
     /// The book of a session, where one is set aside, which it is no more then.
     pub fn take_book(&mut self, s: SessionId) -> Option<Shared<Book>>
-        requires { IsSound K.told self.old }
-        ensures sound { IsSound K.told self.new }
+        requires { IsSound K.as_keeper self.old }
+        ensures sound { IsSound K.as_keeper self.new }
         ensures book { result ≡ book_at self.old.books.items s.0 }
-        ensures state { state_of K.told self.new ≡ record (state_of K.told self.old) { books = with_book self.old.books.items s.0 None } }
+        ensures state { state_of K.as_keeper self.new ≡ record (state_of K.as_keeper self.old) { books = with_book self.old.books.items s.0 None } }
     {
         if s.0 == 0 || place(s) >= self.books.len() {
             return None;
@@ -210,8 +210,8 @@ impl<K: Keep> Parts<K> {
 
 /// The first edition alone, in which nothing is defined, with so many sessions.
 fn first_current<K: Keep>(alloc: Global, keeper: K, sessions: u32) -> Result<Current<K>, NoMemory>
-    requires { IsEmpty (K.told keeper) }
-    ensures holds { IfOk result (λ now. Holds K.told now (spec.Build [] sessions)) }
+    requires { IsEmpty (K.as_keeper keeper) }
+    ensures holds { IfOk result (λ now. Holds K.as_keeper now (spec.Build [] sessions)) }
     ensures keeper { IfOk result (λ now. now.world.keeper ≡ keeper) }
 {
     let seats = first_seats(alloc, sessions, EditionNo(1))?;

@@ -15,7 +15,7 @@ use Rattle.ebr_tables.specs.Tables as tables_spec
 use Rattle.ebr_cross.specs.declared.catalogue.Catalogue.{Catalogue}
 use Rattle.ebr_cross.specs.declared.record.CatalogueRecord.{CatalogueRecord}
 use Rattle.ebr_cross.specs.declared.record.CatalogueRecord.TheVariants as made
-use Rattle.ebr_cross.specs.Catalogue.{Lists, kept}
+use Rattle.ebr_cross.specs.Catalogue.{Lists, as_catalogue}
 use Rattle.ebr_cross.specs.Definitions.{recording, create_edition, Applies}
 use Rattle.ebr_cross.specs.Records.{with_record}
 use Rattle.ebr_cross.specs.inside.Steps.{after, made_table}
@@ -36,20 +36,20 @@ edition-record c n p r h = by (is_some (edition_named c.editions.made n)) (named
     by false None h = absurd cc
     by false (Some e) h = ap (with_record c) (some_answer (made.Edition n e) (create_below c.editions.made (Some e)) r h)
 
-with-chain : (old : Catalogue) (c : Lists) (s s' : Editions) → old ≡ kept c → s ≡ s' → ◌≡◌ {A = Catalogue} (record { chain = s; actuals = old.actuals; tables = old.tables }) (kept (record c { editions = s' }))
+with-chain : (old : Catalogue) (c : Lists) (s s' : Editions) → old ≡ as_catalogue c → s ≡ s' → ◌≡◌ {A = Catalogue} (record { chain = s; actuals = old.actuals; tables = old.tables }) (as_catalogue (record c { editions = s' }))
 with-chain old c s s' h e =
     let make : Catalogue → Editions → Catalogue = λ k t. record { chain = t; actuals = k.actuals; tables = k.tables } in
-    ap (λ k. make k s) h ∙ ap (make (kept c)) e
+    ap (λ k. make k s) h ∙ ap (make (as_catalogue c)) e
 
 -- CREATE EDITION is answered by its record
 pub edition-made : (old : Catalogue) (n copy : List ℕ) (p : Option (List ℕ)) (chain : Editions) (done : Result EditionNo Stop) (r : CatalogueRecord) (result : Result CatalogueRecord Stop) → copy ≡ n → result ≡ after done r
-    → ((c : Lists) → old ≡ kept c → create_edition c n p ≡ Ok r) → Answers done (create_answer old.chain.made copy p) → OnOk done (chain ≡ with_edition old.chain copy p) → OnErr done (chain ≡ old.chain)
+    → ((c : Lists) → old ≡ as_catalogue c → create_edition c n p ≡ Ok r) → Answers done (create_answer old.chain.made copy p) → OnOk done (chain ≡ with_edition old.chain copy p) → OnErr done (chain ≡ old.chain)
     → Applies old (record { chain = chain; actuals = old.actuals; tables = old.tables }) (λ c. create_edition c n p) result
 edition-made old n copy p chain done r result is is_after answered answers changed same =
     carried old (record { chain = chain; actuals = old.actuals; tables = old.tables }) (λ c. create_edition c n p) (λ c. create_answer c.editions.made copy p) done r result is_after answered
     (λ c h. subst (λ (k : Catalogue). Answers done (create_answer k.chain.made copy p)) h answers)
     (λ c code h. recording-err _ (create_answer c.editions.made n p) code (ap (λ k. create_answer c.editions.made k p) (sym is) ∙ h))
-    (on_ok_weaker done (λ e c h. with-chain old c chain (with_edition c.editions n p) h (e ∙ (ap (λ k. with_edition old.chain k p) is ∙ ap (λ (k : Catalogue). with_edition k.chain n p) h)) ∙ ap kept (sym (edition-record c n p r (answered c h)))) changed)
+    (on_ok_weaker done (λ e c h. with-chain old c chain (with_edition c.editions n p) h (e ∙ (ap (λ k. with_edition old.chain k p) is ∙ ap (λ (k : Catalogue). with_edition k.chain n p) h)) ∙ ap as_catalogue (sym (edition-record c n p r (answered c h)))) changed)
     (unchanged done same)
   where
     unchanged : (x : Result EditionNo Stop) → OnErr x (chain ≡ old.chain) → OnErr x (◌≡◌ {A = Catalogue} (record { chain = chain; actuals = old.actuals; tables = old.tables }) old)
@@ -66,13 +66,13 @@ table-record c d r h = by (create_refusal c.tables d) h
 
 -- CREATE TABLE of a name that no object has is answered by its record
 pub table-put : (old : Catalogue) (d : TableDef) (tables : AllTables) (done : Result TableId Stop) (r : CatalogueRecord) (result : Result CatalogueRecord Stop) → result ≡ after done r
-    → ((c : Lists) → old ≡ kept c → made_table c d ≡ Ok r) → Answers done (tables_spec.create_answer old.tables d) → OnOk done (tables ≡ with_table old.tables d) → OnErr done (tables ≡ old.tables)
+    → ((c : Lists) → old ≡ as_catalogue c → made_table c d ≡ Ok r) → Answers done (tables_spec.create_answer old.tables d) → OnOk done (tables ≡ with_table old.tables d) → OnErr done (tables ≡ old.tables)
     → Applies old (record { chain = old.chain; actuals = old.actuals; tables = tables }) (λ c. made_table c d) result
 table-put old d tables done r result is_after answered answers changed same =
     carried old (record { chain = old.chain; actuals = old.actuals; tables = tables }) (λ c. made_table c d) (λ c. tables_spec.create_answer c.tables d) done r result is_after answered
     (λ c h. subst (λ (k : Catalogue). Answers done (tables_spec.create_answer k.tables d)) h answers)
     (λ c code h. recording-err _ (tables_spec.create_answer c.tables d) code h)
-    (on_ok_weaker done (λ e c h. with-tables old c tables (with_table c.tables d) h (e ∙ ap (λ (s : AllTables). with_table s d) (tables-of old c h)) ∙ ap kept (sym (table-record c d r (answered c h)))) changed)
+    (on_ok_weaker done (λ e c h. with-tables old c tables (with_table c.tables d) h (e ∙ ap (λ (s : AllTables). with_table s d) (tables-of old c h)) ∙ ap as_catalogue (sym (table-record c d r (answered c h)))) changed)
     (unchanged done same)
   where
     unchanged : (x : Result TableId Stop) → OnErr x (tables ≡ old.tables) → OnErr x (◌≡◌ {A = Catalogue} (record { chain = old.chain; actuals = old.actuals; tables = tables }) old)

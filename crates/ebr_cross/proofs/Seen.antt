@@ -20,7 +20,7 @@ use Rattle.ebr_cross.specs.declared.record.CatalogueRecord.{CatalogueRecord}
 use Rattle.ebr_cross.specs.declared.record.CatalogueRecord.TheVariants as made
 use Rattle.ebr_cross.specs.declared.catalogue.Catalogue.{Catalogue}
 use Rattle.ebr_editions.specs.Held.{ForEntries}
-use Rattle.ebr_cross.specs.Catalogue.{Lists, ForLists, HaveOwnKeys, IsViewOf, View, in_order, kept, visible}
+use Rattle.ebr_cross.specs.Catalogue.{Lists, ForLists, HaveOwnKeys, IsViewOf, View, in_order, as_catalogue, visible}
 use Rattle.ebr_cross.specs.Kinds.{key_of}
 use Rattle.ebr_cross.specs.Records.{with_child, with_object, with_record}
 use Rattle.ebr_cross.specs.Places.{as_list, placed}
@@ -116,7 +116,7 @@ unfolding view
 shown-view c e objects v same shows = shows.is ∙ ap (view e c) same
 
 -- the objects under the keys in order
-pub looked-up : (now : Catalogue) (c : Lists) (e : EditionNo) (objects : List Object) (ordered keys : List ObjectKey) → now ≡ kept c → ForEntries now.actuals (λ entries. keys ≡ keys_of entries) → ordered ≡ in_order keys
+pub looked-up : (now : Catalogue) (c : Lists) (e : EditionNo) (objects : List Object) (ordered keys : List ObjectKey) → now ≡ as_catalogue c → ForEntries now.actuals (λ entries. keys ≡ keys_of entries) → ordered ≡ in_order keys
     → ForLists now (λ lists. objects ≡ filter_map (λ key. visible lists e key) ordered) → objects ≡ (View c e).objects
 looked-up now c e objects ordered keys h ks order found = found c h ∙ ap (filter_map (λ key. visible c e key)) (order ∙ ap in_order (ks c.entries (ap (λ (n : Catalogue). n.actuals) h)))
 

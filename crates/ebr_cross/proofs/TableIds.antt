@@ -11,7 +11,7 @@ use Rattle.ebr_base.specs.Keys.{table_named}
 use Rattle.ebr_tables.specs.Tables.{AllTables, AreTables, IdsAscend, add_answer, remove_answer, with_column, without_table}
 use Rattle.ebr_cross.specs.declared.catalogue.Catalogue.{Catalogue}
 use Rattle.ebr_cross.specs.declared.record.CatalogueRecord.TheVariants as made
-use Rattle.ebr_cross.specs.Catalogue.{Lists, kept, table_in}
+use Rattle.ebr_cross.specs.Catalogue.{Lists, as_catalogue, table_in}
 use Rattle.ebr_cross.specs.Records.{has_id, table_name}
 use Rattle.ebr_cross.specs.Definitions.{recording, id_of, drop_table}
 use Rattle.ebr_cross.specs.inside.Steps.{id_in}
@@ -60,12 +60,12 @@ named-by-id s name t are e =
     ap (λ o. unwrap_or (option_map (λ (x : TableDef). x.name) o) []) (by-id name 0 s.made s.living t are.ids e) ∙ sym (has-name name s.living t e)
 
 -- the catalogue with other tables
-pub with-tables : (old : Catalogue) (c : Lists) (s s' : AllTables) → old ≡ kept c → s ≡ s' → ◌≡◌ {A = Catalogue} (record { chain = old.chain; actuals = old.actuals; tables = s }) (kept (record c { tables = s' }))
+pub with-tables : (old : Catalogue) (c : Lists) (s s' : AllTables) → old ≡ as_catalogue c → s ≡ s' → ◌≡◌ {A = Catalogue} (record { chain = old.chain; actuals = old.actuals; tables = s }) (as_catalogue (record c { tables = s' }))
 with-tables old c s s' h e =
     let make : Catalogue → AllTables → Catalogue = λ k t. record { chain = k.chain; actuals = k.actuals; tables = t } in
-    ap (λ k. make k s) h ∙ ap (make (kept c)) e
+    ap (λ k. make k s) h ∙ ap (make (as_catalogue c)) e
 
-pub tables-of : (old : Catalogue) (c : Lists) → old ≡ kept c → old.tables ≡ c.tables
+pub tables-of : (old : Catalogue) (c : Lists) → old ≡ as_catalogue c → old.tables ≡ c.tables
 tables-of old c h = ap (λ (k : Catalogue). k.tables) h
 
 has-id-of : (o : Option TableDef) (id : TableId) → option_map (λ (t : TableDef). t.id) o ≡ Some id → id_of o ≡ id
@@ -77,8 +77,8 @@ removes None id h = absurd cc
 removes (Some t) id h = ap (λ i. Ok (made.TableGone i)) (some_same h)
 
 -- DROP TABLE of a table that is there
-pub table-dropped : (old : Catalogue) (c : Lists) (name : List ℕ) (id : TableId) (s : AllTables) → old ≡ kept c → id_in old name ≡ Some id → table_name old.tables id ≡ name → s ≡ without_table old.tables name
-    → (drop_table c name ≡ Ok (made.TableGone id)) × ◌≡◌ {A = Catalogue} (record { chain = old.chain; actuals = old.actuals; tables = s }) (kept (record c { tables = without_table c.tables (table_name c.tables id) }))
+pub table-dropped : (old : Catalogue) (c : Lists) (name : List ℕ) (id : TableId) (s : AllTables) → old ≡ as_catalogue c → id_in old name ≡ Some id → table_name old.tables id ≡ name → s ≡ without_table old.tables name
+    → (drop_table c name ≡ Ok (made.TableGone id)) × ◌≡◌ {A = Catalogue} (record { chain = old.chain; actuals = old.actuals; tables = s }) (as_catalogue (record c { tables = without_table c.tables (table_name c.tables id) }))
 table-dropped old c name id s h there named gone =
     let same = tables-of old c h in (
       ap (λ (k : AllTables). recording made.TableGone (remove_answer (table_named name k.living))) (sym same) ∙ removes (table_named name old.tables.living) id there,
@@ -86,10 +86,10 @@ table-dropped old c name id s h there named gone =
     )
 
 -- ALTER TABLE ADD of a column that is accepted
-pub column-added : (old : Catalogue) (c : Lists) (table : List ℕ) (id : TableId) (column copy wanted : Column) (s : AllTables) → old ≡ kept c → id_in old table ≡ Some id → table_name old.tables id ≡ table
+pub column-added : (old : Catalogue) (c : Lists) (table : List ℕ) (id : TableId) (column copy wanted : Column) (s : AllTables) → old ≡ as_catalogue c → id_in old table ≡ Some id → table_name old.tables id ≡ table
     → column ≡ wanted → copy ≡ column → add_answer (table_named table old.tables.living) column ≡ Ok tt → s ≡ with_column old.tables table column
     → (recording {T = Unit {0}} (λ u. made.Column (id_of (table_in c table)) wanted) (add_answer (table_in c table) wanted) ≡ Ok (made.Column id copy))
-    × ◌≡◌ {A = Catalogue} (record { chain = old.chain; actuals = old.actuals; tables = s }) (kept (record c { tables = with_column c.tables (table_name c.tables id) copy }))
+    × ◌≡◌ {A = Catalogue} (record { chain = old.chain; actuals = old.actuals; tables = s }) (as_catalogue (record c { tables = with_column c.tables (table_name c.tables id) copy }))
 column-added old c table id column copy wanted s h there named is copied answer added =
     let same = tables-of old c h in
     let ids : id_of (table_in c table) ≡ id = ap (λ (k : AllTables). id_of (table_named table k.living)) (sym same) ∙ has-id-of (table_named table old.tables.living) id there in

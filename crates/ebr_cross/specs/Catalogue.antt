@@ -27,12 +27,12 @@ abbrev pub first_lists : Lists
 first_lists = record { editions = first_editions; entries = []; tables = no_tables }
 
 -- What the catalogue keeps of the lists. It forgets definitions that later ones replaced.
-abbrev pub kept : Lists → Catalogue
-kept c = record { chain = c.editions; actuals = held c.entries; tables = c.tables }
+abbrev pub as_catalogue : Lists → Catalogue
+as_catalogue c = record { chain = c.editions; actuals = held c.entries; tables = c.tables }
 
 -- This is so of whichever lists the catalogue keeps.
 abbrev pub ForLists : Catalogue → (Lists → Type 0) → Type 0
-ForLists now P = (c : Lists) → now ≡ kept c → P c
+ForLists now P = (c : Lists) → now ≡ as_catalogue c → P c
 
 -- the object that an edition sees under a key
 abbrev pub visible : Lists → EditionNo → ObjectKey → Option Object

@@ -37,7 +37,7 @@ use Rattle.ebr_tables.specs.Tables.{first_refusal, unless_refused, add_answer, r
 use Rattle.ebr_cross.specs.declared.catalogue.Catalogue.{Catalogue}
 use Rattle.ebr_cross.specs.declared.record.CatalogueRecord.{CatalogueRecord}
 use Rattle.ebr_cross.specs.declared.record.CatalogueRecord.TheVariants as made
-use Rattle.ebr_cross.specs.Catalogue.{Lists, ForLists, kept, visible, table_in}
+use Rattle.ebr_cross.specs.Catalogue.{Lists, ForLists, as_catalogue, visible, table_in}
 use Rattle.ebr_columns.specs.Columns.{column_type, is_bad_table, table_of}
 use Rattle.ebr_cross.specs.Kinds.{kind_of, name_of, key_of, unit_key, is_unit_class, is_of_kind}
 use Rattle.ebr_cross.specs.Records.{with_record}
@@ -287,6 +287,6 @@ outcome c e sessions (definition.CreateObject replace u) text = create_object c 
 -- What a call that carries out a definition does: it answers the record that is defined, and the catalogue is as that
 -- record leaves it; or it refuses by the code that is defined, or finds no memory, and the catalogue is as it was.
 abbrev pub Applies : Catalogue → Catalogue → (Lists → Result CatalogueRecord Code) → Result CatalogueRecord Stop → Type 0
-Applies old new defined (Ok r) = ForLists old (λ c. (defined c ≡ Ok r) × (new ≡ kept (with_record c r)))
+Applies old new defined (Ok r) = ForLists old (λ c. (defined c ≡ Ok r) × (new ≡ as_catalogue (with_record c r)))
 Applies old new defined (Err (Raised code)) = ForLists old (λ c. defined c ≡ Err code) × (new ≡ old)
 Applies old new defined (Err NoMemory) = new ≡ old

@@ -15,7 +15,7 @@ use Rattle.ebr_tables.specs.Tables.{AllTables, with_column, without_table}
 use Rattle.ebr_cross.specs.declared.record.CatalogueRecord.{CatalogueRecord}
 use Rattle.ebr_cross.specs.declared.record.CatalogueRecord.TheVariants as made
 use Rattle.ebr_cross.specs.declared.catalogue.Catalogue.{Catalogue}
-use Rattle.ebr_cross.specs.Catalogue.{Lists, HaveOwnKeys, IsViewOf, kept}
+use Rattle.ebr_cross.specs.Catalogue.{Lists, HaveOwnKeys, IsViewOf, as_catalogue}
 use Rattle.ebr_cross.specs.Kinds.{key_of}
 
 -- one more edition, below its parent
@@ -51,4 +51,4 @@ with_record c (made.TableGone id) = record c { tables = without_table c.tables (
 
 -- This is so of whichever lists a view is of, where a record led from them to what the catalogue keeps.
 abbrev pub ForChanged : Catalogue → EditionView → CatalogueRecord → (Lists → Type 0) → Type 0
-ForChanged now v r P = (c : Lists) → HaveOwnKeys c → IsViewOf c v.edition v → now ≡ kept (with_record c r) → P c
+ForChanged now v r P = (c : Lists) → HaveOwnKeys c → IsViewOf c v.edition v → now ≡ as_catalogue (with_record c r) → P c

@@ -5,7 +5,7 @@ ghost use Rattle.std.specs.Option.{option_copied};
 ghost use Rattle.ebr_base.specs.Answers.{Answers};
 ghost use Rattle.ebr_editions.specs.Held.{deref_object};
 ghost use Rattle.ebr_editions.specs.Objects.{actual_at, keys_of};
-ghost use Rattle.ebr_cross.specs.Catalogue.{first_lists, kept, ForLists, HaveOwnKeys, visible, table_in};
+ghost use Rattle.ebr_cross.specs.Catalogue.{first_lists, as_catalogue, ForLists, HaveOwnKeys, visible, table_in};
 ghost use Rattle.ebr_cross.specs.Definitions.{outcome, set_edition, Applies};
 ghost use Rattle.ebr_cross.specs.Records.{with_record};
 
@@ -29,7 +29,7 @@ pub struct Catalogue {
 impl Catalogue {
     /// A catalogue of the one edition ORA$BASE, without objects and tables.
     pub fn new(alloc: Global) -> Result<Catalogue, NoMemory>
-        ensures { IfOk result (λ c. c ≡ kept first_lists) }
+        ensures { IfOk result (λ c. c ≡ as_catalogue first_lists) }
     {
         let chain = Chain::new(alloc)?;
         let tables = Tables::new(alloc)?;

@@ -16,19 +16,19 @@ pub record Goes {S A : Type 0} (whole rest : Outcome S A) (old now : Keeper) : T
   pub made : List Record
   pub asked : List Question
   pub is : whole ≡ after made asked rest
-  pub kept : Grew old now made
+  pub grew : Grew old now made
 
 module _ {S A : Type 0} where
   pub begins : (o : Outcome S A) (old : Keeper) → Goes o o old old
-  begins o old = record { made = []; asked = []; is = refl; kept = grew_same old }
+  begins o old = record { made = []; asked = []; is = refl; grew = grew_same old }
 
   pub says : (s : S) (v : A) (old : Keeper) → Said (gives s v) s old old v
-  says s v old = record { state = refl; kept = grew_same old; value = refl }
+  says s v old = record { state = refl; grew = grew_same old; value = refl }
 
   pub ends : (whole rest : Outcome S A) (old mid now : Keeper) (s : S) (v : A) → Goes whole rest old mid → Said rest s mid now v → Said whole s old now v
   ends whole rest old mid now s v g e = record {
     state = ap (λ (o : Outcome S A). o.state) g.is ∙ e.state;
-    kept = subst (Grew old now) (sym (ap (λ (o : Outcome S A). o.made) g.is)) (grew_grew old mid now g.made rest.made g.kept e.kept);
+    grew = subst (Grew old now) (sym (ap (λ (o : Outcome S A). o.made) g.is)) (grew_grew old mid now g.made rest.made g.grew e.grew);
     value = ap (λ (o : Outcome S A). o.value) g.is ∙ e.value;
   }
 
@@ -43,7 +43,7 @@ module _ {S T A B : Type 0} where
     made = g.made ++ o.made;
     asked = g.asked ++ o.asked;
     is = g.is ∙ after_after g.made o.made g.asked o.asked (k o.value o.state) ∙ ap (λ x. after (g.made ++ o.made) (g.asked ++ o.asked) (k x o.state)) e.value ∙ ap (λ t. after (g.made ++ o.made) (g.asked ++ o.asked) (k v t)) e.state;
-    kept = grew_grew old mid now g.made o.made g.kept e.kept;
+    grew = grew_grew old mid now g.made o.made g.grew e.grew;
   }
 
   -- one, and then what makes no record
@@ -59,7 +59,7 @@ module _ {S A B : Type 0} where
   -- where the first is refused or gives up, so is the whole
   pub fails : (whole : Outcome S (Result B Code)) (o : Outcome S (Result A Code)) (k : A → S → Outcome S (Result B Code)) (old mid now : Keeper) (s : S) (e : Failure) → Goes whole (then_run o k) old mid → Shows o s mid now (Err e) → Shows whole s old now (Err e)
   fails whole o k old mid now s (Refused code) g h = ends whole (gives s (Err code)) old now now s (Err code) (steps whole o (go_on k) old mid now s (Err code) g h) (says s (Err code) now)
-  fails whole o k old mid now s (Halted why) g h = subst (λ l. GaveUp old now l why) (sym (ap (λ (r : Outcome S (Result B Code)). r.made) g.is)) (grew_gave_up old mid now g.made _ why g.kept (gave_up_more mid now o.made _ why h))
+  fails whole o k old mid now s (Halted why) g h = subst (λ l. GaveUp old now l why) (sym (ap (λ (r : Outcome S (Result B Code)). r.made) g.is)) (grew_gave_up old mid now g.made _ why g.grew (gave_up_more mid now o.made _ why h))
 
   -- the first has ended, and the second is the rest
   pub goes_on : (whole : Outcome S (Result B Code)) (o : Outcome S (Result A Code)) (k : A → S → Outcome S (Result B Code)) (old mid now : Keeper) (s : S) (a : A) → Goes whole (then_run o k) old mid → Said o s mid now (Ok a) → Goes whole (k a s) old now
@@ -69,14 +69,14 @@ module _ {S A : Type 0} where
   pub shown : (whole rest : Outcome S (Result A Code)) (old mid now : Keeper) (s : S) (r : Result A Failure) → Goes whole rest old mid → Shows rest s mid now r → Shows whole s old now r
   shown whole rest old mid now s (Ok a) g h = ends whole rest old mid now s (Ok a) g h
   shown whole rest old mid now s (Err (Refused code)) g h = ends whole rest old mid now s (Err code) g h
-  shown whole rest old mid now s (Err (Halted why)) g h = subst (λ l. GaveUp old now l why) (sym (ap (λ (r : Outcome S (Result A Code)). r.made) g.is)) (grew_gave_up old mid now g.made rest.made why g.kept h)
+  shown whole rest old mid now s (Err (Halted why)) g h = subst (λ l. GaveUp old now l why) (sym (ap (λ (r : Outcome S (Result A Code)). r.made) g.is)) (grew_gave_up old mid now g.made rest.made why g.grew h)
 
   pub gave_up : (whole rest : Outcome S A) (old mid now : Keeper) (why : Halt) → Goes whole rest old mid → GaveUp mid now rest.made why → GaveUp old now whole.made why
-  gave_up whole rest old mid now why g h = subst (λ l. GaveUp old now l why) (sym (ap (λ (r : Outcome S A). r.made) g.is)) (grew_gave_up old mid now g.made rest.made why g.kept h)
+  gave_up whole rest old mid now why g h = subst (λ l. GaveUp old now l why) (sym (ap (λ (r : Outcome S A). r.made) g.is)) (grew_gave_up old mid now g.made rest.made why g.grew h)
 
-  pub told : (whole rest : Outcome S A) (old mid now : Keeper) (s : S) (r : Result A Halt) → Goes whole rest old mid → Tells rest s mid now r → Tells whole s old now r
-  told whole rest old mid now s (Ok a) g h = ends whole rest old mid now s a g h
-  told whole rest old mid now s (Err why) g h = gave_up whole rest old mid now why g h
+  pub tells_whole : (whole rest : Outcome S A) (old mid now : Keeper) (s : S) (r : Result A Halt) → Goes whole rest old mid → Tells rest s mid now r → Tells whole s old now r
+  tells_whole whole rest old mid now s (Ok a) g h = ends whole rest old mid now s a g h
+  tells_whole whole rest old mid now s (Err why) g h = gave_up whole rest old mid now why g h
 
   -- want of memory on the way
   pub gives_up : (whole rest : Outcome S A) (old now : Keeper) → Goes whole rest old now → GaveUp old now whole.made NoMemory

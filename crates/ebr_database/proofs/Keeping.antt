@@ -26,7 +26,7 @@ longer (Some old) m n l b = (b.0, b.1 ++ n, b.2, ap (λ x. x ++ n) b.3 ∙ appen
 
 pub grew_same : (k : Keeper) → Grew k k []
 grew_same k = record {
-  kept = sym (with_none k.kept);
+  records = sym (with_none k.records);
   used = omega arith;
   faults = omega arith;
   stopped = refl;
@@ -38,11 +38,11 @@ grew_same k = record {
 holds_holds : (a b c : Keeper) (m n : List Record) → Grew a b m → (IsTrue b.tells → Holds b c n) → IsTrue a.tells → Holds a c (m ++ n)
 holds_holds a b c m n g h told t l before x =
     let later : t ≤ b.moment = omega (arith, before, g.moment) in
-    ⊎_elim (λ y. ⊎_elim (λ z. inl z) (λ z. inr (longer a.kept m n l z)) (g.holds told t l before y)) (λ y. inr (further a.kept m n l (subst (λ k. Between k n l) g.kept y))) (h (subst IsTrue (sym g.tells) told) t l later x)
+    ⊎_elim (λ y. ⊎_elim (λ z. inl z) (λ z. inr (longer a.records m n l z)) (g.holds told t l before y)) (λ y. inr (further a.records m n l (subst (λ k. Between k n l) g.records y))) (h (subst IsTrue (sym g.tells) told) t l later x)
 
 pub grew_grew : (a b c : Keeper) (m n : List Record) → Grew a b m → Grew b c n → Grew a c (m ++ n)
 grew_grew a b c m n g h = record {
-  kept = h.kept ∙ ap (λ k. with_records k n) g.kept ∙ with_both a.kept m n;
+  records = h.records ∙ ap (λ k. with_records k n) g.records ∙ with_both a.records m n;
   used = omega (arith, g.used, h.used, sum_by-append share m n);
   faults = omega (arith, g.faults, h.faults);
   stopped = h.stopped ∙ g.stopped;
@@ -68,7 +68,7 @@ pub gave_up_more : (a b : Keeper) (m n : List Record) (why : Halt) → GaveUp a 
 gave_up_more a b m n why h = record {
   faults = h.faults;
   moment = h.moment;
-  holds = λ told t l before x. ⊎_elim (λ y. inl y) (λ y. inr (longer a.kept m n l y)) (h.holds told t l before x);
+  holds = λ told t l before x. ⊎_elim (λ y. inl y) (λ y. inr (longer a.records m n l y)) (h.holds told t l before x);
   cause = h.cause;
 }
 

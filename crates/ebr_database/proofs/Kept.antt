@@ -25,10 +25,10 @@ module _ (old new : Keeper) (r : Record) where
 
   between : (k : Option (List Record)) (l : List Record) → WithOrWithout k r l → Between k (r ∷ []) l
   between None l h = tt
-  between (Some kept) l h = ⊎_elim (λ e. ([], r ∷ [], e ∙ sym (append-nil kept), refl)) (λ e. (r ∷ [], [], e, refl)) h
+  between (Some records) l h = ⊎_elim (λ e. ([], r ∷ [], e ∙ sym (append-nil records), refl)) (λ e. (r ∷ [], [], e, refl)) h
 
-  passes : (made : List Record) → made ≡ r ∷ [] → Passes old new (WithOrWithout old.kept r) → Holds old new made
-  passes made e p t l before x = subst (λ m. old.may_leave t l ⊎ Between old.kept m l) (sym e) (⊎_elim (λ y. inl y) (λ y. inr (between old.kept l y)) (p.only t l before x))
+  passes : (made : List Record) → made ≡ r ∷ [] → Passes old new (WithOrWithout old.records r) → Holds old new made
+  passes made e p t l before x = subst (λ m. old.may_leave t l ⊎ Between old.records m l) (sym e) (⊎_elim (λ y. inl y) (λ y. inr (between old.records l y)) (p.only t l before x))
 
   stands : (made : List Record) → Stands old new → Holds old new made
   stands made s t l before x = inl ((s.same t l).0 x)
@@ -45,12 +45,12 @@ module _ (old new : Keeper) (r : Record) where
   gave_up : (a : Result (Unit {0}) JournalFault) (why : Halt) → Becomes old new r a → (IsTrue old.tells → Holds old new (keep_record r old.used).made) → Cause why old new → GaveUp old new (keep_record r old.used).made why
   gave_up a why b h cause = record { faults = b.faults; moment = b.moment; holds = h; cause = cause }
 
-  pub kept : (a : Result (Unit {0}) JournalFault) → Answered old new r a → Becomes old new r a → (IsTrue old.tells → Elapses old new r a) → Shows (keep_record r old.used) new.used old new (failed a)
-  kept (Ok u) cause b moments =
+  pub keep_shows : (a : Result (Unit {0}) JournalFault) → Answered old new r a → Becomes old new r a → (IsTrue old.tells → Elapses old new r a) → Shows (keep_record r old.used) new.used old new (failed a)
+  keep_shows (Ok u) cause b moments =
       subst (λ c. Said (kept_if c r old.used) new.used old new (Ok tt)) (sym (fits cause.1)) (record {
         state = sym b.used;
-        kept = record {
-          kept = b.kept ∙ with_one old.kept;
+        grew = record {
+          records = b.records ∙ with_one old.records;
           used = omega (arith, b.used);
           faults = b.faults;
           stopped = b.stopped;
@@ -60,11 +60,11 @@ module _ (old new : Keeper) (r : Record) where
         };
         value = refl;
       })
-  kept (Err (fault.Full len)) cause b moments =
+  keep_shows (Err (fault.Full len)) cause b moments =
       subst (λ c. Said (kept_if c r old.used) new.used old new (Err (Ebr 42))) (sym (over len cause.1 cause.2)) (record {
         state = sym b.used;
-        kept = record {
-          kept = b.kept ∙ sym (with_none old.kept);
+        grew = record {
+          records = b.records ∙ sym (with_none old.records);
           used = omega (arith, b.used);
           faults = b.faults;
           stopped = b.stopped;
@@ -74,9 +74,9 @@ module _ (old new : Keeper) (r : Record) where
         };
         value = refl;
       })
-  kept (Err fault.DiskFault) cause b moments = gave_up (Err fault.DiskFault) halt.DiskFault b (λ told. passes (keep_record r old.used).made (made_if (fits cause.1)) (moments told)) cause.2
-  kept (Err fault.NoMemory) cause b moments = gave_up (Err fault.NoMemory) halt.NoMemory b (λ told. passes (keep_record r old.used).made (made_if (fits cause.1)) (moments told)) tt
-  kept (Err fault.Stopped) cause b moments = gave_up (Err fault.Stopped) halt.Stopped b (λ told. stands (keep_record r old.used).made (moments told)) cause
+  keep_shows (Err fault.DiskFault) cause b moments = gave_up (Err fault.DiskFault) halt.DiskFault b (λ told. passes (keep_record r old.used).made (made_if (fits cause.1)) (moments told)) cause.2
+  keep_shows (Err fault.NoMemory) cause b moments = gave_up (Err fault.NoMemory) halt.NoMemory b (λ told. passes (keep_record r old.used).made (made_if (fits cause.1)) (moments told)) tt
+  keep_shows (Err fault.Stopped) cause b moments = gave_up (Err fault.Stopped) halt.Stopped b (λ told. stands (keep_record r old.used).made (moments told)) cause
 
 -- ---- no changes, and some
 

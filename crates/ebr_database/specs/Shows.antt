@@ -23,21 +23,21 @@ base_of d k = record { data_now = d; used = k.used }
 -- the kept list with more records, where it is told
 abbrev pub with_records : Option (List Record) → List Record → Option (List Record)
 with_records None made = None
-with_records (Some kept) made = Some (kept ++ made)
+with_records (Some records) made = Some (records ++ made)
 
 -- these records and the first of those made
 abbrev pub Between : Option (List Record) → List Record → List Record → Type 0
 Between None made l = Unit {0}
-Between (Some kept) made l = (x y : List Record) × (l ≡ kept ++ x) × (made ≡ x ++ y)
+Between (Some records) made l = (x y : List Record) × (l ≡ records ++ x) × (made ≡ x ++ y)
 
 -- At every moment from the old keeper to the new one a stop leaves the old records and the first of those made; and what a stop
 -- might have left before.
 abbrev pub Holds : Keeper → Keeper → List Record → Type 0
-Holds old new made = (t : ℕ) (l : List Record) → t ≤ old.moment → new.may_leave t l → old.may_leave t l ⊎ Between old.kept made l
+Holds old new made = (t : ℕ) (l : List Record) → t ≤ old.moment → new.may_leave t l → old.may_leave t l ⊎ Between old.records made l
 
 -- These records were kept.
 pub record Grew (old new : Keeper) (made : List Record) : Type 0 where
-  pub kept : new.kept ≡ with_records old.kept made
+  pub records : new.records ≡ with_records old.records made
   pub used : new.used ≡ old.used + sum_by share made
   pub faults : old.faults ≤ new.faults
   pub stopped : new.stopped ≡ old.stopped
@@ -63,7 +63,7 @@ pub record GaveUp (old new : Keeper) (made : List Record) (why : Halt) : Type 0 
 -- The outcome leaves this state and has this value, and the records that it made were kept.
 pub record Said {S A : Type 0} (o : Outcome S A) (s : S) (old new : Keeper) (v : A) : Type 0 where
   pub state : o.state ≡ s
-  pub kept : Grew old new o.made
+  pub grew : Grew old new o.made
   pub value : o.value ≡ v
 
 -- the same of a call that may give up

@@ -79,7 +79,7 @@ pub fn pop_autonomous(tx: &mut Transactions, s: SessionId, failed: bool) -> Resu
 pub fn commit<K: Keep>(tx: &mut Transactions, keeper: &mut K, t: TxId) -> Result<(), Failure>
     requires live { IsLive tx.old.contents t }
     requires storable { AllStorable tx.old.contents }
-    ensures exact { Shows (spec.commit t (base_of tx.old.contents (K.told keeper.old))) (base_of tx.new.contents (K.told keeper.new)) (K.told keeper.old) (K.told keeper.new) result }
+    ensures exact { Shows (spec.commit t (base_of tx.old.contents (K.as_keeper keeper.old))) (base_of tx.new.contents (K.as_keeper keeper.new)) (K.as_keeper keeper.old) (K.as_keeper keeper.new) result }
     ensures storable { AllStorable tx.new.contents }
     ensures unchanged { OnErr result (tx.new.contents ≡ tx.old.contents) }
     ensures stacks { names_of tx.new.contents.live ≡ names_of tx.old.contents.live }
@@ -94,7 +94,7 @@ pub fn commit<K: Keep>(tx: &mut Transactions, keeper: &mut K, t: TxId) -> Result
 /// Has the record of a commit with these changes kept; of none there is no record.
 fn keep_changes<K: Keep>(keeper: &mut K, changes: List<Change>) -> Result<(), Failure>
     requires { HasPayload (made.Commit changes) }
-    ensures { Shows (spec.keep_changes changes (K.told keeper.old).used) (K.told keeper.new).used (K.told keeper.old) (K.told keeper.new) result }
+    ensures { Shows (spec.keep_changes changes (K.as_keeper keeper.old).used) (K.as_keeper keeper.new).used (K.as_keeper keeper.old) (K.as_keeper keeper.new) result }
 {
     if changes.is_empty() {
         return Ok(());
@@ -106,7 +106,7 @@ fn keep_changes<K: Keep>(keeper: &mut K, changes: List<Change>) -> Result<(), Fa
 /// Has a record kept: EBR-0042 where the journal has no room for it.
 pub fn keep_record<K: Keep>(keeper: &mut K, r: &Record) -> Result<(), Failure>
     requires { HasPayload r.now }
-    ensures { Shows (spec.keep_record r.now (K.told keeper.old).used) (K.told keeper.new).used (K.told keeper.old) (K.told keeper.new) result }
+    ensures { Shows (spec.keep_record r.now (K.as_keeper keeper.old).used) (K.as_keeper keeper.new).used (K.as_keeper keeper.old) (K.as_keeper keeper.new) result }
 {
     failed(keeper.keep(r))
 }

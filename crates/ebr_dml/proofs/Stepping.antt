@@ -20,7 +20,7 @@ use Rattle.ebr_dml.specs.Plans.{plan_of}
 use Rattle.ebr_dml.specs.Rows.{rows_of}
 use Rattle.ebr_dml.specs.Images.{old_values, new_values, after_values}
 use Rattle.ebr_dml.specs.Tests.{written}
-use Rattle.ebr_dml.specs.Steps.{Standing, Stepped, first_standing, before_row, after_row, row_step, next_step, stepped, Gives, Stays, AreKnown, IsSeen, RestSeen, CanStep}
+use Rattle.ebr_dml.specs.Steps.{DmlState, Stepped, first_dml, before_row, after_row, row_step, next_step, stepped, Gives, Stays, AreKnown, IsSeen, RestSeen, CanStep}
 use Rattle.ebr_dml.specs.inside.Apart.{Apart, FoundApart, found_from}
 use Rattle.ebr_dml.specs.inside.Writes.{Changes}
 use Rattle.ebr_dml.proofs.Going.{rest-seen, still-known, still-live}
@@ -37,7 +37,7 @@ apart-from (suc at) (r ∷ rest) h = apart-from at rest h.1
 
 -- ---- the answers
 
-module _ (s : Standing) (d : Data) (after : Option (List Value)) where
+module _ (s : DmlState) (d : Data) (after : Option (List Value)) where
   pub gives-fault : (code : Code) → s.rest ≡ Err code → stepped s d after ≡ Err code
   gives-fault code e = ap (on (λ rows. next_step s d rows (unwrap_or after []))) e
 
@@ -86,7 +86,7 @@ module _ (s : Standing) (d : Data) (after : Option (List Value)) where
         }))) h.1
         ∙ ap (λ a. Ok (record { answer = a; standing = record s { rest = Ok rest; begun = false; count = s.count + 1 }; data_after = d' })) (sym h.0)
 
-    pub refused-after : (e : Stop) (s' : Standing) (d' : Data) → s.begun ≡ true
+    pub refused-after : (e : Stop) (s' : DmlState) (d' : Data) → s.begun ≡ true
         → Changes (Err e) (old_values s.plan r) (after_values s.plan (unwrap_or after [])) d' (written d s.tx s.plan r (unwrap_or after []))
         → Gives (Err e) s' d' (stepped s d after)
     refused-after (Raised code) s' d' e h =
@@ -98,7 +98,7 @@ module _ (s : Standing) (d : Data) (after : Option (List Value)) where
         }))) h
     refused-after NoMemory s' d' e h = tt
 
-    pub refused-first : (e : Stop) (s' : Standing) (d' : Data) → s.begun ≡ false
+    pub refused-first : (e : Stop) (s' : DmlState) (d' : Data) → s.begun ≡ false
         → Answers {T = DmlStep} (Err e) (on (λ new. Ok (Before (old_values s.plan r) new)) (new_values s.plan s.binds r))
         → Gives (Err e) s' d' (stepped s d after)
     refused-first (Raised code) s' d' e h = refused-before code e h
@@ -106,7 +106,7 @@ module _ (s : Standing) (d : Data) (after : Option (List Value)) where
 
 -- ---- the next step can be made
 
-pub can-change : (d after : Data) (s : Standing) (r : Taken) (rest : List Taken) (new : List Value) (step : DmlStep) → CanStep d s → s.rest ≡ Ok (r ∷ rest)
+pub can-change : (d after : Data) (s : DmlState) (r : Taken) (rest : List Taken) (new : List Value) (step : DmlStep) → CanStep d s → s.rest ≡ Ok (r ∷ rest)
     → Apart (r ∷ rest) → Stays d s.tx after
     → Changes (Ok step) (old_values s.plan r) (after_values s.plan new) after (written d s.tx s.plan r new)
     → CanStep after (record s { rest = Ok rest; begun = false; count = s.count + 1 })
@@ -124,7 +124,7 @@ from-first (Ok rows) = refl
 from-first (Err code) = refl
 
 module _ (d : Data) (t : TxId) (v : EditionView) (s : SqlTree) (binds : List Value) (p : Plan) (found : Result (List Taken) Code) (planned : plan_of v s ≡ Ok p) (rows : rows_of d t s p binds ≡ Ok found) where
-  pub can-start : (kept : List Value) → AreKnown d v.tables → IsLive d t → is_some (own d t).begun ≡ true → CanStep d (first_standing t kept p (found_from 0 found))
+  pub can-start : (kept : List Value) → AreKnown d v.tables → IsLive d t → is_some (own d t).begun ≡ true → CanStep d (first_dml t kept p (found_from 0 found))
   can-start kept known live begun = record {
     live = live;
     begun = begun;
@@ -137,17 +137,17 @@ module _ (d : Data) (t : TxId) (v : EditionView) (s : SqlTree) (binds : List Val
 
 -- ---- a step, by what a statement holds
 
-abbrev pub standing_of : Plan → TxId → List Value → Result (List Taken) Code → ℕ → Bool → Standing
+abbrev pub standing_of : Plan → TxId → List Value → Result (List Taken) Code → ℕ → Bool → DmlState
 standing_of p t binds found at begun = record { plan = p; tx = t; binds = binds; rest = found_from at found; begun = begun; count = at }
 
 module _ (d : Data) (after : Option (List Value)) (p : Plan) (t : TxId) (binds : List Value) (found : Result (List Taken) Code) (at : ℕ) (begun : Bool)
-    (s : Standing) (view : standing_of p t binds found at begun ≡ s) (rows : List Taken) (is : found ≡ Ok rows) where
-  abbrev now : Standing
+    (s : DmlState) (view : standing_of p t binds found at begun ≡ s) (rows : List Taken) (is : found ≡ Ok rows) where
+  abbrev now : DmlState
   now = standing_of p t binds found at begun
 
   pub step-end : slice_get rows at ≡ None → stepped s d after ≡ Ok (record { answer = Finished at; standing = s; data_after = d })
   step-end e =
-      subst (λ (x : Standing). stepped x d after ≡ Ok (record { answer = Finished at; standing = x; data_after = d })) view
+      subst (λ (x : DmlState). stepped x d after ≡ Ok (record { answer = Finished at; standing = x; data_after = d })) view
       (gives-end now d after (ap (found_from at) is ∙ ap Ok (from-none at rows e)))
 
   module _ (row : Taken) (some : slice_get rows at ≡ Some row) where
@@ -165,7 +165,7 @@ module _ (d : Data) (after : Option (List Value)) (p : Plan) (t : TxId) (binds :
       pub step-before : (step : DmlStep) → begun ≡ false → on (λ new. Ok (Before (old_values q row) new)) (new_values q binds row) ≡ Ok step
           → stepped s d after ≡ Ok (record { answer = step; standing = standing_of p t binds found at true; data_after = d })
       step-before step b h =
-          subst (λ (x : Standing). stepped x d after ≡ Ok (record { answer = step; standing = standing_of p t binds found at true; data_after = d })) view
+          subst (λ (x : DmlState). stepped x d after ≡ Ok (record { answer = step; standing = standing_of p t binds found at true; data_after = d })) view
           (gives-before now d after row (drop (at + 1) rows) rest-is step b
           (subst (λ (x : Plan). on (λ new. Ok (Before (old_values x row) new)) (new_values x binds row) ≡ Ok step) same h))
 
@@ -173,7 +173,7 @@ module _ (d : Data) (after : Option (List Value)) (p : Plan) (t : TxId) (binds :
           → Answers {T = DmlStep} (Err e) (on (λ new. Ok (Before (old_values q row) new)) (new_values q binds row))
           → Gives (Err e) s d (stepped s d after)
       step-refused-first e b h =
-          subst (λ (x : Standing). Gives (Err e) x d (stepped x d after)) view
+          subst (λ (x : DmlState). Gives (Err e) x d (stepped x d after)) view
           (refused-first now d after row (drop (at + 1) rows) rest-is e now d b
           (subst (λ (x : Plan). Answers {T = DmlStep} (Err e) (on (λ new. Ok (Before (old_values x row) new)) (new_values x binds row))) same h))
 
@@ -187,7 +187,7 @@ module _ (d : Data) (after : Option (List Value)) (p : Plan) (t : TxId) (binds :
         pub step-refused-after : (e : Stop) → begun ≡ true → Changes (Err e) (old_values q row) (after_values q new) d' (written d t q row new)
             → Gives (Err e) s d' (stepped s d after)
         step-refused-after e b h =
-            subst (λ (x : Standing). Gives (Err e) x d' (stepped x d after)) view
+            subst (λ (x : DmlState). Gives (Err e) x d' (stepped x d after)) view
             (refused-after now d after row (drop (at + 1) rows) rest-is e now d' b (changes (Err e) h))
 
         later : found_from (at + 1) found ≡ Ok (drop (at + 1) rows)
@@ -196,7 +196,7 @@ module _ (d : Data) (after : Option (List Value)) (p : Plan) (t : TxId) (binds :
         pub step-after : (step : DmlStep) → begun ≡ true → Changes (Ok step) (old_values q row) (after_values q new) d' (written d t q row new)
             → stepped s d after ≡ Ok (record { answer = step; standing = standing_of p t binds found (at + 1) false; data_after = d' })
         step-after step b h =
-            subst (λ (x : Standing). stepped x d after ≡ Ok (record { answer = step; standing = standing_of p t binds found (at + 1) false; data_after = d' })) view
+            subst (λ (x : DmlState). stepped x d after ≡ Ok (record { answer = step; standing = standing_of p t binds found (at + 1) false; data_after = d' })) view
             (gives-after now d after row (drop (at + 1) rows) rest-is step d' b (changes (Ok step) h)
             ∙ ap (λ (r : Result (List Taken) Code). Ok (record {
               answer = step;

@@ -29,7 +29,7 @@ use Rattle.ebr_dml.specs.Tests.{written}
 -- Where a statement stands between two steps: what it does, in which transaction, with which binds; the rows to come, with
 -- their values as they were seen at its start, or the code that WHERE raised; whether the first of them has been given to its
 -- BEFORE triggers; and how many rows it has changed.
-pub record Standing : Type 0 where
+pub record DmlState : Type 0 where
   pub plan : Plan
   pub tx : TxId
   pub binds : List Value
@@ -37,28 +37,28 @@ pub record Standing : Type 0 where
   pub begun : Bool
   pub count : ℕ
 
-abbrev pub first_standing : TxId → List Value → Plan → Result (List Taken) Code → Standing
-first_standing t binds p rows = record { plan = p; tx = t; binds = binds; rest = rows; begun = false; count = 0 }
+abbrev pub first_dml : TxId → List Value → Plan → Result (List Taken) Code → DmlState
+first_dml t binds p rows = record { plan = p; tx = t; binds = binds; rest = rows; begun = false; count = 0 }
 
 -- What starts in a transaction, against what an edition sees, with these binds. The code that WHERE raises is told by the first
 -- step.
-abbrev pub started : Data → TxId → EditionView → SqlTree → List Value → Result Standing Code
-started d t v s binds = on (λ p. on (λ rows. Ok (first_standing t binds p rows)) (rows_of d t s p binds)) (plan_of v s)
+abbrev pub started : Data → TxId → EditionView → SqlTree → List Value → Result DmlState Code
+started d t v s binds = on (λ p. on (λ rows. Ok (first_dml t binds p rows)) (rows_of d t s p binds)) (plan_of v s)
 
 -- what a step answers, where the statement stands after it, and the data then
 pub record Stepped : Type 0 where
   pub answer : DmlStep
-  pub standing : Standing
+  pub standing : DmlState
   pub data_after : Data
 
 -- a row before its BEFORE triggers
-abbrev pub before_row : Standing → Data → Taken → Result Stepped Code
+abbrev pub before_row : DmlState → Data → Taken → Result Stepped Code
 before_row s d r =
     on (λ new. Ok (record { answer = Before (old_values s.plan r) new; standing = record s { begun = true }; data_after = d }))
     (new_values s.plan s.binds r)
 
 -- a row with the values that its BEFORE triggers left: it is changed, and given to its AFTER triggers
-abbrev pub after_row : Standing → Data → Taken → List Taken → List Value → Result Stepped Code
+abbrev pub after_row : DmlState → Data → Taken → List Taken → List Value → Result Stepped Code
 after_row s d r rest new =
     on (λ d'. Ok (record {
       answer = After (old_values s.plan r) (after_values s.plan new);
@@ -66,22 +66,22 @@ after_row s d r rest new =
       data_after = d';
     })) (written d s.tx s.plan r new)
 
-abbrev pub row_step : Bool → Standing → Data → Taken → List Taken → List Value → Result Stepped Code
+abbrev pub row_step : Bool → DmlState → Data → Taken → List Taken → List Value → Result Stepped Code
 row_step false s d r rest new = before_row s d r
 row_step true s d r rest new = after_row s d r rest new
 
-abbrev pub next_step : Standing → Data → List Taken → List Value → Result Stepped Code
+abbrev pub next_step : DmlState → Data → List Taken → List Value → Result Stepped Code
 next_step s d [] new = Ok (record { answer = Finished s.count; standing = s; data_after = d })
 next_step s d (r ∷ rest) new = row_step s.begun s d r rest new
 
 -- The next step, with what the BEFORE triggers left, which counts where a row was given to them.
-abbrev pub stepped : Standing → Data → Option (List Value) → Result Stepped Code
+abbrev pub stepped : DmlState → Data → Option (List Value) → Result Stepped Code
 stepped s d after = on (λ rows. next_step s d rows (unwrap_or after [])) s.rest
 
 -- ---- what a call says of it
 
 -- The step answers what is defined, or refuses with the code that is defined; want of memory alone is free.
-abbrev pub Gives : Result DmlStep Stop → Standing → Data → Result Stepped Code → Type 0
+abbrev pub Gives : Result DmlStep Stop → DmlState → Data → Result Stepped Code → Type 0
 Gives (Ok answer) s d defined = defined ≡ Ok (record { answer = answer; standing = s; data_after = d })
 Gives (Err (Raised code)) s d defined = defined ≡ Err code
 Gives (Err NoMemory) s d defined = Unit {0}
@@ -111,7 +111,7 @@ RestSeen d t table (Err code) = Unit {0}
 
 -- A statement can go on: its transaction is live and has begun, its table was added with its key, and the transaction still sees
 -- the rows that are to come.
-pub record CanStep (d : Data) (s : Standing) : Type 0 where
+pub record CanStep (d : Data) (s : DmlState) : Type 0 where
   pub live : IsLive d s.tx
   pub begun : is_some (own d s.tx).begun ≡ true
   pub known : IsKnown d s.plan.table

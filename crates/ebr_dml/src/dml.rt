@@ -45,10 +45,10 @@ pub struct Dml {
 impl Model for Dml {
     ghost use Rattle.std.specs.Coded.{codes};
     ghost use Rattle.ebr_exprtree.specs.contracts.expression.Expr as e;
-    ghost use Rattle.ebr_dml.specs.Steps.{Standing};
+    ghost use Rattle.ebr_dml.specs.Steps.{DmlState};
     ghost use Rattle.ebr_dml.specs.inside.Apart.{FoundApart, found_from};
 
-    ghost Value = { Standing };
+    ghost Value = { DmlState };
 
     ghost coded = { Prim.hlevel (codes, e.the_row.coded) };
 

@@ -46,7 +46,7 @@ use Rattle.ebr_dml.specs.declared.taken.Taken.{Taken}
 use Rattle.ebr_dml.specs.Images.{filled_from, old_values, set_values, worked, new_values}
 use Rattle.ebr_dml.specs.Plans.{there, over, set_of, insert_places, update_over, delete_over, trigger_key, tree_table, object_table, trigger_table, plan_of}
 use Rattle.ebr_dml.specs.Rows.{rows_of}
-use Rattle.ebr_dml.specs.Steps.{Standing, started, first_standing}
+use Rattle.ebr_dml.specs.Steps.{DmlState, started, first_dml}
 use Rattle.ebr_dml.specs.Tests.{first_code, null_refusal, column_refusal, columns_from, columns_refusal, null_inserted, null_updated, insert_tests, update_tests, delete_tests, update, removal, tested, written, written_to}
 use Rattle.ebr_database.specs.Storable.{IsStorable, AllStorable}
 use Rattle.ebr_database.proofs.AllStays.{with_one}
@@ -163,7 +163,7 @@ abbrev table_in : TableDef → Result Plan Code → TableDef
 table_in x (Ok y) = y.table
 table_in x (Err code) = x
 
-abbrev standing_or : Standing → Result Standing Code → Standing
+abbrev standing_or : DmlState → Result DmlState Code → DmlState
 standing_or x (Ok y) = y
 standing_or x (Err code) = x
 
@@ -219,7 +219,7 @@ module _ (v : EditionView) (all : AreNarrow v.tables) (p : Plan) where
       through (λ table. Ok (record { table = table; source = []; filter = None; work = Set [] })) (trigger_table v name) p (λ table is made.
       subst IsNarrow (ap (λ r. table_in table r) made) (object_narrow v.tables all (object_of (trigger_key name) v.objects) table is)) e
 
-pub started_narrow : (s : Standing) (d : Data) (t : TxId) (v : EditionView) (tree : SqlTree) (binds : List Value) → AreNarrow v.tables → started d t v tree binds ≡ Ok s → IsNarrow s.plan.table
+pub started_narrow : (s : DmlState) (d : Data) (t : TxId) (v : EditionView) (tree : SqlTree) (binds : List Value) → AreNarrow v.tables → started d t v tree binds ≡ Ok s → IsNarrow s.plan.table
 started_narrow s d t v tree binds all e =
-    through (λ p. on (λ rows. Ok (first_standing t binds p rows)) (rows_of d t tree p binds)) (plan_of v tree) s (λ p is e'.
-    through (λ rows. Ok (first_standing t binds p rows)) (rows_of d t tree p binds) s (λ rows is' e''. subst (λ (x : Standing). IsNarrow x.plan.table) (ap (standing_or s) e'') (plan_narrow v all p tree is)) e') e
+    through (λ p. on (λ rows. Ok (first_dml t binds p rows)) (rows_of d t tree p binds)) (plan_of v tree) s (λ p is e'.
+    through (λ rows. Ok (first_dml t binds p rows)) (rows_of d t tree p binds) s (λ rows is' e''. subst (λ (x : DmlState). IsNarrow x.plan.table) (ap (standing_or s) e'') (plan_narrow v all p tree is)) e') e

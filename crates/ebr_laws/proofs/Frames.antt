@@ -9,7 +9,7 @@ use Rattle.ebr_run.specs.declared.callee.Reference.TheVariants as reference
 use Rattle.ebr_run.specs.Packages.{PackageState, Made, state_of, forget, same_made}
 use Rattle.ebr_run.specs.State.{Memory, Row, State, Runs, Outcome, End, Normal, Exit, Continue, Returned, Raised, Stopped, Waiting, bare, with_memory, with_packages, done, broken}
 use Rattle.ebr_run.specs.Expressions.{Calls}
-use Rattle.ebr_run.specs.Calls.{Part, Making, Parts, left_on, fresh, first_state, body, entered, received, agrees, enter, too_deep, kept, make, outdated, refer_to, refer_in, by_frames, by_makings, calls_of, most_calls, most_makings}
+use Rattle.ebr_run.specs.Calls.{Part, Making, Parts, left_on, fresh, first_state, body, entered, received, agrees, enter, too_deep, forget_if_failed, make, outdated, refer_to, refer_in, by_frames, by_makings, calls_of, most_calls, most_makings}
 use Rattle.ebr_run.specs.Run.{run_part}
 
 abbrev pub bared : Part → Part
@@ -51,7 +51,7 @@ make_bared (Some m) made p calls σ =
     let σ' = with_memory (fresh []) (with_packages (σ.packages ++ first_state p made m.stateful ∷ []) σ) in
     let part : Part = record { formals = []; function = false; autonomous = false; run = m.run } in
     let o = m.run calls (bare σ') in
-    ap (kept p) (left_on_bared o.end part σ.memory o)
+    ap (forget_if_failed p) (left_on_bared o.end part σ.memory o)
 
 outdated_bared : (b : Bool) (ps : Parts) (p : Word) (calls : Calls) (σ : State) → outdated b (bared_parts ps) p calls σ ≡ outdated b ps p calls σ
 outdated_bared true ps p calls σ = refl

@@ -66,11 +66,11 @@ module _ (k b : Answer → Runs) (next : Runs) (h : (a : Answer) (σ : State) �
 
   next_goes : (given : List Answer) (σ : State) → next_answer given (bare σ) k ≡ then_run (next_answer given (bare σ) b) next
   next_goes [] σ = refl
-  next_goes (a ∷ given) σ = answered_goes a (record σ { given = given })
+  next_goes (a ∷ given) σ = answered_goes a (record σ { answers = given })
 
   -- an ask, and what comes behind it
   pub asked_goes : (q : Ask) (σ : State) → asked q (bare σ) k ≡ then_run (asked q (bare σ) b) next
-  asked_goes q σ = next_goes σ.given (record σ { asks = σ.asks ++ q ∷ [] })
+  asked_goes q σ = next_goes σ.answers (record σ { asks = σ.asks ++ q ∷ [] })
 
 -- ---- binds
 

@@ -193,7 +193,7 @@ fn stops_after(alloc: Global, kept: u32) -> Result<bool, NoMemory>
         && takes(alloc, &mut keeper, 1, 1, Err(JournalFault::DiskFault))
         && takes(alloc, &mut keeper, 1, 9, Err(JournalFault::Stopped))
         && keeper.is_stopped();
-    let same = keeper.kept().len() == kept as usize;
+    let same = keeper.records().len() == kept as usize;
     release(keeper);
     Ok(stops && same)
 }

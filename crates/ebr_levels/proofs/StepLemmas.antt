@@ -19,7 +19,7 @@ use Rattle.ebr_dml.specs.declared.step.DmlStep.{DmlStep}
 use Rattle.ebr_dml.specs.declared.step.DmlStep.TheVariants.{After, Before}
 use Rattle.ebr_dml.specs.declared.taken.Taken.{Taken}
 use Rattle.ebr_dml.specs.Images.{after_values, new_values, old_values}
-use Rattle.ebr_dml.specs.Steps.{AreSeen, CanStep, Gives, IsSeen, RestSeen, Standing, Stepped, next_step, row_step, stepped}
+use Rattle.ebr_dml.specs.Steps.{AreSeen, CanStep, Gives, IsSeen, RestSeen, DmlState, Stepped, next_step, row_step, stepped}
 use Rattle.ebr_dml.specs.Tests.{delete_tests, first_code, insert_tests, removal, tested, update, update_tests, written, written_to}
 use Rattle.ebr_levels.specs.Keeps.{UnderChange}
 use Rattle.ebr_levels.specs.Levels.{IsTop, Leaves}
@@ -35,7 +35,7 @@ leaves_query d d1 d2 t under there is l = leaves_leaves d d1 d2 t under (leaves_
 
 -- ---- the next step
 
-pub can_still_step : (d d' : Data) (s : Standing) (under : UnderChange) → IsTop d s.tx → under s.tx s.plan.table.id ≡ true → CanStep d s → Leaves d s.tx under d' → CanStep d' s
+pub can_still_step : (d d' : Data) (s : DmlState) (under : UnderChange) → IsTop d s.tx → under s.tx s.plan.table.id ≡ true → CanStep d s → Leaves d s.tx under d' → CanStep d' s
 can_still_step d d' s under top on can l = record {
   live = leaves_live d d' s.tx s.tx under l can.live;
   begun = ap (λ (o : Option ℕ). is_some o) (l.keeps.begun can.begun) ∙ can.begun;
@@ -79,7 +79,7 @@ abbrev data_in : Data → Result Stepped Code → Data
 data_in d (Ok x) = x.data_after
 data_in d (Err code) = d
 
-module _ (d : Data) (s : Standing) (under : UnderChange) (there : IsLive d s.tx) (off : under s.tx s.plan.table.id ≡ false) where
+module _ (d : Data) (s : DmlState) (under : UnderChange) (there : IsLive d s.tx) (off : under s.tx s.plan.table.id ≡ false) where
   unmoved : (x : Stepped) → d ≡ x.data_after → Leaves d s.tx under x.data_after
   unmoved x is = leaves_equal d x.data_after s.tx under (sym is)
 
@@ -110,6 +110,6 @@ module _ (d : Data) (s : Standing) (under : UnderChange) (there : IsLive d s.tx)
       by (Err code) e = cc
 
   -- whatever a step answers
-  pub step_leaves : (d' : Data) (s' : Standing) (after : Option (List Value)) (r : Result DmlStep Stop) → Gives r s' d' (stepped s d after) → OnErr r (d' ≡ d) → Leaves d s.tx under d'
+  pub step_leaves : (d' : Data) (s' : DmlState) (after : Option (List Value)) (r : Result DmlStep Stop) → Gives r s' d' (stepped s d after) → OnErr r (d' ≡ d) → Leaves d s.tx under d'
   step_leaves d' s' after (Ok answer) gives same = stepped_leaves after (record { answer = answer; standing = s'; data_after = d' }) gives
   step_leaves d' s' after (Err e) gives same = leaves_equal d d' s.tx under same

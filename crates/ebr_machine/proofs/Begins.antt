@@ -43,8 +43,8 @@ spent_then false σ o k e = e
 done_then : (given : List Answer) (σ : State) (k : Runs) → next_answer given σ (λ a. when_done a (λ τ. k (bare τ))) ≡ then_run (next_answer given σ (λ a. when_done a done)) k
 done_then [] σ k = refl
 done_then (answer.Done ∷ given) σ k = refl
-done_then (answer.Count n steps ls ∷ given) σ k = let τ = spent steps ls (record σ { given = given }) in spent_then (nat_lt σ.left (σ.steps + steps)) τ (broken τ) k refl
-done_then (answer.Refused c steps ls ∷ given) σ k = let τ = spent steps ls (record σ { given = given }) in spent_then (nat_lt σ.left (σ.steps + steps)) τ (refused c τ) k (refused_then (is_uncatchable c) c τ k)
+done_then (answer.Count n steps ls ∷ given) σ k = let τ = spent steps ls (record σ { answers = given }) in spent_then (nat_lt σ.left (σ.steps + steps)) τ (broken τ) k refl
+done_then (answer.Refused c steps ls ∷ given) σ k = let τ = spent steps ls (record σ { answers = given }) in spent_then (nat_lt σ.left (σ.steps + steps)) τ (refused c τ) k (refused_then (is_uncatchable c) c τ k)
 done_then (answer.View v ∷ given) σ k = refl
 done_then (answer.Rows rows ∷ given) σ k = refl
 done_then (answer.Invalid ∷ given) σ k = refl
@@ -54,7 +54,7 @@ done_then (answer.Stopped ∷ given) σ k = refl
 
 -- what begins when an ask is answered Done
 pub asked_then : (q : Ask) (σ : State) (k : Runs) → asked q σ (λ a. when_done a (λ τ. k (bare τ))) ≡ then_run (asked q σ (λ a. when_done a done)) k
-asked_then q σ k = done_then σ.given (record σ { asks = σ.asks ++ q ∷ [] }) k
+asked_then q σ k = done_then σ.answers (record σ { asks = σ.asks ++ q ∷ [] }) k
 
 -- ---- the end of the unit that runs
 

@@ -5,7 +5,7 @@ use Rattle.ebr_run.specs.declared.fault.Fault.{Fault}
 use Rattle.ebr_run.specs.State.{State, Outcome, Memory, Normal, ended}
 use Rattle.ebr_run.specs.Values.{variable}
 use Rattle.ebr_run.specs.Expressions.{given_back}
-use Rattle.ebr_run.specs.Calls.{Formal, Part, handed_back, given, back_in, left}
+use Rattle.ebr_run.specs.Calls.{Formal, Part, handed_back, result_values, back_in, left}
 use Rattle.ebr_code.specs.Instructions.{above}
 use Rattle.ebr_memory.specs.Levels.{Levels, with_top}
 use Rattle.ebr_running.specs.declared.running.Caller.{Caller}
@@ -21,7 +21,7 @@ handed_as k [] σ = refl
 handed_as k (f ∷ fs) σ = ap (λ vs. if f.gives then variable k σ ∷ vs else vs) (handed_as (suc k) fs σ)
 
 -- a subprogram that is left, and not by what was raised
-left_as : (e : Flow) (f : Fault) (p : Part) (m : Memory) (σ : State) → leaves e ≡ true → left p m (ended (end_of e f) σ) ≡ ended Normal (back_in m (given p.function σ.memory.operands ++ handed_back 0 p.formals σ) σ)
+left_as : (e : Flow) (f : Fault) (p : Part) (m : Memory) (σ : State) → leaves e ≡ true → left p m (ended (end_of e f) σ) ≡ ended Normal (back_in m (result_values p.function σ.memory.operands ++ handed_back 0 p.formals σ) σ)
 left_as flow.Normal f p m σ h = refl
 left_as flow.Exit f p m σ h = refl
 left_as flow.Continue f p m σ h = refl
@@ -42,4 +42,4 @@ call_left old new c operands h kept goes book asks answers =
     let σ = state_of old asks answers in
     subst (λ (o : Levels Value). GoesBack (back old c o) new o.top c.results) kept goes book asks answers
     ∙ ap (λ (o : Outcome). resume book old.makings_left c.frames_left old.tasks (outer s) (given_back c.results o (above (operands_of s))))
-    (ap (λ xs. ended Normal (back_in (memory_of s) (given p.function σ.memory.operands ++ xs) σ)) (sym (handed_as 0 p.formals σ)) ∙ sym (left_as old.flow old.fault p (memory_of s) σ h))
+    (ap (λ xs. ended Normal (back_in (memory_of s) (result_values p.function σ.memory.operands ++ xs) σ)) (sym (handed_as 0 p.formals σ)) ∙ sym (left_as old.flow old.fault p (memory_of s) σ h))

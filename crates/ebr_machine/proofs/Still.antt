@@ -57,7 +57,7 @@ done book m n ts s σ (flow.Stopped c) f q p l d h = ap seen (over book m n ts s
 ended_still : (book : Book) (m n : ℕ) (ts : List Task) (s : Saved) (σ : State) (e : Flow) (f : Fault) (q : Ask) (p : Pending) (l : Lookup) → seen (resume book m n ts s (awake e f q p l σ)) ≡ seen_at σ σ.asks (says e f q) → seen (resume book m n ts s (awake e f q p l σ)) ≡ seen_at σ (σ.asks ++ []) (says e f q)
 ended_still book m n ts s σ e f q p l r = r ∙ ap (λ asks. seen_at σ asks (says e f q)) (sym (append-nil σ.asks))
 
-still : (book : Book) (m n : ℕ) (ts : List Task) (s : Saved) (σ : State) (e : Flow) (f : Fault) (q : Ask) (p : Pending) (l : Lookup) → σ.given ≡ [] → IsStill e ts → seen (resume book m n ts s (awake e f q p l σ)) ≡ seen_at σ (σ.asks ++ asks_of (says e f q)) (says e f q)
+still : (book : Book) (m n : ℕ) (ts : List Task) (s : Saved) (σ : State) (e : Flow) (f : Fault) (q : Ask) (p : Pending) (l : Lookup) → σ.answers ≡ [] → IsStill e ts → seen (resume book m n ts s (awake e f q p l σ)) ≡ seen_at σ (σ.asks ++ asks_of (says e f q)) (says e f q)
 still book m n ts s σ flow.Waiting f q p l g h =
     let out = record σ { asks = σ.asks ++ q ∷ [] } in
     ap seen (ap (λ x. resume book m n ts s (next_answer x out (after p l f))) g ∙ waits book m n ts s out)

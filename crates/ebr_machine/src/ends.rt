@@ -116,7 +116,7 @@ fn keep_given(
 
 /// Keeps what a function computed.
 fn keep_computed(function: bool, operands: &mut Stacks<Value>)
-    ensures { operands.new ≡ with_top (spec.given function operands.old.top) operands.old }
+    ensures { operands.new ≡ with_top (spec.result_values function operands.old.top) operands.old }
 {
     if !function {
         operands.clear();

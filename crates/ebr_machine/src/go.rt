@@ -69,7 +69,7 @@ fn run_on<B: CodeBook>(
     book: &B,
     edition: EditionNo,
 ) -> Result<(), NoMemory>
-    ensures rest { OnOk result ((asks : Sequence asked.Ask) (given : Sequence answered.Answer) → rest_of (B.answers book.now edition) run.new asks given ≡ rest_of (B.answers book.now edition) run.old asks given) }
+    ensures rest { OnOk result ((asks : Sequence asked.Ask) (answers : Sequence answered.Answer) → rest_of (B.answers book.now edition) run.new asks answers ≡ rest_of (B.answers book.now edition) run.old asks answers) }
     ensures still { OnOk result (IsStill run.new.flow run.new.tasks) }
 {
     'tasks: for _turn in 0..u64::MAX {
@@ -104,7 +104,7 @@ pub fn go<B: CodeBook>(
     edition: EditionNo,
     arrived: Option<Answer>,
 ) -> Result<Next, NoMemory>
-    ensures stands { OnOk result ((asks : Sequence asked.Ask) (given : Sequence answered.Answer) → rest_of (B.answers book.now edition) run.new asks given ≡ rest.stands (B.answers book.now edition) run.old arrived asks given) }
+    ensures stands { OnOk result ((asks : Sequence asked.Ask) (answers : Sequence answered.Answer) → rest_of (B.answers book.now edition) run.new asks answers ≡ rest.stands (B.answers book.now edition) run.old arrived asks answers) }
     ensures still { OnOk result (IsStill run.new.flow run.new.tasks) }
     ensures says { IfOk result (λ next. next ≡ inside.says run.new.flow run.new.fault run.new.ask) }
 {
@@ -115,7 +115,7 @@ pub fn go<B: CodeBook>(
 
 /// Takes the answer that has arrived.
 fn start(run: &mut Running, arrived: Option<Answer>) -> Result<(), NoMemory>
-    ensures { OnOk result ((book : Book) (asks : Sequence asked.Ask) (given : Sequence answered.Answer) → rest_of book run.new asks given ≡ rest.stands book run.old arrived asks given) }
+    ensures { OnOk result ((book : Book) (asks : Sequence asked.Ask) (answers : Sequence answered.Answer) → rest_of book run.new asks answers ≡ rest.stands book run.old arrived asks answers) }
 {
     match arrived {
         None => Ok(()),

@@ -5,11 +5,11 @@ use Rattle.ebr_base.specs.declared.code.Stop.{Stop}
 use Rattle.ebr_base.specs.declared.code.Stop.TheVariants.{Raised, NoMemory}
 use Rattle.ebr_cross.specs.declared.catalogue.Catalogue.{Catalogue}
 use Rattle.ebr_cross.specs.declared.record.CatalogueRecord.{CatalogueRecord}
-use Rattle.ebr_cross.specs.Catalogue.{Lists, first_lists, kept}
+use Rattle.ebr_cross.specs.Catalogue.{Lists, first_lists, as_catalogue}
 use Rattle.ebr_cross.specs.Definitions.{Applies}
 use Rattle.ebr_units.specs.Living.{IsKept}
 
-pub kept-first : {E : Type 0} (r : Result Catalogue E) → IfOk r (λ c. c ≡ kept first_lists) → IfOk r (λ c. IsKept c)
+pub kept-first : {E : Type 0} (r : Result Catalogue E) → IfOk r (λ c. c ≡ as_catalogue first_lists) → IfOk r (λ c. IsKept c)
 kept-first (Ok c) is = record { lists = first_lists; own_keys = tt; is = is }
 kept-first (Err x) is = tt
 

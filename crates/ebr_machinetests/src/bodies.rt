@@ -2,7 +2,7 @@
 //! (EBR-0012), and the room for lines (EBR-0011), is own.
 
 use crate::edition::{Edition, edition_with, name};
-use crate::given::{first_word, row};
+use crate::inputs::{first_word, row};
 use crate::printing::values;
 use crate::run::{first_row, release, run_on};
 use ebr_ast::{Op, Origin};

@@ -5,7 +5,7 @@ ghost use Rattle.std.specs.Prelude.{IfOk};
 ghost use Rattle.ebr_units.specs.Living.{IsKept};
 
 use crate::edition::{name, tokens_of};
-use crate::given::number;
+use crate::inputs::number;
 use crate::run::{first_row, release};
 use ebr_ast::Definition;
 use ebr_base::{Bytes, Class, EditionNo, NoMemory, Shared};

@@ -13,7 +13,7 @@ mod editions;
 #[cfg(test)]
 mod firing;
 #[cfg(test)]
-mod given;
+mod inputs;
 #[cfg(test)]
 mod packages;
 #[cfg(test)]

@@ -3,7 +3,7 @@
 ghost use Rattle.std.specs.Prelude.{◌≡◌, ◌<◌};
 
 use crate::edition::{Edition, tree};
-use crate::given::{answer, first_word};
+use crate::inputs::{answer, first_word};
 use crate::printing::{ask, end, lines};
 use ebr_ast::{EditionView, UnitTree};
 use ebr_base::{Bytes, EditionNo, List, NoMemory, Shared};

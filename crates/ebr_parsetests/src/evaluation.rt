@@ -48,7 +48,7 @@ fn of_tokens(alloc: Global, tokens: &[Token]) -> Result<Bytes, NoMemory> {
 }
 
 /// What a text gives.
-fn given(alloc: Global, text: &str) -> Result<Bytes, NoMemory> {
+fn value_text(alloc: Global, text: &str) -> Result<Bytes, NoMemory> {
     if text.len() >= MAX_COUNT {
         return Err(NoMemory);
     }
@@ -61,7 +61,7 @@ fn given(alloc: Global, text: &str) -> Result<Bytes, NoMemory> {
 
 /// What the text gives, where its row says otherwise.
 fn fault(alloc: Global, text: &str, wanted: &str) -> Result<Option<String>, NoMemory> {
-    let found = given(alloc, text)?;
+    let found = value_text(alloc, text)?;
     if found.as_slice() == wanted.as_bytes() {
         return Ok(None);
     }

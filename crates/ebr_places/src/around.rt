@@ -382,7 +382,7 @@ impl<'a> Around<'a> {
     ) -> Result<(), NoMemory>
         ensures { OnOk result (self.new ≡ with_decl among.now (decl.Exception name.now) self.old) }
     {
-        let code = among.given(name);
+        let code = among.code(name);
         let owner = self.owner.clone_in(alloc)?;
         let fault = declared_exception(alloc, &self.unit, self.path.as_slice(), name, code)?;
         self.names.add(

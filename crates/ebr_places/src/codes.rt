@@ -66,7 +66,7 @@ impl<'a> Codes<'a> {
     }
 
     /// The code that an exception has among them; of two the last counts.
-    pub fn given(&self, name: &Name) -> Option<u64>
+    pub fn code(&self, name: &Name) -> Option<u64>
         ensures { result ≡ spec.code_given name.now self.now }
     {
         match self.codes.get(name) {
@@ -107,7 +107,7 @@ fn note_item(codes: &mut IndexMap<Name, u64>, item: &PackageItem) -> Result<(), 
 
 /// Notes the code that a declaration gives an exception, in the place of an earlier one.
 fn note(codes: &mut IndexMap<Name, u64>, declaration: &Decl) -> Result<(), NoMemory>
-    ensures { OnOk result (inside.Notes (λ n. inside.given n declaration.now) codes.old.entries codes.new.entries) }
+    ensures { OnOk result (inside.Notes (λ n. inside.declared_code n declaration.now) codes.old.entries codes.new.entries) }
 {
     match declaration {
         Decl::ExceptionInit(name, code) => put(codes, name, *code),

@@ -16,7 +16,7 @@ use Rattle.ebr_dml.specs.declared.plan.Plan.{Plan}
 use Rattle.ebr_dml.specs.declared.taken.Taken.{Taken}
 use Rattle.ebr_dml.specs.Plans.{plan_of}
 use Rattle.ebr_dml.specs.Rows.{rows_of}
-use Rattle.ebr_dml.specs.Steps.{Standing, Stays, AreKnown, first_standing, started}
+use Rattle.ebr_dml.specs.Steps.{DmlState, Stays, AreKnown, first_dml, started}
 use Rattle.ebr_querytests.specs.World.{the_keyed, IsDefined}
 
 pub stays-more : (a b c : Data) (t : TxId) → Stays a t b → Stays b t c → Stays a t c
@@ -39,17 +39,17 @@ pub all_more : (defs : List TableDef) (def : TableDef) → All IsDefined defs �
 all_more defs def h k = All-push IsDefined defs def h k
 
 -- a statement is in the transaction in which it was started
-abbrev tx_or : TxId → Result Standing Code → TxId
+abbrev tx_or : TxId → Result DmlState Code → TxId
 tx_or t (Ok s) = s.tx
 tx_or t (Err code) = t
 
-pub started-in : (d : Data) (t : TxId) (v : EditionView) (s : SqlTree) (binds : List Value) (dml : Standing) → started d t v s binds ≡ Ok dml → dml.tx ≡ t
+pub started-in : (d : Data) (t : TxId) (v : EditionView) (s : SqlTree) (binds : List Value) (dml : DmlState) → started d t v s binds ≡ Ok dml → dml.tx ≡ t
 started-in d t v s binds dml e = sym (ap (tx_or t) e) ∙ planned (plan_of v s)
   where
-    found : (p : Plan) (r : Result (Result (List Taken) Code) Code) → tx_or t (on (λ rows. Ok (first_standing t binds p rows)) r) ≡ t
+    found : (p : Plan) (r : Result (Result (List Taken) Code) Code) → tx_or t (on (λ rows. Ok (first_dml t binds p rows)) r) ≡ t
     found p (Ok rows) = refl
     found p (Err code) = refl
 
-    planned : (r : Result Plan Code) → tx_or t (on (λ p. on (λ rows. Ok (first_standing t binds p rows)) (rows_of d t s p binds)) r) ≡ t
+    planned : (r : Result Plan Code) → tx_or t (on (λ p. on (λ rows. Ok (first_dml t binds p rows)) (rows_of d t s p binds)) r) ≡ t
     planned (Ok p) = found p (rows_of d t s p binds)
     planned (Err code) = refl

@@ -55,7 +55,7 @@ struct Around {
 }
 
 /// Puts a word and two rows behind the steps before.
-fn told(
+fn put_step(
     alloc: Global,
     around: &mut Around,
     word: &[u8],
@@ -90,14 +90,14 @@ struct Following {
 fn next(alloc: Global, around: &mut Around, step: DmlStep) -> Result<Following, NoMemory> {
     match step {
         DmlStep::Before { old, new } => {
-            told(alloc, around, b"before ", &old, &new)?;
+            put_step(alloc, around, b"before ", &old, &new)?;
             Ok(Following {
                 after: Some(left(alloc, around, new)?),
                 count: None,
             })
         }
         DmlStep::After { old, new } => {
-            told(alloc, around, b"after ", &old, &new)?;
+            put_step(alloc, around, b"after ", &old, &new)?;
             Ok(Following {
                 after: None,
                 count: None,

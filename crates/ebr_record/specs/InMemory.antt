@@ -10,7 +10,7 @@ use Rattle.ebr_record.specs.Keeper.{Keeper, max_journal, share, used_by}
 -- What it has kept; the numbers of the calls of `keep` that are to fail, how many calls there were, and how many failed; and
 -- whether one found a fault or no memory.
 pub record ListState : Type 0 where
-  pub kept : List Record
+  pub records : List Record
   pub failing : List ℕ
   pub calls : ℕ
   pub faults : ℕ
@@ -18,7 +18,7 @@ pub record ListState : Type 0 where
 
 -- before the first call
 abbrev pub none_kept : List ℕ → ListState
-none_kept failing = record { kept = []; failing = failing; calls = 0; faults = 0; stopped = false }
+none_kept failing = record { records = []; failing = failing; calls = 0; faults = 0; stopped = false }
 
 -- the next call is named
 abbrev pub fails_next : ListState → Bool
@@ -27,7 +27,7 @@ fails_next s = list_any (λ n. n == one_more s.calls) s.failing
 -- what a call answers where there is memory
 abbrev pub answer_to : ListState → Record → Result (Unit {0}) JournalFault
 answer_to s r =
-    let len = used_by s.kept + share r in
+    let len = used_by s.records + share r in
     if s.stopped then Err Stopped else if nat_lt max_journal len then Err (Full len) else if fails_next s then Err DiskFault else Ok tt
 
 -- it is answered so, or where it would be kept there is no memory
@@ -37,23 +37,23 @@ AnswersTo s r answer = answer_to s r ≡ answer
 
 -- after a call
 abbrev pub after_call : ListState → Record → Result (Unit {0}) JournalFault → ListState
-after_call s r (Ok x) = record s { kept = s.kept ++ r ∷ []; calls = one_more s.calls }
+after_call s r (Ok x) = record s { records = s.records ++ r ∷ []; calls = one_more s.calls }
 after_call s r (Err DiskFault) = record s { calls = one_more s.calls; faults = one_more s.faults; stopped = true }
 after_call s r (Err NoMemory) = record s { calls = one_more s.calls; stopped = true }
 after_call s r (Err fault) = record s { calls = one_more s.calls }
 
 -- a stop at the n-th moment leaves the first n records, so since a moment one of the lists from there on
 abbrev pub LeftSince : List Record → ℕ → List Record → Type 0
-LeftSince kept t l = (n : ℕ) × (t ≤ n) × (n ≤ length kept) × (l ≡ take n kept)
+LeftSince records t l = (n : ℕ) × (t ≤ n) × (n ≤ length records) × (l ≡ take n records)
 
 -- what it tells as a keeper: all of it
-abbrev pub told : ListState → Keeper
-told s = record {
-  kept = Some s.kept;
-  used = used_by s.kept;
+abbrev pub as_keeper : ListState → Keeper
+as_keeper s = record {
+  records = Some s.records;
+  used = used_by s.records;
   faults = s.faults;
   stopped = s.stopped;
-  moment = length s.kept;
+  moment = length s.records;
   tells = true;
-  may_leave = LeftSince s.kept;
+  may_leave = LeftSince s.records;
 }

@@ -17,7 +17,7 @@ const MAX_JOURNAL: u64 = 268_435_456;
 #[derive(Drop)]
 pub struct ListKeep {
     alloc: Global,
-    kept: List<Record>,
+    records: List<Record>,
     used: u64,
     failing: List<u32>,
     calls: u64,
@@ -32,9 +32,9 @@ impl Model for ListKeep {
 
     ghost Value = { ListState };
 
-    ghost view = { λ k. record { kept = k.kept; failing = k.failing; calls = k.calls; faults = k.faults; stopped = k.stopped } };
+    ghost view = { λ k. record { records = k.records; failing = k.failing; calls = k.calls; faults = k.faults; stopped = k.stopped } };
 
-    ghost invariant = { λ k. (k.used ≡ used_by k.kept) × (k.used ≤ max_journal) };
+    ghost invariant = { λ k. (k.used ≡ used_by k.records) × (k.used ≤ max_journal) };
 }
 
 impl ListKeep {
@@ -47,7 +47,7 @@ impl ListKeep {
         let failing = List::from_vec(Vec::from_slice(alloc, failing)?);
         Ok(ListKeep {
             alloc,
-            kept: List::new(alloc),
+            records: List::new(alloc),
             used: 2,
             failing,
             calls: 0,
@@ -57,19 +57,19 @@ impl ListKeep {
     }
 
     /// The records that were kept.
-    pub fn kept(&self) -> &[Record]
-        ensures { result.now ≡ self.now.kept }
+    pub fn records(&self) -> &[Record]
+        ensures { result.now ≡ self.now.records }
     {
-        self.kept.as_slice()
+        self.records.as_slice()
     }
 }
 
 impl Keep for ListKeep {
     ghost use Rattle.ebr_record.specs.Payload.{HasPayload};
     ghost use Rattle.ebr_record.specs.Keeper.{max_journal, used_by};
-    ghost use Rattle.ebr_record.specs.InMemory.{AnswersTo, after_call, told};
+    ghost use Rattle.ebr_record.specs.InMemory.{AnswersTo, after_call, as_keeper};
 
-    ghost told = { told };
+    ghost as_keeper = { as_keeper };
 
     fn is_stopped(&self) -> bool {
         self.stopped
@@ -81,7 +81,7 @@ impl Keep for ListKeep {
         requires payload { HasPayload r.now }
         ensures answer { AnswersTo self.old r.now result }
         ensures after { self.new ≡ after_call self.old r.now result }
-        ensures within { used_by self.new.kept ≤ max_journal }
+        ensures within { used_by self.new.records ≤ max_journal }
     {
         self.calls = self.calls.saturating_add(1);
         if self.stopped {
@@ -96,7 +96,7 @@ impl Keep for ListKeep {
             self.faults = self.faults.saturating_add(1);
             return Err(JournalFault::DiskFault);
         }
-        if let Err(NoMemory) = push_copy(self.alloc, &mut self.kept, r) {
+        if let Err(NoMemory) = push_copy(self.alloc, &mut self.records, r) {
             return Err(JournalFault::NoMemory);
         }
         self.used = len;
@@ -113,9 +113,9 @@ fn is_named(failing: &[u32], call: u64) -> bool
 }
 
 /// Adds a copy of a record.
-fn push_copy(alloc: Global, kept: &mut List<Record>, r: &Record) -> Result<(), NoMemory>
-    ensures ok { OnOk result (kept.new ≡ kept.old ++ r.now ∷ []) }
-    ensures err { OnErr result (kept.new ≡ kept.old) }
+fn push_copy(alloc: Global, records: &mut List<Record>, r: &Record) -> Result<(), NoMemory>
+    ensures ok { OnOk result (records.new ≡ records.old ++ r.now ∷ []) }
+    ensures err { OnErr result (records.new ≡ records.old) }
 {
-    kept.push(r.clone_in(alloc)?)
+    records.push(r.clone_in(alloc)?)
 }

@@ -24,9 +24,9 @@ use Rattle.ebr_expr.specs.Operators.{builtin_at}
 use Rattle.ebr_sqlcheck.specs.declared.value_type.ValueType.{ValueType}
 use Rattle.ebr_sqlcheck.specs.declared.value_type.ValueType.TheVariants as type
 use Rattle.ebr_sqlcheck.specs.Types.{Known, first_known, type_of_text}
-use Rattle.ebr_sqlcheck.specs.Functions.{takes_any_type, taken, given}
+use Rattle.ebr_sqlcheck.specs.Functions.{takes_any_type, taken, builtin_type}
 use Rattle.ebr_sqlcheck.specs.Operands.{sum_type}
-use Rattle.ebr_rules.specs.declared.told.Told.{Told}
+use Rattle.ebr_rules.specs.declared.typed.Typed.{Typed}
 use Rattle.ebr_scope.specs.Meanings.{Word, Meaning, Variable, Constant, Parameter as Passed, Subprogram, is_out, is_target}
 use Rattle.ebr_scope.specs.Declarations.{parameter_type, result_type}
 use Rattle.ebr_scope.specs.Names.{meant, meant_at, applied}
@@ -35,24 +35,24 @@ use Rattle.ebr_rules.specs.Sites.{Site, Operand, Applies, Asks, Fits, Builtins, 
 
 -- what is read of an expression
 pub record Reading : Type 0 where
-  pub told : Told
+  pub typed : Typed
   pub sites : List Site
 
 abbrev pub Read : Type 0
 Read = Env → Reading
 
 -- a value that can't be assigned
-abbrev pub only_value : Known → Told
+abbrev pub only_value : Known → Typed
 only_value t = record { ty = t; target = false }
 
 abbrev pub value : ValueType → List Site → Reading
-value t sites = record { told = only_value (Some t); sites = sites }
+value t sites = record { typed = only_value (Some t); sites = sites }
 
 abbrev pub sites_of : Read → Env → List Site
 sites_of r env = (r env).sites
 
 abbrev pub type_of : Read → Env → Known
-type_of r env = (r env).told.ty
+type_of r env = (r env).typed.ty
 
 -- ---- names
 
@@ -63,11 +63,11 @@ operand_type env (Some (Passed m t)) = t
 operand_type env (Some (Subprogram h)) = result_type env.view h.result
 operand_type env m = None
 
-abbrev pub name_told : Env → Option Meaning → Told
+abbrev pub name_told : Env → Option Meaning → Typed
 name_told env m = record { ty = operand_type env m; target = is_target m }
 
 abbrev pub name_reading : Env → Option Meaning → Reading
-name_reading env m = record { told = name_told env m; sites = Operand m ∷ [] }
+name_reading env m = record { typed = name_told env m; sites = Operand m ∷ [] }
 
 -- ---- `:NEW.c` and `:OLD.c`
 
@@ -82,7 +82,7 @@ is_image_target image.Old t = false
 
 abbrev pub image_reading : Env → RowImage → Word → Reading
 image_reading env i c = record {
-  told = record { ty = image_type env c; target = is_image_target i env.timing };
+  typed = record { ty = image_type env c; target = is_image_target i env.timing };
   sites = Images env.timing (image_type env c) ∷ [];
 }
 
@@ -97,13 +97,13 @@ all_wanted t [] env = []
 all_wanted t (r ∷ rs) env = wanted t r env ++ all_wanted t rs env
 
 -- an argument, for the first of the parameters that are left
-abbrev pub passed : Env → List Parameter → Told → List Site
+abbrev pub passed : Env → List Parameter → Typed → List Site
 passed env [] t = []
 passed env (p ∷ ps) t = Fits (parameter_type env.view p.ty) t.ty ∷ Passes (is_out p.mode) t.target ∷ []
 
 abbrev pub arguments : List Read → List Parameter → Env → List Site
 arguments [] ps env = []
-arguments (r ∷ rs) ps env = (sites_of r env ++ passed env ps (r env).told) ++ arguments rs (drop 1 ps) env
+arguments (r ∷ rs) ps env = (sites_of r env ++ passed env ps (r env).typed) ++ arguments rs (drop 1 ps) env
 
 abbrev pub parameters_of : Option Head → List Parameter
 parameters_of None = []
@@ -123,14 +123,14 @@ behind sites r = record r { sites = sites ++ r.sites }
 
 -- operands of any one type, behind others of which it is known so far
 abbrev pub one_type : Known → List Read → Env → Reading
-one_type t [] env = record { told = only_value t; sites = [] }
+one_type t [] env = record { typed = only_value t; sites = [] }
 one_type t (r ∷ rs) env = behind (sites_of r env ++ Fits t (type_of r env) ∷ []) (one_type (first_known t (type_of r env)) rs env)
 
 abbrev pub builtin_operands : Builtin → List Read → Env → Reading
-builtin_operands f rs env = if takes_any_type f then one_type None rs env else value (given f) (operands_from f 0 rs env)
+builtin_operands f rs env = if takes_any_type f then one_type None rs env else value (builtin_type f) (operands_from f 0 rs env)
 
 abbrev pub applied_reading : Env → Option Head → List Read → Reading
-applied_reading env h rs = record { told = only_value (head_type env h); sites = Applies h (length rs) ∷ arguments rs (parameters_of h) env }
+applied_reading env h rs = record { typed = only_value (head_type env h); sites = Applies h (length rs) ∷ arguments rs (parameters_of h) env }
 
 -- a built-in function, and else another one
 abbrev pub call_reading : Option Builtin → Path → List Read → Env → Reading
@@ -150,7 +150,7 @@ added_sites t term env = Adds term.operator t ∷ (sites_of term.operand env ++ 
 
 -- the terms of a sum behind others whose type is known
 abbrev pub sum_from : Known → List Term → Env → Reading
-sum_from t [] env = record { told = only_value t; sites = [] }
+sum_from t [] env = record { typed = only_value t; sites = [] }
 sum_from t (term ∷ rest) env =
     behind (added_sites t term env) (sum_from (Some (sum_type term.operator)) rest env)
 
@@ -177,8 +177,8 @@ attribute_sites env (Some c) = Asks (meant_at env.view env.scope c None) ∷ []
 
 abbrev pub reads : Expr-F Read Term → Read
 reads (expr.Number n) env = value type.Number []
-reads (expr.Text t) env = record { told = only_value (type_of_text t); sites = [] }
-reads expr.Null env = record { told = only_value None; sites = [] }
+reads (expr.Text t) env = record { typed = only_value (type_of_text t); sites = [] }
+reads expr.Null env = record { typed = only_value None; sites = [] }
 reads (expr.Boolean b) env = value type.Boolean []
 reads (expr.Name path) env = name_reading env (meant env.view env.scope path)
 reads (expr.Call path rs) env = call_reading (builtin_at path.name path.member) path rs env
@@ -201,8 +201,8 @@ reads (expr.Like a b negated) env = value type.Boolean (wanted type.Text a env +
 reads (expr.Not a) env = value type.Boolean (wanted type.Boolean a env)
 reads (expr.And a more) env = value type.Boolean (wanted type.Boolean a env ++ all_wanted type.Boolean more env)
 reads (expr.Or a more) env = value type.Boolean (wanted type.Boolean a env ++ all_wanted type.Boolean more env)
-reads (expr.Place at) env = record { told = only_value None; sites = Placed ∷ [] }
-reads (expr.Bind at) env = record { told = only_value None; sites = Placed ∷ [] }
+reads (expr.Place at) env = record { typed = only_value None; sites = Placed ∷ [] }
+reads (expr.Bind at) env = record { typed = only_value None; sites = Placed ∷ [] }
 
 abbrev pub reads_term : Addend-F Read Term → Term
 reads_term t = record { operator = t.operator; operand = t.term }

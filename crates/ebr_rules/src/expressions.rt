@@ -11,7 +11,7 @@ ghost use Rattle.ebr_scope.specs.Lent.{lent, env};
 ghost use Rattle.ebr_expr.specs.Operators.{builtin_at};
 
 use crate::judge::{applies, asks, is_after, operand};
-use crate::told::Told;
+use crate::typed::Typed;
 use crate::verdict::must;
 use ebr_ast::{Addend, Attribute, Comparison, Expr, Head, Parameter, Path, RowImage};
 use ebr_base::{List, Name, Shared};
@@ -20,19 +20,19 @@ use ebr_scope::{
     Meaning, Place, Scopes, applied, is_out, is_target, meant, parameter_type, plain, result_type,
 };
 use ebr_sqlcheck::{
-    ValueType, adds, alike, compares, first_known, given, named_type, sum_type, taken,
+    ValueType, adds, alike, builtin_type, compares, first_known, named_type, sum_type, taken,
     takes_any_type, takes_count, type_of_text,
 };
 use ebr_value::Builtin;
 
 /// A value that can't be assigned.
-fn only_value(ty: Option<ValueType>) -> Told
+fn only_value(ty: Option<ValueType>) -> Typed
     ensures { result ≡ spec.only_value ty }
 {
-    Told { ty, target: false }
+    Typed { ty, target: false }
 }
 
-fn value(ty: ValueType) -> Told
+fn value(ty: ValueType) -> Typed
     ensures { result ≡ spec.only_value (Some ty) }
 {
     only_value(Some(ty))
@@ -51,13 +51,13 @@ fn operand_type(meaning: Option<Meaning<'_>>, place: &Place<'_>) -> Option<Value
     }
 }
 
-fn name(path: &Path, place: &Place<'_>, known: &Scopes<'_>, least: &mut Option<u8>) -> Told
-    ensures told { result ≡ (spec.name_reading (env place.now []) (names.meant place.now.seen.now.view known.now path.now)).told }
+fn name(path: &Path, place: &Place<'_>, known: &Scopes<'_>, least: &mut Option<u8>) -> Typed
+    ensures typed { result ≡ (spec.name_reading (env place.now []) (names.meant place.now.seen.now.view known.now path.now)).typed }
     ensures least { least.new ≡ noted (spec.name_reading (env place.now []) (names.meant place.now.seen.now.view known.now path.now)).sites least.old }
 {
     let meaning = meant(place.seen, known, path);
     operand(meaning, least);
-    Told {
+    Typed {
         ty: operand_type(meaning, place),
         target: is_target(meaning),
     }
@@ -87,13 +87,13 @@ pub fn images(ty: Option<ValueType>, place: &Place<'_>, least: &mut Option<u8>)
     must(least, 12, place.timing.is_some() && ty.is_some());
 }
 
-fn image(image: RowImage, name: &Name, place: &Place<'_>, least: &mut Option<u8>) -> Told
-    ensures told { result ≡ (spec.image_reading (env place.now []) image name.now).told }
+fn image(image: RowImage, name: &Name, place: &Place<'_>, least: &mut Option<u8>) -> Typed
+    ensures typed { result ≡ (spec.image_reading (env place.now []) image name.now).typed }
     ensures least { least.new ≡ noted (spec.image_reading (env place.now []) image name.now).sites least.old }
 {
     let ty = image_type(name, place);
     images(ty, place, least);
-    Told {
+    Typed {
         ty,
         target: is_image_target(image, place),
     }
@@ -125,8 +125,8 @@ fn attribute(cursor: &Option<Name>, place: &Place<'_>, known: &Scopes<'_>, least
 }
 
 /// A place of a row or of binds.
-fn placed(least: &mut Option<u8>) -> Told
-    ensures told { result ≡ spec.only_value None }
+fn placed(least: &mut Option<u8>) -> Typed
+    ensures typed { result ≡ spec.only_value None }
     ensures least { least.new ≡ noted (site.Placed ∷ []) least.old }
 {
     must(least, 12, false);
@@ -135,8 +135,8 @@ fn placed(least: &mut Option<u8>) -> Told
 
 /// Judges an expression, and tells its type and whether it may be assigned.
 #[cycle(expression)]
-pub fn expression(e: &Expr, place: &Place<'_>, known: &Scopes<'_>, least: &mut Option<u8>) -> Told
-    ensures told { result ≡ (spec.reading_of e.now (env place.now known.now)).told }
+pub fn expression(e: &Expr, place: &Place<'_>, known: &Scopes<'_>, least: &mut Option<u8>) -> Typed
+    ensures typed { result ≡ (spec.reading_of e.now (env place.now known.now)).typed }
     ensures least { least.new ≡ noted (spec.reading_of e.now (env place.now known.now)).sites least.old }
 {
     match e {
@@ -240,8 +240,8 @@ pub fn wanted(
 )
     ensures { least.new ≡ noted (spec.wanted ty (spec.reading_of e.now) (env place.now known.now)) least.old }
 {
-    let told = expression(e, place, known, least);
-    must(least, 4, alike(Some(ty), told.ty));
+    let typed = expression(e, place, known, least);
+    must(least, 4, alike(Some(ty), typed.ty));
 }
 
 #[cycle(expression)]
@@ -287,8 +287,8 @@ fn compared(
 )
     ensures { least.new ≡ noted (spec.compared comparison ty (spec.reading_of e.now) (env place.now known.now)) least.old }
 {
-    let told = expression(e, place, known, least);
-    compares_with(comparison, ty, told.ty, least);
+    let typed = expression(e, place, known, least);
+    compares_with(comparison, ty, typed.ty, least);
 }
 
 /// The equalities of `x IN (..)`, where the type of x has been read.
@@ -331,8 +331,8 @@ fn sum_from(
     place: &Place<'_>,
     known: &Scopes<'_>,
     least: &mut Option<u8>,
-) -> Told
-    ensures told { result ≡ (spec.sum_from first (map spec.term_of more.now) (env place.now known.now)).told }
+) -> Typed
+    ensures typed { result ≡ (spec.sum_from first (map spec.term_of more.now) (env place.now known.now)).typed }
     ensures least { least.new ≡ noted (spec.sum_from first (map spec.term_of more.now) (env place.now known.now)).sites least.old }
 {
     let mut ty = first;
@@ -351,8 +351,8 @@ fn call(
     place: &Place<'_>,
     known: &Scopes<'_>,
     least: &mut Option<u8>,
-) -> Told
-    ensures told { result ≡ (spec.call_reading (builtin_at path.now.name path.now.member) path.now (map spec.reading_of operands.now) (env place.now known.now)).told }
+) -> Typed
+    ensures typed { result ≡ (spec.call_reading (builtin_at path.now.name path.now.member) path.now (map spec.reading_of operands.now) (env place.now known.now)).typed }
     ensures least { least.new ≡ noted (spec.call_reading (builtin_at path.now.name path.now.member) path.now (map spec.reading_of operands.now) (env place.now known.now)).sites least.old }
 {
     match builtin(path) {
@@ -378,15 +378,15 @@ fn builtin_operands(
     place: &Place<'_>,
     known: &Scopes<'_>,
     least: &mut Option<u8>,
-) -> Told
-    ensures told { result ≡ (spec.builtin_operands f (map spec.reading_of operands.now) (env place.now known.now)).told }
+) -> Typed
+    ensures typed { result ≡ (spec.builtin_operands f (map spec.reading_of operands.now) (env place.now known.now)).typed }
     ensures least { least.new ≡ noted (spec.builtin_operands f (map spec.reading_of operands.now) (env place.now known.now)).sites least.old }
 {
     if takes_any_type(f) {
         return one_type(operands, place, known, least);
     }
     operands_of(f, operands, place, known, least);
-    value(given(f))
+    value(builtin_type(f))
 }
 
 /// Operands of any one type, which is that of the whole.
@@ -396,15 +396,15 @@ fn one_type(
     place: &Place<'_>,
     known: &Scopes<'_>,
     least: &mut Option<u8>,
-) -> Told
-    ensures told { result ≡ (spec.one_type None (map spec.reading_of operands.now) (env place.now known.now)).told }
+) -> Typed
+    ensures typed { result ≡ (spec.one_type None (map spec.reading_of operands.now) (env place.now known.now)).typed }
     ensures least { least.new ≡ noted (spec.one_type None (map spec.reading_of operands.now) (env place.now known.now)).sites least.old }
 {
     let mut ty = None;
     for e in operands.as_slice() {
-        let told = expression(e.get(), place, known, least);
-        must(least, 4, alike(ty, told.ty));
-        ty = first_known(ty, told.ty);
+        let typed = expression(e.get(), place, known, least);
+        must(least, 4, alike(ty, typed.ty));
+        ty = first_known(ty, typed.ty);
     }
     only_value(ty)
 }
@@ -456,20 +456,20 @@ pub fn arguments(
 {
     let mut rest = parameters;
     for e in list.as_slice() {
-        let told = expression(e.get(), place, known, least);
-        rest = passed(rest, told, place, least);
+        let typed = expression(e.get(), place, known, least);
+        rest = passed(rest, typed, place, least);
     }
 }
 
 /// Judges an argument against the first of the parameters that are left, and gives the others.
 fn passed<'p>(
     parameters: &'p [Parameter],
-    told: Told,
+    typed: Typed,
     place: &Place<'_>,
     least: &mut Option<u8>,
 ) -> &'p [Parameter]
     ensures rest { result.now ≡ drop 1 parameters.now }
-    ensures least { least.new ≡ noted (spec.passed (env place.now []) parameters.now told) least.old }
+    ensures least { least.new ≡ noted (spec.passed (env place.now []) parameters.now typed) least.old }
 {
     match parameters.split_first() {
         None => parameters,
@@ -477,9 +477,9 @@ fn passed<'p>(
             must(
                 least,
                 4,
-                alike(parameter_type(place.seen, &parameter.ty), told.ty),
+                alike(parameter_type(place.seen, &parameter.ty), typed.ty),
             );
-            must(least, 6, !is_out(parameter.mode) || told.target);
+            must(least, 6, !is_out(parameter.mode) || typed.target);
             rest
         }
     }

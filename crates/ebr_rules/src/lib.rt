@@ -13,12 +13,12 @@ mod judge;
 mod mention;
 mod sql;
 mod targets;
-mod told;
+mod typed;
 mod verdict;
 
 pub use expressions::{arguments, expression, parameters_of, wanted};
 pub use judge::{calls, cursors, raises};
 pub use sql::{delete, insert, query, update};
 pub use targets::{into, target};
-pub use told::Told;
+pub use typed::Typed;
 pub use verdict::must;

@@ -56,9 +56,9 @@ handed_back k [] σ = []
 handed_back k (f ∷ fs) σ = if f.gives then variable k σ ∷ handed_back (suc k) fs σ else handed_back (suc k) fs σ
 
 -- what was computed is what a function gives
-abbrev pub given : Bool → List Value → List Value
-given true vs = vs
-given false vs = []
+abbrev pub result_values : Bool → List Value → List Value
+result_values true vs = vs
+result_values false vs = []
 
 -- the caller goes on with its own memory, and with what is given back
 abbrev pub back_in : Memory → List Value → State → State
@@ -68,7 +68,7 @@ abbrev pub left_on : End → Part → Memory → Outcome → Outcome
 left_on Waiting p m o = o
 left_on (Raised f) p m o = ended (Raised f) (back_in m [] o.state)
 left_on (Stopped c) p m o = ended (Stopped c) (back_in m [] o.state)
-left_on e p m o = ended Normal (back_in m (given p.function o.state.memory.operands ++ handed_back 0 p.formals o.state) o.state)
+left_on e p m o = ended Normal (back_in m (result_values p.function o.state.memory.operands ++ handed_back 0 p.formals o.state) o.state)
 
 abbrev pub left : Part → Memory → Outcome → Outcome
 left p m o = left_on o.end p m o
@@ -114,13 +114,13 @@ too_deep (Some p) σ = raises (ebr 8) σ
 -- ---- packages
 
 -- the making that fails takes the state away
-abbrev pub kept_on : End → Word → Outcome → Outcome
-kept_on (Raised f) p o = ended (Raised f) (with_packages (forget p o.state.packages) o.state)
-kept_on (Stopped c) p o = ended (Stopped c) (with_packages (forget p o.state.packages) o.state)
-kept_on e p o = o
+abbrev pub forget_on : End → Word → Outcome → Outcome
+forget_on (Raised f) p o = ended (Raised f) (with_packages (forget p o.state.packages) o.state)
+forget_on (Stopped c) p o = ended (Stopped c) (with_packages (forget p o.state.packages) o.state)
+forget_on e p o = o
 
-abbrev pub kept : Word → Outcome → Outcome
-kept p o = kept_on o.end p o
+abbrev pub forget_if_failed : Word → Outcome → Outcome
+forget_if_failed p o = forget_on o.end p o
 
 abbrev pub first_state : Word → Made → Bool → PackageState
 first_state p made stateful = record { name = p; made = made; stateful = stateful; members = []; cursors = [] }
@@ -129,7 +129,7 @@ first_state p made stateful = record { name = p; made = made; stateful = statefu
 abbrev pub make : Option Making → Made → Word → Calls → Runs
 make None made p calls σ = raises (ora 6508) σ
 make (Some m) made p calls σ =
-    kept p (left (record { formals = []; function = false; autonomous = false; run = m.run }) σ.memory
+    forget_if_failed p (left (record { formals = []; function = false; autonomous = false; run = m.run }) σ.memory
     (m.run calls (bare (with_memory (fresh []) (with_packages (σ.packages ++ first_state p made m.stateful ∷ []) σ)))))
 
 -- The state was made from what is no longer visible: it is lost, and where there was anything in it, ORA-04068 is raised.

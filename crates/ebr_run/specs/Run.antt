@@ -65,7 +65,7 @@ start packages frame left answers = record {
   asks = [];
   steps = 0;
   left = left;
-  given = answers;
+  answers = answers;
 }
 
 -- a part runs from its beginning

@@ -40,7 +40,7 @@ pub record State : Type 0 where
   pub asks : List Ask
   pub steps : ℕ
   pub left : ℕ  -- the most steps that there may be
-  pub given : List Answer  -- the answers to come
+  pub answers : List Answer  -- the answers to come
 
 -- How a run ended. What ends by Stopped, no handler catches.
 pub data End : Type 0 where
@@ -198,11 +198,11 @@ answered a σ k = k a σ
 
 abbrev pub next_answer : List Answer → State → (Answer → Runs) → Outcome
 next_answer [] σ k = ended Waiting σ
-next_answer (a ∷ given) σ k = answered a (record σ { given = given }) k
+next_answer (a ∷ answers) σ k = answered a (record σ { answers = answers }) k
 
 -- an ask, and what is done with its answer, where it is given
 abbrev pub asked : Ask → State → (Answer → Runs) → Outcome
-asked q σ k = next_answer σ.given (record σ { asks = σ.asks ++ q ∷ [] }) k
+asked q σ k = next_answer σ.answers (record σ { asks = σ.asks ++ q ∷ [] }) k
 
 -- an ask that is answered Done
 abbrev pub when_done : Answer → Runs → Runs

@@ -16,7 +16,7 @@ use Rattle.ebr_run.specs.State.{Memory, State, Outcome, End, Runs, Row, Normal, 
 use Rattle.ebr_run.specs.Values.{unfit, when_fit}
 use Rattle.ebr_run.specs.Scope.{body_key}
 use Rattle.ebr_run.specs.Expressions.{Calls}
-use Rattle.ebr_run.specs.Calls.{Formal, Part, Making, Parts, returned_on, left_on, left, fresh, body, entered, received, agrees, enter, too_deep, kept_on, first_state, make, outdated, refer_to, refer_in, by_frames, by_makings}
+use Rattle.ebr_run.specs.Calls.{Formal, Part, Making, Parts, returned_on, left_on, left, fresh, body, entered, received, agrees, enter, too_deep, forget_on, first_state, make, outdated, refer_to, refer_in, by_frames, by_makings}
 use Rattle.ebr_run.specs.Units.{with_specification}
 use Rattle.ebr_code.specs.declared.instruction.Instruction.{Instruction}
 use Rattle.ebr_code.specs.declared.book.Subprogram.{Subprogram}
@@ -94,7 +94,7 @@ deep_grows (Some p) σ = record { left_is = refl; le = omega arith; more = same 
 
 -- ---- packages
 
-pub kept_grows : (l s : ℕ) (w : List (List ℕ)) (e : End) (p : Word) (o : Outcome) → Rises l s w o → Rises l s w (kept_on e p o)
+pub kept_grows : (l s : ℕ) (w : List (List ℕ)) (e : End) (p : Word) (o : Outcome) → Rises l s w o → Rises l s w (forget_on e p o)
 kept_grows l s w (Raised f) p o h = record { left_is = h.left_is; le = h.le; more = h.more }
 kept_grows l s w (Stopped c) p o h = record { left_is = h.left_is; le = h.le; more = h.more }
 kept_grows l s w Normal p o h = h

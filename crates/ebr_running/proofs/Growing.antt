@@ -7,7 +7,7 @@ use Rattle.ebr_run.specs.declared.fault.Fault.{Fault}
 use Rattle.ebr_run.specs.Cursors.{Closed}
 use Rattle.ebr_run.specs.State.{Outcome, Runs, bare, ended, done, after_turn, loop}
 use Rattle.ebr_run.specs.Values.{with_cursor}
-use Rattle.ebr_run.specs.Calls.{left, returned, kept}
+use Rattle.ebr_run.specs.Calls.{left, returned, forget_if_failed}
 use Rattle.ebr_code.specs.declared.instruction.Instruction.{Instruction}
 use Rattle.ebr_code.specs.declared.instruction.Lookup.{Lookup}
 use Rattle.ebr_code.specs.Books.{Book}
@@ -56,7 +56,7 @@ resume_grows book m n (task.Autonomous function code ∷ ts) s l t w o h =
 resume_grows book m n (task.Close ∷ ts) s l t w o h = resume_grows book m n ts s l t w _ (close_on_grows l t w o.end o h)
 resume_grows book m n (task.Making name m' ∷ ts) s l t w o h =
     let o1 = left nothing (memory_of s) o in
-    let o2 = kept name o1 in
+    let o2 = forget_if_failed name o1 in
     resume_grows book m' n ts (outer s) l t w _ (go_on_grows l t w o2.end o2 _ (kept_grows l t w o1.end name o1 (left_grows l t w o.end nothing (memory_of s) o h)) (holding_grows (operands_of s)))
 resume_grows book m n (task.Call c ∷ ts) s l t w o h =
     let p = part_in c.unit c.place in

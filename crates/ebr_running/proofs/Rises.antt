@@ -125,10 +125,10 @@ answered_grows answer.Stopped k h σ = h answer.Stopped σ
 
 next_answer_grows : (given : List Answer) (σ : State) (k : Answer → Runs) → ((a : Answer) → Grows (k a)) → Rises σ.left σ.steps σ.lines (next_answer given σ k)
 next_answer_grows [] σ k h = record { left_is = refl; le = omega arith; more = same _ }
-next_answer_grows (a ∷ given) σ k h = let x = answered_grows a k h (record σ { given = given }) in record { left_is = x.left_is; le = x.le; more = x.more }
+next_answer_grows (a ∷ given) σ k h = let x = answered_grows a k h (record σ { answers = given }) in record { left_is = x.left_is; le = x.le; more = x.more }
 
 pub asked_grows : (q : Ask) (k : Answer → Runs) → ((a : Answer) → Grows (k a)) → Grows (λ σ. asked q σ k)
-asked_grows q k h σ = let x = next_answer_grows σ.given (record σ { asks = σ.asks ++ q ∷ [] }) k h in record { left_is = x.left_is; le = x.le; more = x.more }
+asked_grows q k h σ = let x = next_answer_grows σ.answers (record σ { asks = σ.asks ++ q ∷ [] }) k h in record { left_is = x.left_is; le = x.le; more = x.more }
 
 pub when_done_grows : (a : Answer) (k : Runs) → Grows k → Grows (when_done a k)
 when_done_grows answer.Done k h σ = h σ

@@ -11,7 +11,7 @@ use Rattle.ebr_run.specs.State.{Memory, Row, State, Outcome, End, Runs, bare, en
 use Rattle.ebr_run.specs.Values.{with_cursor}
 use Rattle.ebr_run.specs.Expressions.{Calls, given_back}
 use Rattle.ebr_run.specs.Statements.{between}
-use Rattle.ebr_run.specs.Calls.{Part, left, returned, kept, by_frames, by_makings}
+use Rattle.ebr_run.specs.Calls.{Part, left, returned, forget_if_failed, by_frames, by_makings}
 use Rattle.ebr_base.specs.declared.code.Code.TheVariants.{Ebr}
 use Rattle.ebr_code.specs.declared.instruction.Instruction.{Instruction}
 use Rattle.ebr_code.specs.declared.instruction.Lookup.{Lookup}
@@ -89,7 +89,7 @@ resume book m n (task.Closing l ∷ ts) s o = resume book m n ts s (finally o (w
 resume book m n (task.Function ∷ ts) s o = resume book m n ts s (returned true o)
 resume book m n (task.Autonomous function code ∷ ts) s o = resume book m n ts s (then_run o (by_itself function (runs code (calls_at book m n))))
 resume book m n (task.Close ∷ ts) s o = resume book m n ts s (closed o)
-resume book m n (task.Making name m' ∷ ts) s o = resume book m' n ts (outer s) (then_run (kept name (left nothing (memory_of s) o)) (holding (operands_of s)))
+resume book m n (task.Making name m' ∷ ts) s o = resume book m' n ts (outer s) (then_run (forget_if_failed name (left nothing (memory_of s) o)) (holding (operands_of s)))
 resume book m n (task.Call c ∷ ts) s o = resume book m c.frames_left ts (outer s) (given_back c.results (left (part_in c.unit c.place) (memory_of s) o) (above (operands_of s)))
 
 -- ---- the machine
@@ -99,7 +99,7 @@ row_of f = record { op = f.op; old = f.old; new = f.new }
 
 -- where a run stands, if these asks were handed out and these answers are still to come
 abbrev pub state_of : Running → List Ask → List Answer → State
-state_of m asks given = record {
+state_of m asks answers = record {
   memory = record { variables = m.variables.top; cursors = m.cursors.top; faults = m.faults.top; operands = m.operands.top };
   packages = m.packages;
   row = option_map row_of m.row;
@@ -109,7 +109,7 @@ state_of m asks given = record {
   asks = asks;
   steps = m.steps;
   left = m.left;
-  given = given;
+  answers = answers;
 }
 
 abbrev pub saved_of : Running → Saved
@@ -147,7 +147,7 @@ stands_at m σ = awake m.flow m.fault m.ask m.pending m.lookup σ
 
 -- all that a run will do
 abbrev pub rest_of : Book → Running → List Ask → List Answer → Outcome
-rest_of book m asks given = resume book m.makings_left m.frames_left m.tasks (saved_of m) (stands_at m (state_of m asks given))
+rest_of book m asks answers = resume book m.makings_left m.frames_left m.tasks (saved_of m) (stands_at m (state_of m asks answers))
 
 abbrev pub calls : Book → Running → Calls
 calls book m = calls_at book m.makings_left m.frames_left
@@ -176,20 +176,20 @@ stand c l o = record { calls = c; later = l; here = o }
 -- new is what old becomes where what has this meaning begins, whatever it may call, and has the same to do later
 abbrev pub Computes : Running → Running → Meaning → Type 0
 Computes old new m =
-    (calls : Calls) (asks : List Ask) (given : List Answer)
-    → stand calls (later_of new) (stands_at new (state_of new asks given)) ≡ stand calls (later_of old) (m calls (state_of old asks given))
+    (calls : Calls) (asks : List Ask) (answers : List Answer)
+    → stand calls (later_of new) (stands_at new (state_of new asks answers)) ≡ stand calls (later_of old) (m calls (state_of old asks answers))
 
 -- the same of what calls nothing
 abbrev pub Moves : Running → Running → Runs → Type 0
 Moves old new f =
-    (calls : Calls) (asks : List Ask) (given : List Answer)
-    → stand calls (later_of new) (stands_at new (state_of new asks given)) ≡ stand calls (later_of old) (f (state_of old asks given))
+    (calls : Calls) (asks : List Ask) (answers : List Answer)
+    → stand calls (later_of new) (stands_at new (state_of new asks answers)) ≡ stand calls (later_of old) (f (state_of old asks answers))
 
 -- new is what old becomes where this begins
 abbrev pub DoesIn : Book → Running → Running → Runs → Type 0
 DoesIn book old new f =
-    (asks : List Ask) (given : List Answer)
-    → rest_of book new asks given ≡ resume book old.makings_left old.frames_left old.tasks (saved_of old) (f (state_of old asks given))
+    (asks : List Ask) (answers : List Answer)
+    → rest_of book new asks answers ≡ resume book old.makings_left old.frames_left old.tasks (saved_of old) (f (state_of old asks answers))
 
 abbrev pub Does : Running → Running → Runs → Type 0
 Does old new f = (book : Book) → DoesIn book old new f
@@ -204,8 +204,8 @@ Acts old new m = (book : Book) → ActsIn book old new m
 -- new is what old becomes where what is above these tasks has ended
 abbrev pub FollowsIn : Book → Running → Running → List Task → Type 0
 FollowsIn book old new ts =
-    (asks : List Ask) (given : List Answer)
-    → rest_of book new asks given ≡ resume book old.makings_left old.frames_left ts (saved_of old) (ended (end_of old.flow old.fault) (state_of old asks given))
+    (asks : List Ask) (answers : List Answer)
+    → rest_of book new asks answers ≡ resume book old.makings_left old.frames_left ts (saved_of old) (ended (end_of old.flow old.fault) (state_of old asks answers))
 
 abbrev pub Follows : Running → Running → List Task → Type 0
 Follows old new ts = (book : Book) → FollowsIn book old new ts
@@ -230,8 +230,8 @@ absorbed a m σ = answered a σ (after m.pending m.lookup m.fault)
 
 -- all that a run will do, with the answer that has arrived, if one has, to the last of these asks
 abbrev pub stands : Book → Running → Option Answer → List Ask → List Answer → Outcome
-stands book m None asks given = rest_of book m asks given
-stands book m (Some a) asks given = resume book m.makings_left m.frames_left m.tasks (saved_of m) (absorbed a m (state_of m asks given))
+stands book m None asks answers = rest_of book m asks answers
+stands book m (Some a) asks answers = resume book m.makings_left m.frames_left m.tasks (saved_of m) (absorbed a m (state_of m asks answers))
 
 -- ---- where a run begins
 

@@ -53,7 +53,7 @@ module _ (used : ℕ) (d : Data) (seats : List Seat) (db : Database) (s : Sessio
     pub goes : (out : Outcome Base Done) (a : Done) (old new : Keeper) → used' ≡ new.used → Said out (base_of d' new) old new a → IsReadBack db out → Goes old new d' (with_seat seats s seat') (as_answer a) (replied db s x' out)
     goes out a old new same said back = record {
       answer = ap as_answer (sym said.value);
-      kept = said.kept;
+      grew = said.grew;
       holds = subst (λ n. Holds n d' (with_seat seats s seat') (replied db s x' out).database) same
           (holds_on out back (said.state ∙ (λ i. record { data_now = d'; used = sym same i })));
     }

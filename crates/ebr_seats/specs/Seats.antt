@@ -110,7 +110,7 @@ pub record Leaves (used : ℕ) (d : Data) (seats : List Seat) (a : Answer) (r : 
 -- The answer is that of the reply, its records were kept, and its database is held.
 pub record Goes (old new : Keeper) (d : Data) (seats : List Seat) (a : Answer) (r : Replied) : Type 0 where
   pub answer : a ≡ r.answer
-  pub kept : Grew old new r.records
+  pub grew : Grew old new r.records
   pub holds : Holds new.used d seats r.database
 
 -- by what a call answers that may find no memory

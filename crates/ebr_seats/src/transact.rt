@@ -63,8 +63,8 @@ pub fn commit_top<K: Keep>(
     s: SessionId,
 ) -> Result<(), Failure>
     requires { IsHeld tx.old.contents seats.old.items s }
-    ensures { ForSession tx.old.contents seats.old.items s (λ used db x. used ≡ (K.told keeper.old).used
-        → Finishes (K.told keeper.old) (K.told keeper.new) tx.new.contents seats.new.items result (reply_commit db s x)) }
+    ensures { ForSession tx.old.contents seats.old.items s (λ used db x. used ≡ (K.as_keeper keeper.old).used
+        → Finishes (K.as_keeper keeper.old) (K.as_keeper keeper.new) tx.new.contents seats.new.items result (reply_commit db s x)) }
 {
     asks_are_read_back();
     let t = top_of(seats.as_slice(), s);

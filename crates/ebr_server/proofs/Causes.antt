@@ -150,19 +150,19 @@ ran_right Try bytes held sink_faults words c h ends faults report r = record {
         let one : OneEnded sink_failed ends = elim (one_of (any_end sink_failed ends) false any) [ inl some ↦ which_ended sink_failed ends some | inr none ↦ absurd cc ] in
         ap (λ e. e.end) (sym (lone_end ends r.ran.end one.place one.end r.ran.one one.is_end)) ∙ failed_kind one.end.end one.so
 ran_right Rehearse bytes held sink_faults words c h ends faults report r = record {
-  has_run = has_run ends r.told.unwritten c r.told.is_code;
+  has_run = has_run ends r.summed.unwritten c r.summed.is_code;
   is_history = subst (λ n. IsHistory n h) sessions r.ran.are_ends.is_history;
   short = λ v opens. at_word v opens.1 (from_order v (v - 2) (omega (arith, opens.0)));
   order = λ same. order_right (told_at bytes words order_place) r.ran.is_order.is;
-  sink = λ is. by_sink (one_of (any_end sink_failed ends) r.told.unwritten (is_sink_fault (any_end wants_memory ends) (any_end sink_failed ends || r.told.unwritten) (sym is ∙ r.told.is_code)));
-  done = λ is. done_ended ends r.told.unwritten c r.told.is_code is;
+  sink = λ is. by_sink (one_of (any_end sink_failed ends) r.summed.unwritten (is_sink_fault (any_end wants_memory ends) (any_end sink_failed ends || r.summed.unwritten) (sym is ∙ r.summed.is_code)));
+  done = λ is. done_ended ends r.summed.unwritten c r.summed.is_code is;
 }
   where
-    by_sink : (any_end sink_failed ends ≡ true) ⊎ (r.told.unwritten ≡ true) → (0 < faults) ⊎ SinkFailed sink_faults ends
+    by_sink : (any_end sink_failed ends ≡ true) ⊎ (r.summed.unwritten ≡ true) → (0 < faults) ⊎ SinkFailed sink_faults ends
     by_sink which =
         elim which [
           | inl some ↦ inr (failed_sink held sink_faults r.ran.scripts h ends r.ran.are_ends (which_ended sink_failed ends some))
-          | inr unwritten ↦ inl (r.told.failed unwritten)
+          | inr unwritten ↦ inl (r.summed.failed unwritten)
         ]
 
     sessions : length r.ran.scripts ≡ length words - 3
@@ -346,7 +346,7 @@ module _ (bytes : Told) (words : List (List ℕ)) (fails : Type 0) where
 
   complete_stop : (k : Command) (d : ExitCode) → AllRight k bytes words → (fails → ⊥) → StopsOf k d → IsComplete d
   complete_stop k (code.HostFault v) right none s = absurd (none (at_host k v s).2)
-  complete_stop k (code.TooLong v) right none s = absurd (not_long (told_at bytes words v) (at_long k v s).2 (right.told v (at_long k v s).0))
+  complete_stop k (code.TooLong v) right none s = absurd (not_long (told_at bytes words v) (at_long k v s).2 (right.texts v (at_long k v s).0))
   complete_stop k (code.BadOrder at) right none s = absurd (not_wrong (told_at bytes words order_place) n at (at_bad k at s).2 (right_order k (at_bad k at s).0 right))
   complete_stop k code.NoMemory right none s = tt
   complete_stop k code.Done right none s = absurd (no_done k s)

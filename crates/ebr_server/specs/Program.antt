@@ -195,7 +195,7 @@ pub record EndsTold {S : Type 0} (words : List (List ℕ)) (c : ExitCode) (ends 
 pub record RehearseRan {S : Type 0} (sink_held : S → Option (List ℕ)) (sink_faults : S → ℕ) (bytes : List ℕ → Option (List ℕ)) (words : List (List ℕ)) (c : ExitCode) (history : List Entry) (ends : List (SessionEnd S)) (faults : ℕ)
     (held : Option (List ℕ)) : Type 0 where
   pub ran : SessionsRan sink_held sink_faults bytes words history ends
-  pub told : EndsTold words c ends faults held
+  pub summed : EndsTold words c ends faults held
 
 -- ---- what `serve` comes to
 
@@ -262,5 +262,5 @@ OrderTold command.Try bytes words = Unit {0}
 OrderTold command.Rehearse bytes words = IsSomeAnd (told_at bytes words order_place) (λ told. wrong_at (sessions_of command.Rehearse words) told ≡ None)
 
 pub record AllRight (c : Command) (bytes : List ℕ → Option (List ℕ)) (words : List (List ℕ)) : Type 0 where
-  pub told : (at : ℕ) → Opens (Some c) words at → IsSomeAnd (told_at bytes words at) (λ told. length told ≤ most)
+  pub texts : (at : ℕ) → Opens (Some c) words at → IsSomeAnd (told_at bytes words at) (λ told. length told ≤ most)
   pub order : OrderTold c bytes words

@@ -17,18 +17,18 @@ use Rattle.ebr_session.specs.Has.{answers, asks}
 use Rattle.ebr_session.specs.Sessions.{SessionRun}
 use Rattle.ebr_core.specs.History.{Mine}
 use Rattle.ebr_worker.specs.Ends.{RanToEnd}
-use Rattle.ebr_worker.specs.Matches.{ask_kept, kept}
+use Rattle.ebr_worker.specs.Matches.{ask_recorded, as_recorded}
 use Rattle.ebr_servertests.specs.WorkedScripts.{Gives, CallsGive, UpgradeGives, call_of, the_session}
 use Rattle.ebr_servertests.proofs.Histories.{exchanged, history_of, name_a, first_edition, second_edition, nothing_legal, calls, calls_legal, upgrade, upgrade_legal}
 use Rattle.ebr_servertests.proofs.Prints.{a_prints, b_prints, a_prints_next}
 use Rattle.ebr_servertests.proofs.Valid.{made_in, seeing, call_checks}
 
 -- where no answer stopped the session, its exchanges are those of the history
-kept_ask : (q : Ask) (x : Answer) → Continues x → ask_kept q x ≡ q
+kept_ask : (q : Ask) (x : Answer) → Continues x → ask_recorded q x ≡ q
 kept_ask q Stopped on = absurd on
 kept_ask q x on = refl
 
-all_kept : (before : List Exchange) → AllContinue (answers before) → map kept (before ++ exchanged Leave Done ∷ []) ≡ before ++ exchanged Leave Done ∷ []
+all_kept : (before : List Exchange) → AllContinue (answers before) → map as_recorded (before ++ exchanged Leave Done ∷ []) ≡ before ++ exchanged Leave Done ∷ []
 all_kept [] on = refl
 all_kept (x ∷ before) on = λ i. record { ask = kept_ask x.ask x.answer on.0 i; answer = x.answer } ∷ all_kept before on.1 i
 
@@ -41,7 +41,7 @@ ran_so script before printed room last on run = record {
   before = before;
   last = last;
   went_on = on;
-  ran = record { transcript = Mine (history_of before) the_session; matches = last ∙ sym (all_kept before on) ∙ sym (ap (map kept) last); asked = ap (λ o. o.state.asks) run; printed_is = ap (λ o. o.state.printed) run; ended = ap (λ o. o.flow) run };
+  ran = record { transcript = Mine (history_of before) the_session; matches = last ∙ sym (all_kept before on) ∙ sym (ap (map as_recorded) last); asked = ap (λ o. o.state.asks) run; printed_is = ap (λ o. o.state.printed) run; ended = ap (λ o. o.flow) run };
 }
 
 abbrev a : List ℕ

@@ -50,7 +50,7 @@ one_statement s env =
     ap (λ r. r env) (body-out (block_of s))
     ∙ ap (λ b. in_block (map-Block Stmt Block Branch Handler In In In Handling in_statement in_body in_branch in_handler b) env) (out-roll-Block (record { declarations = []; statements = s ∷ []; handlers = [] }))
 
-reading-text : (line : List ℕ) → reading_of (e.Text line) ≡ λ env. record { told = only_value (type_of_text line); sites = [] }
+reading-text : (line : List ℕ) → reading_of (e.Text line) ≡ λ env. record { typed = only_value (type_of_text line); sites = [] }
 unfolding reading_of term_of expression.roll-Expr carrier.roll
 reading-text line =
     fold_out-Expr Read Term reads reads_term (e.Text line)
@@ -61,7 +61,7 @@ unfolding statement.roll-Stmt carrier.roll
 line_sites line env =
     ap (λ r. r env) (statement-out (stmt.PutLine (e.Text line)))
     ∙ ap (λ x. act (map-Stmt Stmt Block Branch Handler In In In Handling in_statement in_body in_branch in_handler x) env) (out-roll-Stmt (form.PutLine (e.Text line)))
-    ∙ ap (λ (r : Read). (r env).sites ++ Prints (r env).told.ty ∷ []) (reading-text line)
+    ∙ ap (λ (r : Read). (r env).sites ++ Prints (r env).typed.ty ∷ []) (reading-text line)
 
 call_sites-of : (name : List ℕ) (env : Env) → in_statement (stmt.Call (record { name = name; member = None }) (Some [])) env ≡ call_sites (record { name = name; member = None }) (Some []) env
 unfolding statement.roll-Stmt carrier.roll

@@ -50,7 +50,7 @@ module _ {B : Type 0} (serves : B → EditionNo → Book) where
 
   module _ (s : Parts B) (h : IsAnswered serves s) where
     abbrev mine : List Exchange
-    mine = s.kept.exchanges
+    mine = s.transcript.exchanges
 
     abbrev text : List ℕ
     text = s.script.script
@@ -70,24 +70,24 @@ module _ {B : Type 0} (serves : B → EditionNo → Book) where
         by_case (inr a) = awaits_ready serves s.work.stage a.last.ask (course_behind text a.before) (rest_of s.script) (spot a.before s) a.awaits
 
     -- It found no memory: what counts is as it was.
-    pub failed_moved : (script : Reading) (kept : Kept) (printed : List ℕ) (work : Work B) (book : Option B) → script.script ≡ text → kept.exchanges ≡ mine → printed ≡ s.printed → (HasRoom 1 s.kept → HasRoom 1 kept)
-        → HasFailed (record { session = s.session; script = script; kept = kept; printed = printed; quit = s.quit; work = work; book = book })
-    failed_moved script kept printed work book a b c room = record {
-      next = subst (λ t. WillAsk (course_behind t kept.exchanges) (asks kept.exchanges) printed) (sym a)
+    pub failed_moved : (script : Reading) (transcript : Kept) (printed : List ℕ) (work : Work B) (book : Option B) → script.script ≡ text → transcript.exchanges ≡ mine → printed ≡ s.printed → (HasRoom 1 s.transcript → HasRoom 1 transcript)
+        → HasFailed (record { session = s.session; script = script; transcript = transcript; printed = printed; quit = s.quit; work = work; book = book })
+    failed_moved script transcript printed work book a b c room = record {
+      next = subst (λ t. WillAsk (course_behind t transcript.exchanges) (asks transcript.exchanges) printed) (sym a)
           (subst (λ (l : List Exchange). WillAsk (course_behind text l) (asks l) printed) (sym b) (subst (λ y. WillAsk (course_behind text mine) (asks mine) y) (sym c) h.next));
-      still = subst (λ t. printed ≡ printed_before t (answers kept.exchanges) (length kept.exchanges)) (sym a)
+      still = subst (λ t. printed ≡ printed_before t (answers transcript.exchanges) (length transcript.exchanges)) (sym a)
           (subst (λ (l : List Exchange). printed ≡ printed_before text (answers l) (length l)) (sym b) (c ∙ h.still));
       went_on = subst (λ (l : List Exchange). AllContinue (answers l)) (sym b) h.went_on;
       no_quit = h.no_quit;
       room = room h.room;
     }
 
-    module _ (script : Reading) (kept : Kept) (printed : List ℕ) (work : Work B) (book : Option B) (q : Ask) (a : script.script ≡ text) (b : kept.exchanges ≡ mine) (room : HasRoom 2 kept) (grown : printed ≡ s.printed ++ work.fresh)
+    module _ (script : Reading) (transcript : Kept) (printed : List ℕ) (work : Work B) (book : Option B) (q : Ask) (a : script.script ≡ text) (b : transcript.exchanges ≡ mine) (room : HasRoom 2 transcript) (grown : printed ≡ s.printed ++ work.fresh)
         (first : mine ≡ [] → (f : Course) (bytes : List ℕ) → GoesOn f (rest_of s.script) (place [] bytes s.work.packages s.work.room) → Awaits serves work.stage q f (rest_of script) (here [] bytes work))
         (goes : IfSome (last_of mine) (λ e. Continues e.answer → (f : Course) (made : List Ask) (bytes : List ℕ) → Awaits serves s.work.stage e.ask f (rest_of s.script) (place made bytes s.work.packages s.work.room)
         → Awaits serves work.stage q (with_answer e.answer f) (rest_of script) (here (made ++ e.ask ∷ []) bytes work))) where
       abbrev now : Parts B
-      now = record { session = s.session; script = script; kept = kept; printed = printed; quit = s.quit; work = work; book = book }
+      now = record { session = s.session; script = script; transcript = transcript; printed = printed; quit = s.quit; work = work; book = book }
 
       abbrev AwaitsAt : List ℕ → List Exchange → List ℕ → Type 0
       AwaitsAt t l y = Awaits serves work.stage q (course_behind t l) (rest_of script) (place (asks l) y work.packages work.room)
@@ -113,8 +113,8 @@ module _ {B : Type 0} (serves : B → EditionNo → Book) where
       -- Its next ask is out.
       pub waits_now : Waits serves q now
       waits_now = record {
-        awaits = subst (λ t. AwaitsAt t kept.exchanges printed) (sym a) (subst (λ (l : List Exchange). AwaitsAt text l printed) (sym b) (subst (λ y. AwaitsAt text mine y) (sym grown) (asked_now h.by)));
-        least = subst (λ t. IsPrefix (printed_before t (answers kept.exchanges) (length kept.exchanges)) printed) (sym a)
+        awaits = subst (λ t. AwaitsAt t transcript.exchanges printed) (sym a) (subst (λ (l : List Exchange). AwaitsAt text l printed) (sym b) (subst (λ y. AwaitsAt text mine y) (sym grown) (asked_now h.by)));
+        least = subst (λ t. IsPrefix (printed_before t (answers transcript.exchanges) (length transcript.exchanges)) printed) (sym a)
             (subst (λ (l : List Exchange). IsPrefix (printed_before text (answers l) (length l)) printed) (sym b) (record { rest = work.fresh; whole = grown ∙ ap (λ y. y ++ work.fresh) h.still }));
         went_on = subst (λ (l : List Exchange). AllContinue (answers l)) (sym b) h.went_on;
         no_quit = h.no_quit;
@@ -127,7 +127,7 @@ module _ {B : Type 0} (serves : B → EditionNo → Book) where
         is = λ i. record { session = s.session; script = a i; transcript = b i; printed = printed; quit = s.quit; out = o i; ended = false };
         more = record { rest = work.fresh; whole = grown };
         leaves = subst (λ k. IfSome k (λ n. (q ≡ ask.Leave) × (printed ≡ s.printed))) (sym h.no_quit) tt;
-        fit = awaits_fit serves work.stage q (course_behind script.script kept.exchanges) (rest_of script) (spot kept.exchanges now) waits_now.awaits;
+        fit = awaits_fit serves work.stage q (course_behind script.script transcript.exchanges) (rest_of script) (spot transcript.exchanges now) waits_now.awaits;
       }
 
   -- It leaves.

@@ -87,7 +87,7 @@ first_of mine e = ap (take (length mine)) (answers_more mine e) ∙ ap (λ n. ta
 
 module _ {B : Type 0} (serves : B → EditionNo → Book) (s : Parts B) where
   abbrev mine : List Exchange
-  mine = s.kept.exchanges
+  mine = s.transcript.exchanges
 
   abbrev script : List ℕ
   script = s.script.script
@@ -180,20 +180,20 @@ follows serves phase.Over out s h = h
 
 -- what a session keeps where it has taken an answer
 abbrev pub with_exchange : {B : Type 0} → Exchange → Option B → Kept → Parts B → Parts B
-with_exchange e book kept s = record s { kept = kept; book = book }
+with_exchange e book transcript s = record s { transcript = transcript; book = book }
 
-module _ {B : Type 0} (serves : B → EditionNo → Book) (s : Parts B) (kept : Kept) (book : Option B) (q : Ask) (x : Answer) (more : kept.exchanges ≡ s.kept.exchanges ++ exchange q x ∷ []) where
+module _ {B : Type 0} (serves : B → EditionNo → Book) (s : Parts B) (transcript : Kept) (book : Option B) (q : Ask) (x : Answer) (more : transcript.exchanges ≡ s.transcript.exchanges ++ exchange q x ∷ []) where
   abbrev old : List Exchange
-  old = s.kept.exchanges
+  old = s.transcript.exchanges
 
   abbrev text : List ℕ
   text = s.script.script
 
   abbrev now : Parts B
-  now = record s { kept = kept; book = book }
+  now = record s { transcript = transcript; book = book }
 
   -- It goes on.
-  module _ (h : Waits serves q s) (room : HasRoom 1 kept) (suits : Suits serves x book) (stays : Stays q) (goes : Continues x) where
+  module _ (h : Waits serves q s) (room : HasRoom 1 transcript) (suits : Suits serves x book) (stays : Stays q) (goes : Continues x) where
     next_taken : WillAsk (course_behind text (old ++ exchange q x ∷ [])) (asks (old ++ exchange q x ∷ [])) s.printed
     next_taken = subst (λ (f : Course). WillAsk f (asks (old ++ exchange q x ∷ [])) s.printed) (sym (same_course text old (exchange q x)))
         (subst (λ (made : List Ask). WillAsk (with_answer x (course_behind text old)) made s.printed) (sym (asks_more old (exchange q x)))
@@ -234,23 +234,23 @@ module _ {B : Type 0} (serves : B → EditionNo → Book) (s : Parts B) (kept : 
   stopped : (h : Waits serves q s) → stops x ≡ true → ends q x ≡ true → Follows (progress phase.Over None now)
   stopped h e over = ended_run h _ (ended_now (course_behind text old) q x (spot old s) (will serves s q h) e) refl refl refl over
 
-pub ends_waits : {B : Type 0} (serves : B → EditionNo → Book) (s : Parts B) (kept : Kept) (book : Option B) (q : Ask) (x : Answer) → kept.exchanges ≡ s.kept.exchanges ++ exchange q x ∷ [] → Waits serves q s → ends q x ≡ true
-    → Follows (progress phase.Over None (record s { kept = kept; book = book }))
-ends_waits serves s kept book ask.Leave x more h e =
-    let g = awaits_leave serves s.work.stage (course_behind s.script.script s.kept.exchanges) (rest_of s.script) (spot s.kept.exchanges s) h.awaits in
-    ended_run serves s kept book ask.Leave x more h _ (g.by (x ∷ []) None) refl refl refl e
-ends_waits serves s kept book q x more h e = stopped serves s kept book q x more h e e
+pub ends_waits : {B : Type 0} (serves : B → EditionNo → Book) (s : Parts B) (transcript : Kept) (book : Option B) (q : Ask) (x : Answer) → transcript.exchanges ≡ s.transcript.exchanges ++ exchange q x ∷ [] → Waits serves q s → ends q x ≡ true
+    → Follows (progress phase.Over None (record s { transcript = transcript; book = book }))
+ends_waits serves s transcript book ask.Leave x more h e =
+    let g = awaits_leave serves s.work.stage (course_behind s.script.script s.transcript.exchanges) (rest_of s.script) (spot s.transcript.exchanges s) h.awaits in
+    ended_run serves s transcript book ask.Leave x more h _ (g.by (x ∷ []) None) refl refl refl e
+ends_waits serves s transcript book q x more h e = stopped serves s transcript book q x more h e e
 
 -- where it had quit
-pub ends_quit : {B : Type 0} (serves : B → EditionNo → Book) (s : Parts B) (kept : Kept) (book : Option B) (q : Ask) (x : Answer) → kept.exchanges ≡ s.kept.exchanges ++ exchange q x ∷ [] → HasQuit (Some q) s
-    → Follows (progress phase.Over None (record s { kept = kept; book = book }))
-ends_quit serves s kept book q x more h =
-    let mine = s.kept.exchanges in
+pub ends_quit : {B : Type 0} (serves : B → EditionNo → Book) (s : Parts B) (transcript : Kept) (book : Option B) (q : Ask) (x : Answer) → transcript.exchanges ≡ s.transcript.exchanges ++ exchange q x ∷ [] → HasQuit (Some q) s
+    → Follows (progress phase.Over None (record s { transcript = transcript; book = book }))
+ends_quit serves s transcript book q x more h =
+    let mine = s.transcript.exchanges in
     let text = s.script.script in
     let r = run_left text mine (exchange q x) ∙ left_now (course_behind text mine) h.next.ask h.next.at h.next.will (x ∷ []) in
     let made : h.next.at.asks ++ ask.Leave ∷ [] ≡ asks mine ++ q ∷ [] = ap (λ l. l ++ ask.Leave ∷ []) h.next.asks_are ∙ ap (λ a. asks mine ++ a ∷ []) (sym h.leave) in
     let small : length mine ≤ length mine = omega arith in
-    ended_as serves s kept book q x more (Some (length mine)) h.quit_is _ r refl made (
+    ended_as serves s transcript book q x more (Some (length mine)) h.quit_is _ r refl made (
       subst (λ l. IsPrefix l s.printed) (sym (before_same text mine (exchange q x) (length mine) small)) h.least,
       record { rest = h.next.more.rest; whole = ap (λ (o : Outcome). o.state.printed) r ∙ h.next.more.whole },
       ap (λ (o : Outcome). o.state.printed) r ∙ sym (printed_next serves s h.next) ∙ ap (Printed text) (sym (first_of mine (exchange q x))),
@@ -259,16 +259,16 @@ ends_quit serves s kept book q x more h =
 
 -- ---- it quits
 
-pub quits_waits : {B : Type 0} (serves : B → EditionNo → Book) (s : Parts B) (q : Ask) → Waits serves q s → HasRoom 1 s.kept → HasQuit None (record s { quit = Some (length s.kept.exchanges) })
+pub quits_waits : {B : Type 0} (serves : B → EditionNo → Book) (s : Parts B) (q : Ask) → Waits serves q s → HasRoom 1 s.transcript → HasQuit None (record s { quit = Some (length s.transcript.exchanges) })
 quits_waits serves s q h room = record { next = next_waits serves s q h; least = h.least; went_on = h.went_on; quit_is = refl; leave = tt; room = room }
 
-pub quits_failed : {B : Type 0} (s : Parts B) → HasFailed s → HasQuit None (record s { quit = Some (length s.kept.exchanges) })
+pub quits_failed : {B : Type 0} (s : Parts B) → HasFailed s → HasQuit None (record s { quit = Some (length s.transcript.exchanges) })
 quits_failed s h = record { next = h.next; least = prefix_same _ _ h.still; went_on = h.went_on; quit_is = refl; leave = tt; room = h.room }
 
 pub failed_of : {B : Type 0} (serves : B → EditionNo → Book) (s : Parts B) → IsAnswered serves s → HasFailed s
 failed_of serves s h = record { next = h.next; still = h.still; went_on = h.went_on; no_quit = h.no_quit; room = h.room }
 
-pub quits_quit : {B : Type 0} (s : Parts B) (out : Option Ask) → HasQuit out s → HasQuit None (record s { quit = Some (length s.kept.exchanges) })
+pub quits_quit : {B : Type 0} (s : Parts B) (out : Option Ask) → HasQuit out s → HasQuit None (record s { quit = Some (length s.transcript.exchanges) })
 quits_quit s out h = record { next = h.next; least = h.least; went_on = h.went_on; quit_is = refl; leave = tt; room = h.room }
 
 pub leaves_quit : {B : Type 0} (s : Parts B) (out : Option Ask) → HasQuit out s → HasQuit (Some ask.Leave) s
@@ -276,25 +276,25 @@ leaves_quit s out h = record { next = h.next; least = h.least; went_on = h.went_
 
 -- ---- it begins
 
-begun_holds : {B : Type 0} (serves : B → EditionNo → Book) (id : SessionId) (script : List ℕ) (kept : Kept) (book : Option B) → kept.exchanges ≡ [] → HasRoom 1 kept
-    → IsAnswered serves (record { session = id; script = record { script = script; left = pieces_of script }; kept = kept; printed = []; quit = None; work = record { packages = []; room = most_room; fresh = []; stage = stage.Start }; book = book })
-begun_holds serves id script kept book none room =
+begun_holds : {B : Type 0} (serves : B → EditionNo → Book) (id : SessionId) (script : List ℕ) (transcript : Kept) (book : Option B) → transcript.exchanges ≡ [] → HasRoom 1 transcript
+    → IsAnswered serves (record { session = id; script = record { script = script; left = pieces_of script }; transcript = transcript; printed = []; quit = None; work = record { packages = []; room = most_room; fresh = []; stage = stage.Start }; book = book })
+begun_holds serves id script transcript book none room =
     let goes : GoesOn (course_behind script []) (run_pieces script (pieces_of script)) (place [] [] [] most_room) = record { by = λ coming quit. refl } in
-    subst (λ (k : Kept). IsAnswered serves (record { session = id; script = record { script = script; left = pieces_of script }; kept = k; printed = []; quit = None; work = record { packages = []; room = most_room; fresh = []; stage = stage.Start }; book = book }))
-    (λ i. record { exchanges = sym none i; room = kept.room })
+    subst (λ (k : Kept). IsAnswered serves (record { session = id; script = record { script = script; left = pieces_of script }; transcript = k; printed = []; quit = None; work = record { packages = []; room = most_room; fresh = []; stage = stage.Start }; book = book }))
+    (λ i. record { exchanges = sym none i; room = transcript.room })
     (record {
       by = inl (record { none = refl; ready = tt; goes = goes });
       next = next_pieces script (pieces_of script) (course_behind script []) (place [] [] [] most_room) goes;
       still = refl;
       went_on = tt;
       no_quit = refl;
-      room = subst (λ (l : List Exchange). HasRoom 1 (record { exchanges = l; room = kept.room })) none room;
+      room = subst (λ (l : List Exchange). HasRoom 1 (record { exchanges = l; room = transcript.room })) none room;
     })
 
-pub new_holds : {B : Type 0} (serves : B → EditionNo → Book) (id : SessionId) (script : List ℕ) (reading : Reading) (kept : Kept) (printed : List ℕ) (work : Work B) (book : Option B) → reading ≡ record { script = script; left = pieces_of script } → kept.exchanges ≡ [] → HasRoom 1 kept
-    → printed ≡ [] → work ≡ record { packages = []; room = most_room; fresh = []; stage = stage.Start } → IsAnswered serves (record { session = id; script = reading; kept = kept; printed = printed; quit = None; work = work; book = book })
-new_holds serves id script reading kept printed work book r none room p w =
-    subst (λ (y : Reading). IsAnswered serves (record { session = id; script = y; kept = kept; printed = printed; quit = None; work = work; book = book })) (sym r)
-    (subst (λ (l : List ℕ). IsAnswered serves (record { session = id; script = record { script = script; left = pieces_of script }; kept = kept; printed = l; quit = None; work = work; book = book })) (sym p)
-    (subst (λ (v : Work _). IsAnswered serves (record { session = id; script = record { script = script; left = pieces_of script }; kept = kept; printed = []; quit = None; work = v; book = book })) (sym w)
-    (begun_holds serves id script kept book none room)))
+pub new_holds : {B : Type 0} (serves : B → EditionNo → Book) (id : SessionId) (script : List ℕ) (reading : Reading) (transcript : Kept) (printed : List ℕ) (work : Work B) (book : Option B) → reading ≡ record { script = script; left = pieces_of script } → transcript.exchanges ≡ [] → HasRoom 1 transcript
+    → printed ≡ [] → work ≡ record { packages = []; room = most_room; fresh = []; stage = stage.Start } → IsAnswered serves (record { session = id; script = reading; transcript = transcript; printed = printed; quit = None; work = work; book = book })
+new_holds serves id script reading transcript printed work book r none room p w =
+    subst (λ (y : Reading). IsAnswered serves (record { session = id; script = y; transcript = transcript; printed = printed; quit = None; work = work; book = book })) (sym r)
+    (subst (λ (l : List ℕ). IsAnswered serves (record { session = id; script = record { script = script; left = pieces_of script }; transcript = transcript; printed = l; quit = None; work = work; book = book })) (sym p)
+    (subst (λ (v : Work _). IsAnswered serves (record { session = id; script = record { script = script; left = pieces_of script }; transcript = transcript; printed = []; quit = None; work = v; book = book })) (sym w)
+    (begun_holds serves id script transcript book none room)))

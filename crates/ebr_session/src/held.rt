@@ -21,7 +21,7 @@ pub fn twice<T: CloneIn>(alloc: Global, value: T) -> Result<(T, T), NoMemory>
 }
 
 /// The value, where something else was done.
-pub fn kept<T: Drop>(value: T, done: Result<(), NoMemory>) -> Result<T, NoMemory>
+pub fn value_if_done<T: Drop>(value: T, done: Result<(), NoMemory>) -> Result<T, NoMemory>
     ensures value { IfOk result (λ v. v ≡ value) }
     ensures done { OnOk result (IsOk done) }
     ensures failed { OnErr result (IsErr done) }

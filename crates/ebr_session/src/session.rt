@@ -12,7 +12,7 @@ ghost use Rattle.ebr_session.specs.inside.Kept.{HasRoom, last_of};
 ghost use Rattle.ebr_session.specs.inside.Requests.{rest_of};
 ghost use Rattle.ebr_session.specs.inside.Stages.{Awaits, IsReady, here};
 
-use crate::held::{kept, put, twice};
+use crate::held::{put, twice, value_if_done};
 use crate::next::NextAsk;
 use crate::script::Script;
 use crate::transcript::Transcript;
@@ -72,7 +72,7 @@ impl<B: CodeBook + Drop> Model for Session<B> {
 
     ghost view = { λ s. record { session = s.id; script = s.script.script; transcript = s.transcript.exchanges; printed = s.printed; quit = s.quit; out = out_of s.phase s.out; ended = is_over s.phase } };
 
-    ghost invariant = { λ s. Holds B.answers s.phase s.out (record { session = s.id; script = s.script; kept = s.transcript; printed = s.printed; quit = s.quit; work = s.work; book = s.book }) };
+    ghost invariant = { λ s. Holds B.answers s.phase s.out (record { session = s.id; script = s.script; transcript = s.transcript; printed = s.printed; quit = s.quit; work = s.work; book = s.book }) };
 }
 
 impl<B: CodeBook + Drop> Session<B> {
@@ -247,7 +247,7 @@ fn ask_next<B: CodeBook + Drop>(
     work.fresh.clear();
     let ask = work.next(alloc, transcript.as_slice(), book, script)?;
     let both = twice(alloc, ask)?;
-    kept(both, printed.extend(work.fresh.as_slice()))
+    value_if_done(both, printed.extend(work.fresh.as_slice()))
 }
 
 /// Whether a session ends with this answer to its ask.

@@ -31,14 +31,14 @@ taken builtin.Substr at = if nat_eq at 0 then type.Text else type.Number
 taken f at = type.Text
 
 -- the type of what another function gives
-abbrev pub given : Builtin → ValueType
-given builtin.Mod = type.Number
-given builtin.Abs = type.Number
-given builtin.Sign = type.Number
-given builtin.Length = type.Number
-given builtin.Instr = type.Number
-given builtin.ToNumber = type.Number
-given builtin.Negate = type.Number
-given builtin.Not = type.Boolean
-given builtin.IsNull = type.Boolean
-given f = type.Text
+abbrev pub builtin_type : Builtin → ValueType
+builtin_type builtin.Mod = type.Number
+builtin_type builtin.Abs = type.Number
+builtin_type builtin.Sign = type.Number
+builtin_type builtin.Length = type.Number
+builtin_type builtin.Instr = type.Number
+builtin_type builtin.ToNumber = type.Number
+builtin_type builtin.Negate = type.Number
+builtin_type builtin.Not = type.Boolean
+builtin_type builtin.IsNull = type.Boolean
+builtin_type f = type.Text

@@ -19,7 +19,7 @@ use Rattle.ebr_sqlcheck.specs.Types.{Known, alike, is_plain, first_known, type_o
 use Rattle.ebr_sqlcheck.specs.Checked.{Checked, right, must, both, each, on, not_there, wrong_type}
 use Rattle.ebr_sqlcheck.specs.Sources.{Relation}
 use Rattle.ebr_sqlcheck.specs.Names.{Others, column_meant, name_type}
-use Rattle.ebr_sqlcheck.specs.Functions.{takes_count, takes_any_type, taken, given}
+use Rattle.ebr_sqlcheck.specs.Functions.{takes_count, takes_any_type, taken, builtin_type}
 
 -- the type of an expression, as far as it is known, or the code of its first fault
 abbrev pub Typed : Type 0
@@ -85,7 +85,7 @@ one_type t [] = Ok t
 one_type t (a ∷ rest) = on (λ u. if alike t u then one_type (first_known t u) rest else Err wrong_type) a
 
 abbrev pub applied : Builtin → List Typed → Typed
-applied f operands = if takes_any_type f then one_type None operands else gives (given f) (operands_from f 0 operands)
+applied f operands = if takes_any_type f then one_type None operands else gives (builtin_type f) (operands_from f 0 operands)
 
 -- a function with its operands
 unfoldable pub called : Option Builtin → List Typed → Typed

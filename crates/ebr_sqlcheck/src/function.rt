@@ -52,8 +52,8 @@ fn taken_by_substr(at: usize) -> ValueType
 }
 
 /// The type of what a function gives that doesn't take any type.
-pub fn given(f: Builtin) -> ValueType
-    ensures { result ≡ spec.given f }
+pub fn builtin_type(f: Builtin) -> ValueType
+    ensures { result ≡ spec.builtin_type f }
 {
     match f {
         Builtin::Mod

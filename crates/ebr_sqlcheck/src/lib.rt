@@ -24,7 +24,7 @@ mod verdict;
 pub use aggregate::has_aggregate;
 pub use change::{check_delete, check_insert, check_update};
 pub use check::{check_sql, check_tree};
-pub use function::{given, taken, takes_any_type, takes_count};
+pub use function::{builtin_type, taken, takes_any_type, takes_count};
 pub use mention::names_in;
 pub use query::check_query;
 pub use relation::{Meant, Relation, column_meant, only_relation, relations};

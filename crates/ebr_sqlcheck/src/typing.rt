@@ -7,7 +7,7 @@ ghost use Rattle.ebr_sqlcheck.specs.Checked.{each};
 ghost use Rattle.ebr_sqlcheck.specs.Operands as spec;
 ghost use Rattle.ebr_sqlcheck.specs.inside.Terms as inside;
 
-use crate::function::{given, taken, takes_any_type, takes_count};
+use crate::function::{builtin_type, taken, takes_any_type, takes_count};
 use crate::mention::name_type;
 use crate::relation::Relation;
 use crate::value_type::{ValueType, alike, first_known, is_plain, type_in, type_of_text};
@@ -345,7 +345,7 @@ fn applied<V: Variables>(
         return one_type(operands, relations, others);
     }
     operands_of(f, operands, relations, others)?;
-    Ok(Some(given(f)))
+    Ok(Some(builtin_type(f)))
 }
 
 /// Operands of any one type, which is that of the whole.

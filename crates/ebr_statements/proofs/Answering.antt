@@ -28,7 +28,7 @@ left_tells step old new r k l =
     let is : step (base_of old k) ≡ gives (base_of new k) r = l.is k.used in
     record {
       state = ap (λ (o : Outcome Base Done). o.state) is;
-      kept = subst (Grew k k) (sym (ap (λ (o : Outcome Base Done). o.made) is)) (grew_same k);
+      grew = subst (Grew k k) (sym (ap (λ (o : Outcome Base Done). o.made) is)) (grew_same k);
       value = ap (λ (o : Outcome Base Done). as_answer o.value) is;
     }
 
@@ -36,8 +36,8 @@ pub refused_tells : (b : Base) (code : Code) (k : Keeper) → Tells (gives b (re
 refused_tells b code k = says b (refused code) k
 
 pub commit_tells : (o : Outcome Base Done) (s : Base) (k k' : Keeper) (r : Result (Unit {0}) Failure) → Shows o s k k' r → Tells (answered o) s k k' (as_told r)
-commit_tells o s k k' (Ok u) h = record { state = h.state; kept = h.kept; value = ap as_answer h.value }
-commit_tells o s k k' (Err (Refused code)) h = record { state = h.state; kept = h.kept; value = ap as_answer h.value }
+commit_tells o s k k' (Ok u) h = record { state = h.state; grew = h.grew; value = ap as_answer h.value }
+commit_tells o s k k' (Err (Refused code)) h = record { state = h.state; grew = h.grew; value = ap as_answer h.value }
 commit_tells o s k k' (Err (Halted why)) h = h
 
 module _ (w : Site) (r : Ready) (room : ℕ) (b : Base) where

@@ -112,7 +112,7 @@ module _ (w : Site) (o : Op) (r : Ready) (old new : List Value) (x d d' : Data) 
   body_done tally' course e (Err (Refused code)) h is how counts =
       body_ends w o r old new σ k now (base_of d now) (shown course.machine course.packages h.0 (next.Done e)) d' tally'.steps tally'.room tally'.lines (Err code) h.1 is counts.steps counts.room counts.lines how
   body_done tally' course e (Err (Halted why)) h is how counts =
-      subst (λ y. GaveUp k now (body w o r old new σ).made y) (sym how) (body_gives_up w o r old new σ k now NoMemory (kept_stops k now asked_for.made h.1.kept))
+      subst (λ y. GaveUp k now (body w o r old new σ).made y) (sym how) (body_gives_up w o r old new σ k now NoMemory (kept_stops k now asked_for.made h.1.grew))
 
   pub body_halts : (course : Course) (why : Halt) → Ends asked_for (base_of d now) k now course (Err why) → GaveUp k now (body w o r old new σ).made why
   body_halts course why h = body_gives_up w o r old new σ k now why h

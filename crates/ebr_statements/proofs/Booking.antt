@@ -8,7 +8,7 @@ use Rattle.ebr_ast.specs.declared.view.EditionView.{EditionView}
 use Rattle.ebr_ast.specs.Views.{IsInOrder}
 use Rattle.ebr_editions.specs.Editions.{is_living}
 use Rattle.ebr_cross.specs.declared.catalogue.Catalogue.{Catalogue}
-use Rattle.ebr_cross.specs.Catalogue.{IsViewOf, Lists, View, kept}
+use Rattle.ebr_cross.specs.Catalogue.{IsViewOf, Lists, View, as_catalogue}
 use Rattle.ebr_fire.specs.declared.firing.Firing.{Firing}
 use Rattle.ebr_exec.specs.Places.{names_of}
 use Rattle.ebr_run.specs.Units.{valid_unit}
@@ -28,7 +28,7 @@ still_current now old new c current = record { lists = c.lists; own_keys = c.own
 
 module _ (lists : Lists) (e : EditionNo) where
   -- an edition sees the living tables
-  pub tables_seen : (now : Catalogue) (v : EditionView) → now ≡ kept lists → v ≡ View lists e → v.tables ≡ now.tables.living
+  pub tables_seen : (now : Catalogue) (v : EditionView) → now ≡ as_catalogue lists → v ≡ View lists e → v.tables ≡ now.tables.living
   tables_seen now v is seen = ap (λ (x : EditionView). x.tables) seen ∙ sym (ap (λ (k : Catalogue). k.tables.living) is)
 
   -- the book of an edition that lives, and where it was found
@@ -54,7 +54,7 @@ module _ (lists : Lists) (e : EditionNo) where
   pub book_seen : {E : Type 0} (seen : EditionView) (old new : List EditionView) (r : Result EditionView E) → seen ≡ View lists e → Gives lists seen.edition old r new → IfOk r (λ b. b ≡ View lists e)
   book_seen seen old new r is g = IfOk-weaker r (λ b. IsViewOf lists seen.edition b) (λ b. b ≡ View lists e) (of_seen seen is) g.book
 
-  pub book_tables : {E : Type 0} (now : Catalogue) (r : Result EditionView E) → now ≡ kept lists → IfOk r (λ b. b ≡ View lists e) → IfOk r (λ b. b.tables ≡ now.tables.living)
+  pub book_tables : {E : Type 0} (now : Catalogue) (r : Result EditionView E) → now ≡ as_catalogue lists → IfOk r (λ b. b ≡ View lists e) → IfOk r (λ b. b.tables ≡ now.tables.living)
   book_tables now r is h = IfOk-weaker r (λ b. b ≡ View lists e) (λ b. b.tables ≡ now.tables.living) (λ b. tables_seen now b is) h
 
 -- a trigger that is ready in the book of its edition

@@ -34,7 +34,7 @@ use Rattle.ebr_database.specs.declared.failure.Halt.{Halt}
 use Rattle.ebr_database.specs.Base.{Base, with_data}
 use Rattle.ebr_database.specs.Outcome.{Outcome, gives, after, go_on}
 use Rattle.ebr_database.specs.Shows.{GaveUp, Said, Shows, Tells, base_of}
-use Rattle.ebr_database.proofs.Goes.{says, steps, told, then_gives, then_gave_up}
+use Rattle.ebr_database.proofs.Goes.{says, steps, tells_whole, then_gives, then_gave_up}
 use Rattle.ebr_database.proofs.Keeping.{grew_same, stays}
 use Rattle.ebr_exec.specs.Places.{Names, Place, Under, is_changing, names_of, target, questions_on}
 use Rattle.ebr_exec.specs.Shows.{Runs}
@@ -76,13 +76,13 @@ module _ (names : Names) (levels : ℕ) (p : Place) (s : SqlTree) (binds : List 
   pub test_refuses : 0 < levels → (code : Code) → name_tests names p s binds ≡ Err code → Said whole b k k (refused code)
   test_refuses h code e =
       let is : whole ≡ after [] (questions_on p (target s)) (gives b (refused code)) = one_level h ∙ ap from_tests e in
-      subst (λ o. Said o b k k (refused code)) (sym is) (record { state = refl; kept = grew_same k; value = refl })
+      subst (λ o. Said o b k k (refused code)) (sym is) (record { state = refl; grew = grew_same k; value = refl })
 
   -- none refuses
   pub passes : 0 < levels → name_tests names p s binds ≡ Ok tt → (now : Keeper) (b' : Base) (r : Result Answer Halt) → Tells behind b' k now r → Tells whole b' k now r
   passes h e now b' r t =
       let is : whole ≡ after [] (questions_on p (target s)) behind = one_level h ∙ ap from_tests e in
-      told whole behind k k now b' r (record { made = []; asked = questions_on p (target s); is = is; kept = grew_same k }) t
+      tells_whole whole behind k k now b' r (record { made = []; asked = questions_on p (target s); is = is; grew = grew_same k }) t
 
 -- 2. The start of a change
 

@@ -12,7 +12,7 @@ use Rattle.ebr_tx.specs.Data.{Data}
 use Rattle.ebr_tx.specs.declared.savepoints.TxMark.{TxMark}
 use Rattle.ebr_tx.specs.Calls.{IsKnown, after_begin, after_mark, levels, mark_of, top}
 use Rattle.ebr_cross.specs.declared.catalogue.Catalogue.{Catalogue}
-use Rattle.ebr_dml.specs.Steps.{CanStep, Standing}
+use Rattle.ebr_dml.specs.Steps.{CanStep, DmlState}
 use Rattle.ebr_database.specs.Storable.{AllStorable}
 use Rattle.ebr_database.proofs.AllStays as stays_storable
 use Rattle.ebr_exec.specs.Places.{Under}
@@ -121,7 +121,7 @@ module _ (now : Catalogue) where
     pub made_remains : (a b : List EditionView) (x : Data) → StayCurrent now a b → AllStorable x → Remains now t under a x b x
     made_remains a b x current all = record { current = current; leaves = leaves_same x t under; storable = all }
 
-    pub step_remains : (a : List EditionView) (x y : Data) (s : Standing) (changing : List Under) (id : TableId) → Spares under t changing (id ∷ []) → s.tx ≡ t → s.plan.table.id ≡ id
+    pub step_remains : (a : List EditionView) (x y : Data) (s : DmlState) (changing : List Under) (id : TableId) → Spares under t changing (id ∷ []) → s.tx ≡ t → s.plan.table.id ≡ id
         → ((u : UnderChange) → u s.tx s.plan.table.id ≡ false → Leaves x s.tx u y) → AllStorable y → Remains now t under a x a y
     step_remains a x y s changing id spares own there leaves all =
         let same : under s.tx s.plan.table.id ≡ under t id = λ i. under (own i) (there i) in
@@ -151,7 +151,7 @@ module _ (now : Catalogue) where
     asked_remains n m a x y stays all = record { current = stay_same a; stays = stays; storable = all }
 
 -- the next step can be made, after what bodies left
-pub can_go_on : (x y : Data) (t : TxId) (under : UnderChange) (s : Standing) → s.tx ≡ t → IsTop x t → under t s.plan.table.id ≡ true → CanStep x s → Leaves x t under y → CanStep y s
+pub can_go_on : (x y : Data) (t : TxId) (under : UnderChange) (s : DmlState) → s.tx ≡ t → IsTop x t → under t s.plan.table.id ≡ true → CanStep x s → Leaves x t under y → CanStep y s
 can_go_on x y t under s own top on can leaves =
     can_still_step x y s under (subst (IsTop x) (sym own) top) (subst (λ u. under u s.plan.table.id ≡ true) (sym own) on) can (subst (λ u. Leaves x u under y) (sym own) leaves)
 

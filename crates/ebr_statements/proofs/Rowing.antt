@@ -17,7 +17,7 @@ use Rattle.ebr_statements.specs.Fits.{Remains}
 use Rattle.ebr_statements.specs.inside.Fits.{Spares, under_by}
 use Rattle.ebr_statements.proofs.Fitting.{can_go_on, remains_then, spared, step_remains}
 use Rattle.ebr_exec.proofs.Fits.{as_many_as_columns}
-use Rattle.ebr_dml.specs.Steps.{CanStep, Standing}
+use Rattle.ebr_dml.specs.Steps.{CanStep, DmlState}
 use Rattle.ebr_database.specs.Outcome.{Outcome, gives, go_on}
 use Rattle.ebr_dml.specs.Images.{after_values, new_values, old_values}
 use Rattle.ebr_dml.specs.Steps.{stepped}
@@ -48,15 +48,15 @@ total_with count (Ok taken) = count + length taken
 total_with count (Err code) = 0
 
 -- how many rows there are, those that are done among them
-abbrev pub total_of : Standing → ℕ
+abbrev pub total_of : DmlState → ℕ
 total_of s = total_with s.count s.rest
 
 -- between two rows
-pub record Row (first s : Standing) (d : Data) : Type 0 where
+pub record Row (first s : DmlState) (d : Data) : Type 0 where
   pub is : s ≡ record first { rest = s.rest; count = s.count }
   pub can : CanStep d s
 
-pub rows_begin : (w : Site) (j : Work) (s : Standing) (σ : Doing) (k : Keeper) → s.count ≡ 0 → Goes (rows_of w j s.rest σ) (left_rows w j (total_of s) s.rest σ) k k
+pub rows_begin : (w : Site) (j : Work) (s : DmlState) (σ : Doing) (k : Keeper) → s.count ≡ 0 → Goes (rows_of w j s.rest σ) (left_rows w j (total_of s) s.rest σ) k k
 rows_begin w j s σ k e = subst (λ o. Goes (rows_of w j s.rest σ) o k k) (by s.rest) (begins (rows_of w j s.rest σ) k)
   where
     by : (found : Result (List Taken) Code) → rows_of w j found σ ≡ left_rows w j (total_with s.count found) found σ
@@ -65,7 +65,7 @@ rows_begin w j s σ k e = subst (λ o. Goes (rows_of w j s.rest σ) o k k) (by s
         ap (λ n. rows w j n taken σ) none
     by (Err code) = refl
 
-module _ (w : Site) (j : Work) (s : Standing) (σ : Doing) (whole : Outcome Doing (Result ℕ Code)) (k mid : Keeper) where
+module _ (w : Site) (j : Work) (s : DmlState) (σ : Doing) (whole : Outcome Doing (Result ℕ Code)) (k mid : Keeper) where
   pub at_row : (n : ℕ) (r : Taken) (rest : List Taken) → s.rest ≡ Ok (r ∷ rest) → Goes whole (left_rows w j n s.rest σ) k mid → Goes whole (rows w j n (r ∷ rest) σ) k mid
   at_row n r rest e g = subst (λ found. Goes whole (left_rows w j n found σ) k mid) e g
 
@@ -85,32 +85,32 @@ module _ (w : Site) (j : Work) (s : Standing) (σ : Doing) (whole : Outcome Doin
 
 -- ---- a row that was given to its BEFORE triggers
 
-pub begins_row : (s s' : Standing) (d d' : Data) → s.begun ≡ false → (answer : DmlStep) (old new : List Value) → answer ≡ Before old new → stepped s d None ≡ at answer s' d' → BeforeRow s s' d d' old new
+pub begins_row : (s s' : DmlState) (d d' : Data) → s.begun ≡ false → (answer : DmlStep) (old new : List Value) → answer ≡ Before old new → stepped s d None ≡ at answer s' d' → BeforeRow s s' d d' old new
 begins_row s s' d d' between answer old new is e = before s s' d d' between old new (e ∙ ap (λ (a : DmlStep). at a s' d') is)
 
-pub never_after : (s s' : Standing) (d d' : Data) → s.begun ≡ false → (answer : DmlStep) (old new : List Value) → answer ≡ After old new → stepped s d None ≡ at answer s' d' → ⊥
+pub never_after : (s s' : DmlState) (d d' : Data) → s.begun ≡ false → (answer : DmlStep) (old new : List Value) → answer ≡ After old new → stepped s d None ≡ at answer s' d' → ⊥
 never_after s s' d d' between answer old new is e = no_after s s' d d' between old new (e ∙ ap (λ (a : DmlStep). at a s' d') is)
 
-pub no_more : (s s' : Standing) (d d' : Data) → s.begun ≡ false → (answer : DmlStep) (n : ℕ) → answer ≡ Finished n → stepped s d None ≡ at answer s' d' → NoRow s s' d d' n
+pub no_more : (s s' : DmlState) (d d' : Data) → s.begun ≡ false → (answer : DmlStep) (n : ℕ) → answer ≡ Finished n → stepped s d None ≡ at answer s' d' → NoRow s s' d d' n
 no_more s s' d d' between answer n is e = finished s s' d d' between n (e ∙ ap (λ (a : DmlStep). at a s' d') is)
 
 -- between two rows
-pub is_between : (first s : Standing) (d : Data) → Row first s d → first.begun ≡ false → s.begun ≡ false
-is_between first s d row e = ap (λ (x : Standing). x.begun) row.is ∙ e
+pub is_between : (first s : DmlState) (d : Data) → Row first s d → first.begun ≡ false → s.begun ≡ false
+is_between first s d row e = ap (λ (x : DmlState). x.begun) row.is ∙ e
 
-pub now_between : (s s' : Standing) (d d' : Data) (old new : List Value) → (b : BeforeRow s s' d d' old new) → IsBetween s' b.row b.rest
-now_between s s' d d' old new b = record { begun = ap (λ (x : Standing). x.begun) b.standing; rest_is = ap (λ (x : Standing). x.rest) b.standing ∙ b.rest_is }
+pub now_between : (s s' : DmlState) (d d' : Data) (old new : List Value) → (b : BeforeRow s s' d d' old new) → IsBetween s' b.row b.rest
+now_between s s' d d' old new b = record { begun = ap (λ (x : DmlState). x.begun) b.standing; rest_is = ap (λ (x : DmlState). x.rest) b.standing ∙ b.rest_is }
 
 -- the next row
-pub next_row : (first s s' s'' : Standing) (d d' d'' : Data) (old new : List Value) (b : BeforeRow s s' d d' old new) → first.begun ≡ false → Row first s d → HasPassed s' b.rest s'' → CanStep d'' s'' → Row first s'' d''
+pub next_row : (first s s' s'' : DmlState) (d d' d'' : Data) (old new : List Value) (b : BeforeRow s s' d d' old new) → first.begun ≡ false → Row first s d → HasPassed s' b.rest s'' → CanStep d'' s'' → Row first s'' d''
 next_row first s s' s'' d d' d'' old new b between row passed can =
-    let plan : s''.plan ≡ first.plan = ap (λ (x : Standing). x.plan) passed.is ∙ ap (λ (x : Standing). x.plan) b.standing ∙ ap (λ (x : Standing). x.plan) row.is in
-    let tx : s''.tx ≡ first.tx = ap (λ (x : Standing). x.tx) passed.is ∙ ap (λ (x : Standing). x.tx) b.standing ∙ ap (λ (x : Standing). x.tx) row.is in
-    let binds : s''.binds ≡ first.binds = ap (λ (x : Standing). x.binds) passed.is ∙ ap (λ (x : Standing). x.binds) b.standing ∙ ap (λ (x : Standing). x.binds) row.is in
-    let begun : s''.begun ≡ first.begun = ap (λ (x : Standing). x.begun) passed.is ∙ sym between in
+    let plan : s''.plan ≡ first.plan = ap (λ (x : DmlState). x.plan) passed.is ∙ ap (λ (x : DmlState). x.plan) b.standing ∙ ap (λ (x : DmlState). x.plan) row.is in
+    let tx : s''.tx ≡ first.tx = ap (λ (x : DmlState). x.tx) passed.is ∙ ap (λ (x : DmlState). x.tx) b.standing ∙ ap (λ (x : DmlState). x.tx) row.is in
+    let binds : s''.binds ≡ first.binds = ap (λ (x : DmlState). x.binds) passed.is ∙ ap (λ (x : DmlState). x.binds) b.standing ∙ ap (λ (x : DmlState). x.binds) row.is in
+    let begun : s''.begun ≡ first.begun = ap (λ (x : DmlState). x.begun) passed.is ∙ sym between in
     record { is = λ i. record { plan = plan i; tx = tx i; binds = binds i; rest = s''.rest; begun = begun i; count = s''.count }; can = can }
 
-module _ (w : Site) (first : Standing) (work : Triggers) (whole : Outcome Doing (Result ℕ Code)) (k mid : Keeper) (s s' : Standing) (d d' : Data) (tally : Tally) (old new : List Value)
+module _ (w : Site) (first : DmlState) (work : Triggers) (whole : Outcome Doing (Result ℕ Code)) (k mid : Keeper) (s s' : DmlState) (d d' : Data) (tally : Tally) (old new : List Value)
     (row : Row first s d) (goes : Goes whole (left_rows w (work_at first work) (total_of s) s.rest (doing_at d mid tally)) k mid) (b : BeforeRow s s' d d' old new) where
   abbrev j : Work
   j = work_at first work
@@ -122,14 +122,14 @@ module _ (w : Site) (first : Standing) (work : Triggers) (whole : Outcome Doing 
   given = bodies w work.operation (map ready_of work.before) old new σ
 
   computed : new_values first.plan first.binds b.row ≡ Ok new
-  computed = subst (λ (x : Standing). new_values x.plan x.binds b.row ≡ Ok new) row.is b.values
+  computed = subst (λ (x : DmlState). new_values x.plan x.binds b.row ≡ Ok new) row.is b.values
 
   at_next : Goes whole (rows w j (total_of s) (b.row ∷ b.rest) σ) k mid
   at_next =
       at_row w j s σ whole k mid (total_of s) b.row b.rest b.rest_is (subst (λ x. Goes whole (left_rows w j (total_of s) s.rest (doing_at x mid tally)) k mid) (sym b.same) goes)
 
   given_is : given ≡ befores w j b.row new σ computed
-  given_is = ap (λ o. bodies w work.operation (map ready_of work.before) o new σ) (b.old_is ∙ ap (λ (x : Standing). old_values x.plan b.row) row.is)
+  given_is = ap (λ o. bodies w work.operation (map ready_of work.before) o new σ) (b.old_is ∙ ap (λ (x : DmlState). old_values x.plan b.row) row.is)
 
   same_work : work_at s' work ≡ j
   same_work = ap (λ x. work_at x work) b.standing ∙ ap (λ x. work_at x work) row.is
@@ -144,14 +144,14 @@ module _ (w : Site) (first : Standing) (work : Triggers) (whole : Outcome Doing 
       after_fails w j b.row new σ computed (total_of s) b.rest whole k mid at_next mid' now τ τ' new' e (subst (λ o. Said o τ mid mid' (Ok new')) given_is h)
       (subst (λ x. Shows (changed w x b.row new' τ) τ' mid' now (Err e)) same_work h')
 
-  pub row_passes : (mid' now : Keeper) (τ τ' : Doing) (new' x : List Value) (s'' : Standing) → Said given τ mid mid' (Ok new') → Said (changed w (work_at s' work) b.row new' τ) τ' mid' now (Ok x) → HasPassed s' b.rest s''
+  pub row_passes : (mid' now : Keeper) (τ τ' : Doing) (new' x : List Value) (s'' : DmlState) → Said given τ mid mid' (Ok new') → Said (changed w (work_at s' work) b.row new' τ) τ' mid' now (Ok x) → HasPassed s' b.rest s''
       → Goes whole (left_rows w j (total_of s'') s''.rest τ') k now
   row_passes mid' now τ τ' new' x s'' h h' passed =
       let done : Goes whole (rows w j (total_of s) b.rest τ') k now =
       row_done w j b.row new σ computed (total_of s) b.rest whole k mid at_next mid' now τ τ' new' x (subst (λ o. Said o τ mid mid' (Ok new')) given_is h)
       (subst (λ y. Said (changed w y b.row new' τ) τ' mid' now (Ok x)) same_work h') in
-      let rest : s''.rest ≡ Ok b.rest = ap (λ (y : Standing). y.rest) passed.is in
-      let count : s''.count ≡ s.count + 1 = ap (λ (y : Standing). y.count) passed.is ∙ ap (λ (y : Standing). y.count + 1) b.standing in
+      let rest : s''.rest ≡ Ok b.rest = ap (λ (y : DmlState). y.rest) passed.is in
+      let count : s''.count ≡ s.count + 1 = ap (λ (y : DmlState). y.count) passed.is ∙ ap (λ (y : DmlState). y.count + 1) b.standing in
       let counted : total_of s'' ≡ s.count + 1 + length b.rest = λ i. total_with (count i) (rest i) in
       let total : total_of s'' ≡ total_of s = counted ∙ one_more s.count b.rest ∙ sym (ap (total_with s.count) b.rest_is) in
       subst (λ n. Goes whole (left_rows w j n s''.rest τ') k now) (sym total) (subst (λ f. Goes whole (left_rows w j (total_of s) f τ') k now) (sym rest) done)
@@ -161,7 +161,7 @@ module _ (w : Site) (first : Standing) (work : Triggers) (whole : Outcome Doing 
 
 -- ---- a step that fails, and the end
 
-module _ (w : Site) (first : Standing) (work : Triggers) (whole : Outcome Doing (Result ℕ Code)) (k mid : Keeper) (s s' : Standing) (d d' : Data) (tally : Tally)
+module _ (w : Site) (first : DmlState) (work : Triggers) (whole : Outcome Doing (Result ℕ Code)) (k mid : Keeper) (s s' : DmlState) (d d' : Data) (tally : Tally)
     (between : first.begun ≡ false) (row : Row first s d) (goes : Goes whole (left_rows w (work_at first work) (total_of s) s.rest (doing_at d mid tally)) k mid) where
   abbrev work_now : Work
   work_now = work_at first work
@@ -169,7 +169,7 @@ module _ (w : Site) (first : Standing) (work : Triggers) (whole : Outcome Doing 
   raises : (code : Code) → (s.rest ≡ Err code) ⊎ RowRaises s code → Said whole (doing_at d mid tally) k mid (Err code)
   raises code (inl e) = where_raises w work_now s (doing_at d mid tally) whole k mid (total_of s) code e goes
   raises code (inr h) =
-      row_refused w work_now h.row (doing_at d mid tally) (total_of s) h.rest whole k mid code (subst (λ (x : Standing). new_values x.plan x.binds h.row ≡ Err code) row.is h.values)
+      row_refused w work_now h.row (doing_at d mid tally) (total_of s) h.rest whole k mid code (subst (λ (x : DmlState). new_values x.plan x.binds h.row ≡ Err code) row.is h.values)
       (at_row w work_now s (doing_at d mid tally) whole k mid (total_of s) h.row h.rest h.rest_is goes)
 
   pub step_fails : (e : Failure) → Steps (Err e) s' d' (stepped s d None) → d' ≡ d → Shows whole (doing_at d' mid tally) k mid (Err e)
@@ -182,7 +182,7 @@ module _ (w : Site) (first : Standing) (work : Triggers) (whole : Outcome Doing 
 
 -- ---- one row's change
 
-module _ (w : Site) (work : Triggers) (s s' : Standing) (d d' : Data) (k : Keeper) (tally : Tally) (new : List Value) (r : Taken) (rest : List Taken) (own : s.tx ≡ w.tx) (b : IsBetween s r rest) where
+module _ (w : Site) (work : Triggers) (s s' : DmlState) (d d' : Data) (k : Keeper) (tally : Tally) (new : List Value) (r : Taken) (rest : List Taken) (own : s.tx ≡ w.tx) (b : IsBetween s r rest) where
   abbrev change : Outcome Doing (Result (List Value) Code)
   change = changed w (work_at s work) r new (doing_at d k tally)
 
@@ -208,7 +208,7 @@ module _ (w : Site) (work : Triggers) (s s' : Standing) (d d' : Data) (k : Keepe
         λ i. bodies w work.operation (map ready_of work.after) (old_in (there i)) (new_in (there i)) (doing_at d' k tally) in
         changed_is w (work_at s work) r (doing_at d k tally) new d' (subst (λ t. written d t s.plan r new ≡ Ok d') own h.0) ∙ sym same
 
-pub write_passes : (s s' : Standing) (d d' : Data) (new : List Value) (r : Taken) (rest : List Taken) → IsBetween s r rest → (answer : DmlStep) → stepped s d (Some new) ≡ at answer s' d' → HasPassed s rest s'
+pub write_passes : (s s' : DmlState) (d d' : Data) (new : List Value) (r : Taken) (rest : List Taken) → IsBetween s r rest → (answer : DmlStep) → stepped s d (Some new) ≡ at answer s' d' → HasPassed s rest s'
 write_passes s s' d d' new r rest b answer e = record { is = (after_row_is s s' d d' new r rest b.begun b.rest_is answer e).2 }
 
 -- what is so whatever a call answers
@@ -218,13 +218,13 @@ whatever (Err e) Q q = tt
 
 -- ---- what is asked for between the rows, and what is left
 
-module _ (now : Catalogue) (t : TxId) (changing : List Under) (first s : Standing) (a b : List EditionView) (x y : Data) (own : first.tx ≡ t) (row : Row first s y)
+module _ (now : Catalogue) (t : TxId) (changing : List Under) (first s : DmlState) (a b : List EditionView) (x y : Data) (own : first.tx ≡ t) (row : Row first s y)
     (left : (under : UnderChange) → Spares under t changing (first.plan.table.id ∷ []) → Remains now t under a x b y) where
   -- behind a step
   pub rows_stepped : (z : Data) → ((u : UnderChange) → u s.tx s.plan.table.id ≡ false → Leaves y s.tx u z) → AllStorable z → (under : UnderChange) → Spares under t changing (first.plan.table.id ∷ []) → Remains now t under a x b z
   rows_stepped z leaves all under spares =
       remains_then now t under a b b x y z (left under spares)
-      (step_remains now t under b y z s changing first.plan.table.id spares (ap (λ (s : Standing). s.tx) row.is ∙ own) (ap (λ (s : Standing). s.plan.table.id) row.is) leaves all)
+      (step_remains now t under b y z s changing first.plan.table.id spares (ap (λ (s : DmlState). s.tx) row.is ∙ own) (ap (λ (s : DmlState). s.plan.table.id) row.is) leaves all)
 
   -- a step, and bodies
   pub rows_triggered : (z : Data) → ((u : UnderChange) → u s.tx s.plan.table.id ≡ false → Leaves y s.tx u z) → AllStorable z → (e : List EditionView) (v : Data) → Remains now t (under_by changing) b z e v
@@ -232,18 +232,18 @@ module _ (now : Catalogue) (t : TxId) (changing : List Under) (first s : Standin
   rows_triggered z leaves all e v r under spares = remains_then now t under a b e x z v (rows_stepped z leaves all under spares) (spared now t under changing (first.plan.table.id ∷ []) b e z v spares r)
 
 -- A statement can go on, after the step before a row and after bodies.
-pub can_still : (t : TxId) (changing : List Under) (first s s' : Standing) (x y z : Data) (old new : List Value) → first.tx ≡ t → under_by changing t first.plan.table.id ≡ true → Row first s x → BeforeRow s s' x y old new → IsTop y t → CanStep y s' → Leaves y t (under_by changing) z → CanStep z s'
+pub can_still : (t : TxId) (changing : List Under) (first s s' : DmlState) (x y z : Data) (old new : List Value) → first.tx ≡ t → under_by changing t first.plan.table.id ≡ true → Row first s x → BeforeRow s s' x y old new → IsTop y t → CanStep y s' → Leaves y t (under_by changing) z → CanStep z s'
 can_still t changing first s s' x y z old new own on row b top can leaves =
-    let is : s' ≡ record first { rest = s.rest; begun = true; count = s.count } = b.standing ∙ ap (λ (s : Standing). record s { begun = true }) row.is in
-    can_go_on y z t (under_by changing) s' (ap (λ (s : Standing). s.tx) is ∙ own) top (ap (λ (s : Standing). under_by changing t s.plan.table.id) is ∙ on) can leaves
+    let is : s' ≡ record first { rest = s.rest; begun = true; count = s.count } = b.standing ∙ ap (λ (s : DmlState). record s { begun = true }) row.is in
+    can_go_on y z t (under_by changing) s' (ap (λ (s : DmlState). s.tx) is ∙ own) top (ap (λ (s : DmlState). under_by changing t s.plan.table.id) is ∙ on) can leaves
 
 -- what stays of the statement before a row
-pub same_plan : (first s s' : Standing) (x y : Data) (old new : List Value) → Row first s x → BeforeRow s s' x y old new → s'.plan ≡ first.plan
-same_plan first s s' x y old new row b = ap (λ (s : Standing). s.plan) b.standing ∙ ap (λ (s : Standing). s.plan) row.is
+pub same_plan : (first s s' : DmlState) (x y : Data) (old new : List Value) → Row first s x → BeforeRow s s' x y old new → s'.plan ≡ first.plan
+same_plan first s s' x y old new row b = ap (λ (s : DmlState). s.plan) b.standing ∙ ap (λ (s : DmlState). s.plan) row.is
 
-pub same_tx_now : (first s s' : Standing) (x y : Data) (old new : List Value) → Row first s x → BeforeRow s s' x y old new → s'.tx ≡ first.tx
-same_tx_now first s s' x y old new row b = ap (λ (s : Standing). s.tx) b.standing ∙ ap (λ (s : Standing). s.tx) row.is
+pub same_tx_now : (first s s' : DmlState) (x y : Data) (old new : List Value) → Row first s x → BeforeRow s s' x y old new → s'.tx ≡ first.tx
+same_tx_now first s s' x y old new row b = ap (λ (s : DmlState). s.tx) b.standing ∙ ap (λ (s : DmlState). s.tx) row.is
 
 -- a row has as many values as its table has columns
-pub as_many : (s s' : Standing) (x y : Data) (old new : List Value) → BeforeRow s s' x y old new → length new ≡ length s'.plan.table.columns
-as_many s s' x y old new b = as_many_as_columns s.plan s.binds b.row new b.values ∙ sym (ap (λ (s : Standing). length s.plan.table.columns) b.standing)
+pub as_many : (s s' : DmlState) (x y : Data) (old new : List Value) → BeforeRow s s' x y old new → length new ≡ length s'.plan.table.columns
+as_many s s' x y old new b = as_many_as_columns s.plan s.binds b.row new b.values ∙ sym (ap (λ (s : DmlState). length s.plan.table.columns) b.standing)

@@ -15,7 +15,7 @@ use Rattle.ebr_ast.specs.declared.sql.SqlTree.{SqlTree}
 use Rattle.ebr_ast.specs.declared.view.EditionView.{EditionView}
 use Rattle.ebr_sqlcheck.specs.Checked.{must, on}
 use Rattle.ebr_tx.specs.Data.{Data}
-use Rattle.ebr_dml.specs.Steps.{Standing, started}
+use Rattle.ebr_dml.specs.Steps.{DmlState, started}
 use Rattle.ebr_exec.specs.Places.{Names, Place}
 use Rattle.ebr_statements.specs.declared.ready.Ready.{Ready as Held}
 use Rattle.ebr_statements.specs.declared.start.Work.{Work as Triggers}
@@ -53,7 +53,7 @@ module _ (names : Names) (p : Place) (s : SqlTree) (binds : List Value) (d : Dat
   after = ready_at names p timing.After s
 
   -- behind ORA-04043
-  abbrev behind : Result Standing Code → Result Start Code
+  abbrev behind : Result DmlState Code → Result Start Code
   behind r = on (λ st. on (λ b. on (start_of st b) after) before) r
 
   abbrev tested : Bool → Result Start Code
@@ -70,7 +70,7 @@ module _ (names : Names) (p : Place) (s : SqlTree) (binds : List Value) (d : Dat
     no_start view o (Raised code) h = behind_test ∙ ap behind h
     no_start view o NoMemory h = tt
 
-    module _ (st : Standing) (started_is : started d p.tx v s binds ≡ Ok st) where
+    module _ (st : DmlState) (started_is : started d p.tx v s binds ≡ Ok st) where
       with_rows : started_with names p s binds d ≡ behind (Ok st)
       with_rows = behind_test ∙ ap behind started_is
 
@@ -92,5 +92,5 @@ module _ (names : Names) (p : Place) (s : SqlTree) (binds : List Value) (d : Dat
 
 -- ---- what it starts with
 
-pub begun_with : (v : EditionView) (d : Data) (t : TxId) (s : SqlTree) (binds : List Value) (st : Standing) → started d t v s binds ≡ Ok st → Begins v t s st
+pub begun_with : (v : EditionView) (d : Data) (t : TxId) (s : SqlTree) (binds : List Value) (st : DmlState) → started d t v s binds ≡ Ok st → Begins v t s st
 begun_with v d t s binds st e = IfOk-at_ok (Begins v t s) e (start_in v d t s binds)

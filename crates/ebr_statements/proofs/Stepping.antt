@@ -11,21 +11,21 @@ use Rattle.ebr_dml.specs.declared.step.DmlStep.{DmlStep}
 use Rattle.ebr_dml.specs.declared.step.DmlStep.TheVariants.{Before, After, Finished}
 use Rattle.ebr_dml.specs.declared.taken.Taken.{Taken}
 use Rattle.ebr_dml.specs.Images.{old_values, new_values, after_values}
-use Rattle.ebr_dml.specs.Steps.{Gives, Standing, Stepped, before_row, row_step, next_step, stepped}
+use Rattle.ebr_dml.specs.Steps.{Gives, DmlState, Stepped, before_row, row_step, next_step, stepped}
 use Rattle.ebr_dml.specs.Tests.{written}
 use Rattle.ebr_database.specs.Storable.{AllStorable}
 use Rattle.ebr_exec.specs.Narrow.{IsNarrow}
 use Rattle.ebr_exec.proofs.Fits.{written_storable}
 use Rattle.ebr_statements.specs.inside.Answered.{Steps, as_failure}
 
-abbrev pub at : DmlStep → Standing → Data → Result Stepped Code
+abbrev pub at : DmlStep → DmlState → Data → Result Stepped Code
 at a s d = Ok (record { answer = a; standing = s; data_after = d })
 
 abbrev answer_or : DmlStep → Result Stepped Code → DmlStep
 answer_or a (Ok x) = x.answer
 answer_or a (Err code) = a
 
-abbrev standing_or : Standing → Result Stepped Code → Standing
+abbrev standing_or : DmlState → Result Stepped Code → DmlState
 standing_or s (Ok x) = x.standing
 standing_or s (Err code) = s
 
@@ -65,7 +65,7 @@ none : DmlStep
 none = Finished 0
 
 -- A row was given to its BEFORE triggers.
-pub record BeforeRow (s s' : Standing) (d d' : Data) (old new : List Value) : Type 0 where
+pub record BeforeRow (s s' : DmlState) (d d' : Data) (old new : List Value) : Type 0 where
   pub row : Taken
   pub rest : List Taken
   pub rest_is : s.rest ≡ Ok (row ∷ rest)
@@ -75,19 +75,19 @@ pub record BeforeRow (s s' : Standing) (d d' : Data) (old new : List Value) : Ty
   pub same : d' ≡ d
 
 -- No row is left.
-pub record NoRow (s s' : Standing) (d d' : Data) (n : ℕ) : Type 0 where
+pub record NoRow (s s' : DmlState) (d d' : Data) (n : ℕ) : Type 0 where
   pub rest_is : s.rest ≡ Ok []
   pub count : n ≡ s.count
   pub same : d' ≡ d
 
 -- An expression of the next row raises a code.
-pub record RowRaises (s : Standing) (code : Code) : Type 0 where
+pub record RowRaises (s : DmlState) (code : Code) : Type 0 where
   pub row : Taken
   pub rest : List Taken
   pub rest_is : s.rest ≡ Ok (row ∷ rest)
   pub values : new_values s.plan s.binds row ≡ Err code
 
-module _ (s s' : Standing) (d d' : Data) (between : s.begun ≡ false) where
+module _ (s s' : DmlState) (d d' : Data) (between : s.begun ≡ false) where
   abbrev rest_step : Result (List Taken) Code → Result Stepped Code
   rest_step rest = on (λ rows. next_step s d rows []) rest
 
@@ -157,8 +157,8 @@ module _ (s s' : Standing) (d d' : Data) (between : s.begun ≡ false) where
       by (Ok []) is e = absurd cc
       by (Ok (r ∷ rows)) is e = inr (raised r rows (new_values s.plan s.binds r) is refl (sym (as_before r rows) ∙ e))
 
-module _ (s s' : Standing) (d d' : Data) (new : List Value) (r : Taken) (rows : List Taken) (begun : s.begun ≡ true) (rest : s.rest ≡ Ok (r ∷ rows)) where
-  abbrev passed : Standing
+module _ (s s' : DmlState) (d d' : Data) (new : List Value) (r : Taken) (rows : List Taken) (begun : s.begun ≡ true) (rest : s.rest ≡ Ok (r ∷ rows)) where
+  abbrev passed : DmlState
   passed = record s { rest = Ok rows; begun = false; count = s.count + 1 }
 
   abbrev shown_after : Result Data Code → Result Stepped Code
@@ -186,11 +186,11 @@ module _ (s s' : Standing) (d d' : Data) (new : List Value) (r : Taken) (rows : 
 
 -- ---- what stays of a statement, and of the data, at a step
 
-abbrev Alike : Standing → Result Stepped Code → Type 0
+abbrev Alike : DmlState → Result Stepped Code → Type 0
 Alike s (Ok x) = (x.standing.plan ≡ s.plan) × (x.standing.tx ≡ s.tx)
 Alike s (Err code) = Unit {0}
 
-module _ (s : Standing) (d : Data) where
+module _ (s : DmlState) (d : Data) where
   step_alike : (after : Option (List Value)) → Alike s (stepped s d after)
   step_alike after = by s.rest
     where
@@ -212,14 +212,14 @@ module _ (s : Standing) (d : Data) where
       by (Ok (r ∷ rows)) = row s.begun r rows (unwrap_or after [])
       by (Err code) = tt
 
-  pub step_same : (after : Option (List Value)) (answer : DmlStep) (s' : Standing) (d' : Data) → stepped s d after ≡ at answer s' d' → (s'.plan ≡ s.plan) × (s'.tx ≡ s.tx)
+  pub step_same : (after : Option (List Value)) (answer : DmlStep) (s' : DmlState) (d' : Data) → stepped s d after ≡ at answer s' d' → (s'.plan ≡ s.plan) × (s'.tx ≡ s.tx)
   step_same after answer s' d' e = subst (Alike s) e (step_alike after)
 
 abbrev StaysStorable : Result Stepped Code → Type 0
 StaysStorable (Ok x) = AllStorable x.data_after
 StaysStorable (Err code) = Unit {0}
 
-module _ (s : Standing) (d : Data) (all : AllStorable d) (narrow : IsNarrow s.plan.table) (after : Option (List Value)) (as_many : s.begun ≡ true → length (unwrap_or after []) ≡ length s.plan.table.columns) where
+module _ (s : DmlState) (d : Data) (all : AllStorable d) (narrow : IsNarrow s.plan.table) (after : Option (List Value)) (as_many : s.begun ≡ true → length (unwrap_or after []) ≡ length s.plan.table.columns) where
   step_stores : StaysStorable (stepped s d after)
   step_stores = by s.rest
     where
@@ -242,15 +242,15 @@ module _ (s : Standing) (d : Data) (all : AllStorable d) (narrow : IsNarrow s.pl
       by (Err code) = tt
 
   -- whatever it answers
-  pub step_storable : (r : Result DmlStep Stop) (s' : Standing) (d' : Data) → Gives r s' d' (stepped s d after) → OnErr r (d' ≡ d) → AllStorable d'
+  pub step_storable : (r : Result DmlStep Stop) (s' : DmlState) (d' : Data) → Gives r s' d' (stepped s d after) → OnErr r (d' ≡ d) → AllStorable d'
   step_storable (Ok answer) s' d' gives same = subst StaysStorable gives step_stores
   step_storable (Err stop) s' d' gives same = subst AllStorable (sym same) all
 
-pub step_refused : (stop : Stop) (s : Standing) (d : Data) (defined : Result Stepped Code) → Gives (Err stop) s d defined → Steps (Err (as_failure stop)) s d defined
+pub step_refused : (stop : Stop) (s : DmlState) (d : Data) (defined : Result Stepped Code) → Gives (Err stop) s d defined → Steps (Err (as_failure stop)) s d defined
 step_refused (Raised code) s d defined h = h
 step_refused NoMemory s d defined h = refl
 
 -- where a row is between its triggers, its change comes next
-pub no_other : (s s' : Standing) (d d' : Data) (new : List Value) (r : Taken) (rows : List Taken) (begun : s.begun ≡ true) (rest : s.rest ≡ Ok (r ∷ rows)) (answer : DmlStep)
+pub no_other : (s s' : DmlState) (d d' : Data) (new : List Value) (r : Taken) (rows : List Taken) (begun : s.begun ≡ true) (rest : s.rest ≡ Ok (r ∷ rows)) (answer : DmlStep)
     → stepped s d (Some new) ≡ at answer s' d' → kind answer ≡ 1
 no_other s s' d d' new r rows begun rest answer e = ap kind (after_row_is s s' d d' new r rows begun rest answer e).1

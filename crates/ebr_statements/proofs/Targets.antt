@@ -26,7 +26,7 @@ use Rattle.ebr_dml.specs.declared.plan.Work.{Work}
 use Rattle.ebr_dml.specs.declared.plan.Work.TheVariants.{Set, Remove}
 use Rattle.ebr_dml.specs.Plans.{there, over, insert_places, places_of, set_of, settings, trigger_table, plan_of}
 use Rattle.ebr_dml.specs.Rows.{rows_of}
-use Rattle.ebr_dml.specs.Steps.{Standing, started}
+use Rattle.ebr_dml.specs.Steps.{DmlState, started}
 use Rattle.ebr_exec.specs.Places.{id_of, is_table, named_table, one}
 use Rattle.ebr_bodies.specs.Statements.{tables_of, written_by}
 
@@ -67,7 +67,7 @@ module _ (v : EditionView) where
       by (Err code) = tt
 
   -- Its table is one of those of the statement, and no row was given to its triggers yet.
-  pub record Begins (t : TxId) (s : SqlTree) (st : Standing) : Type 0 where
+  pub record Begins (t : TxId) (s : SqlTree) (st : DmlState) : Type 0 where
     pub table : list_any (is_table st.plan.table.id) (tables_of v s) ≡ true
     pub tx : st.tx ≡ t
     pub begun : st.begun ≡ false

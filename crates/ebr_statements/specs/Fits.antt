@@ -3,7 +3,7 @@ use Rattle.std.specs.Prelude.{◌≡◌, List}
 use Rattle.ebr_base.specs.declared.row.TxId.{TxId}
 use Rattle.ebr_ast.specs.declared.view.EditionView.{EditionView}
 use Rattle.ebr_cross.specs.declared.catalogue.Catalogue.{Catalogue}
-use Rattle.ebr_cross.specs.Catalogue.{Lists, HaveOwnKeys, View, kept}
+use Rattle.ebr_cross.specs.Catalogue.{Lists, HaveOwnKeys, View, as_catalogue}
 use Rattle.ebr_tx.specs.Data.{Data}
 use Rattle.ebr_dml.specs.Steps.{AreKnown}
 use Rattle.ebr_database.specs.Storable.{AllStorable}
@@ -18,11 +18,11 @@ pub record IsCurrent (now : Catalogue) (views : List EditionView) : Type 0 where
   pub lists : Lists
   pub own_keys : HaveOwnKeys lists
   pub current : AreCurrent lists views
-  pub is : now ≡ kept lists
+  pub is : now ≡ as_catalogue lists
 
 -- This is so of whichever lists the catalogue keeps of which the books and the view are.
 abbrev pub ForViews : Catalogue → List EditionView → EditionView → (Lists → Type 0) → Type 0
-ForViews now views v P = (c : Lists) → HaveOwnKeys c → AreCurrent c views → now ≡ kept c → v ≡ View c v.edition → P c
+ForViews now views v P = (c : Lists) → HaveOwnKeys c → AreCurrent c views → now ≡ as_catalogue c → v ≡ View c v.edition → P c
 
 -- The books are current, and the tables are there.
 pub record IsFit (now : Catalogue) (views : List EditionView) (d : Data) : Type 0 where

@@ -46,7 +46,7 @@ fn answered(alloc: Global, done: Result<(), Code>) -> Answer
 }
 
 /// Done, or refused, or that the engine gives up.
-fn told(alloc: Global, done: Result<(), Failure>) -> Result<Answer, Halt>
+fn done_or_refused(alloc: Global, done: Result<(), Failure>) -> Result<Answer, Halt>
     ensures { result ≡ inside.as_told done }
 {
     match done {
@@ -82,7 +82,7 @@ pub fn transact<K: Keep>(
     requires storable { AllStorable tx.old.contents }
     requires other { inside.IsNoStatement ask.now }
     ensures exact { (w : spec.Site) (r : triggers.Ready) (room : ℕ) → w.tx ≡ t
-        → Tells (spec.serve w r room ask.now (base_of tx.old.contents (K.told keeper.old))) (base_of tx.new.contents (K.told keeper.new)) (K.told keeper.old) (K.told keeper.new) result }
+        → Tells (spec.serve w r room ask.now (base_of tx.old.contents (K.as_keeper keeper.old))) (base_of tx.new.contents (K.as_keeper keeper.new)) (K.as_keeper keeper.old) (K.as_keeper keeper.new) result }
     ensures opened { (under : UnderChange) → Stays under t opened.old tx.old.contents opened.new tx.new.contents }
     ensures storable { AllStorable tx.new.contents }
 {
@@ -110,7 +110,7 @@ fn unless_own<K: Keep>(
     requires statement { inside.IsNoStatement ask.now }
     requires push { inside.IsNoPush ask.now }
     ensures exact { (w : spec.Site) (r : triggers.Ready) (room : ℕ) → w.tx ≡ t
-        → Tells (spec.serve w r room ask.now (base_of tx.old.contents (K.told keeper.old))) (base_of tx.new.contents (K.told keeper.new)) (K.told keeper.old) (K.told keeper.new) result }
+        → Tells (spec.serve w r room ask.now (base_of tx.old.contents (K.as_keeper keeper.old))) (base_of tx.new.contents (K.as_keeper keeper.new)) (K.as_keeper keeper.old) (K.as_keeper keeper.new) result }
     ensures opened { (under : UnderChange) → Stays under t opened.old tx.old.contents opened.new tx.new.contents }
     ensures storable { AllStorable tx.new.contents }
 {
@@ -135,12 +135,12 @@ fn within<K: Keep>(
     requires top { top ≡ levels.above t opened.old }
     requires opened { IsOpened t opened.old tx.old.contents }
     requires storable { AllStorable tx.old.contents }
-    ensures exact { Tells (inside.within top ask.now (base_of tx.old.contents (K.told keeper.old))) (base_of tx.new.contents (K.told keeper.new)) (K.told keeper.old) (K.told keeper.new) result }
+    ensures exact { Tells (inside.within top ask.now (base_of tx.old.contents (K.as_keeper keeper.old))) (base_of tx.new.contents (K.as_keeper keeper.new)) (K.as_keeper keeper.old) (K.as_keeper keeper.new) result }
     ensures opened { (under : UnderChange) → Stays under t opened.old tx.old.contents opened.new tx.new.contents }
     ensures storable { AllStorable tx.new.contents }
 {
     match ask {
-        Ask::Commit => told(alloc, commit(tx, keeper, top)),
+        Ask::Commit => done_or_refused(alloc, commit(tx, keeper, top)),
         Ask::Rollback => {
             roll_back(tx, top);
             Ok(Answer::Done)

@@ -207,8 +207,8 @@ fn serve<K: Keep>(
     requires fit { FitsOpen c.now units.old tx.old.contents (under_by site.now.changing) site.now.t opened.old }
     requires tables { HasTables c.now r.now }
     ensures exact { ForBooks c.now units.old (λ lists. IsServed (View lists) r.now
-        → Tells (bodies_spec.serve (site_at (names_of lists) site.now) (ready_of r.now) room ask.now (base_of tx.old.contents (K.told keeper.old)))
-        (base_of tx.new.contents (K.told keeper.new)) (K.told keeper.old) (K.told keeper.new) result) }
+        → Tells (bodies_spec.serve (site_at (names_of lists) site.now) (ready_of r.now) room ask.now (base_of tx.old.contents (K.as_keeper keeper.old)))
+        (base_of tx.new.contents (K.as_keeper keeper.new)) (K.as_keeper keeper.old) (K.as_keeper keeper.new) result) }
     ensures remains { RemainsOpen c.now site.now.t (under_by site.now.changing) opened.old units.old tx.old.contents opened.new units.new tx.new.contents }
 {
     match ask {
@@ -253,8 +253,8 @@ fn asks<K: Keep>(
     requires tables { HasTables c.now r.now }
     ensures exact { ForBooks c.now units.old (λ lists. (run : Sequence answers.Answer → Seen) → IsServed (View lists) r.now
         → IsBegun (served r.now.book) run course.old
-        → Ends (bodies_spec.served bodies_spec.max_asks (site_at (names_of lists) site.now) (ready_of r.now) run [] (base_of tx.old.contents (K.told keeper.old)))
-        (base_of tx.new.contents (K.told keeper.new)) (K.told keeper.old) (K.told keeper.new) course.new result) }
+        → Ends (bodies_spec.served bodies_spec.max_asks (site_at (names_of lists) site.now) (ready_of r.now) run [] (base_of tx.old.contents (K.as_keeper keeper.old)))
+        (base_of tx.new.contents (K.as_keeper keeper.new)) (K.as_keeper keeper.old) (K.as_keeper keeper.new) course.new result) }
     ensures remains { RemainsOpen c.now site.now.t (under_by site.now.changing) opened.old units.old tx.old.contents opened.new units.new tx.new.contents }
 {
     'asks: for _ask in 0..u64::MAX {
@@ -302,8 +302,8 @@ fn body<K: Keep>(
     requires fit { Fits c.now units.old tx.old.contents site.now.t }
     requires tables { HasTables c.now r.now }
     ensures exact { ForBooks c.now units.old (λ lists. IsServed (View lists) r.now
-        → Shows (bodies_spec.body (site_at (names_of lists) site.now) op (ready_of r.now) old.now new (doing_at tx.old.contents (K.told keeper.old) tally.old))
-        (doing_at tx.new.contents (K.told keeper.new) tally.new) (K.told keeper.old) (K.told keeper.new) result) }
+        → Shows (bodies_spec.body (site_at (names_of lists) site.now) op (ready_of r.now) old.now new (doing_at tx.old.contents (K.as_keeper keeper.old) tally.old))
+        (doing_at tx.new.contents (K.as_keeper keeper.new) tally.new) (K.as_keeper keeper.old) (K.as_keeper keeper.new) result) }
     ensures columns { IfOk result (λ row. length row ≡ length new) }
     ensures remains { Remains c.now site.now.t (under_by site.now.changing) units.old tx.old.contents units.new tx.new.contents }
 {
@@ -343,8 +343,8 @@ fn bodies<K: Keep>(
     requires fit { Fits c.now units.old tx.old.contents site.now.t }
     requires tables { HaveTables c.now triggers.now }
     ensures exact { ForBooks c.now units.old (λ lists. AreServed (View lists) triggers.now
-        → Shows (bodies_spec.bodies (site_at (names_of lists) site.now) op (map ready_of triggers.now) old.now new (doing_at tx.old.contents (K.told keeper.old) tally.old))
-        (doing_at tx.new.contents (K.told keeper.new) tally.new) (K.told keeper.old) (K.told keeper.new) result) }
+        → Shows (bodies_spec.bodies (site_at (names_of lists) site.now) op (map ready_of triggers.now) old.now new (doing_at tx.old.contents (K.as_keeper keeper.old) tally.old))
+        (doing_at tx.new.contents (K.as_keeper keeper.new) tally.new) (K.as_keeper keeper.old) (K.as_keeper keeper.new) result) }
     ensures columns { IfOk result (λ row. length row ≡ length new) }
     ensures remains { Remains c.now site.now.t (under_by site.now.changing) units.old tx.old.contents units.new tx.new.contents }
 {
@@ -378,8 +378,8 @@ fn write_row<K: Keep>(
     requires narrow { IsNarrow rows.old.plan.table }
     requires covers { under_by site.now.changing site.now.t rows.old.plan.table.id ≡ true }
     ensures exact { ForBooks c.now units.old (λ lists. (r : Taken) (rest : Sequence Taken) → IsBetween rows.old r rest → AreServed (View lists) work.now.after
-        → Shows (rows_spec.changed (site_at (names_of lists) site.now) (work_at rows.old work.now) r new (doing_at tx.old.contents (K.told keeper.old) tally.old))
-        (doing_at tx.new.contents (K.told keeper.new) tally.new) (K.told keeper.old) (K.told keeper.new) result) }
+        → Shows (rows_spec.changed (site_at (names_of lists) site.now) (work_at rows.old work.now) r new (doing_at tx.old.contents (K.as_keeper keeper.old) tally.old))
+        (doing_at tx.new.contents (K.as_keeper keeper.new) tally.new) (K.as_keeper keeper.old) (K.as_keeper keeper.new) result) }
     ensures passed { (r : Taken) (rest : Sequence Taken) → IsBetween rows.old r rest → OnOk result (HasPassed rows.old rest rows.new) }
     ensures can { OnOk result (steps.CanStep tx.new.contents rows.new) }
     ensures remains { (under : UnderChange) → Spares under site.now.t site.now.changing (rows.old.plan.table.id ∷ []) → Remains c.now site.now.t under units.old tx.old.contents units.new tx.new.contents }
@@ -426,8 +426,8 @@ fn rows<K: Keep>(
     requires narrow { IsNarrow left.old.plan.table }
     requires covers { under_by site.now.changing site.now.t left.old.plan.table.id ≡ true }
     ensures exact { ForBooks c.now units.old (λ lists. AreServed (View lists) work.now.before → AreServed (View lists) work.now.after
-        → Shows (rows_spec.rows_of (site_at (names_of lists) site.now) (work_at left.old work.now) left.old.rest (doing_at tx.old.contents (K.told keeper.old) tally.old))
-        (doing_at tx.new.contents (K.told keeper.new) tally.new) (K.told keeper.old) (K.told keeper.new) result) }
+        → Shows (rows_spec.rows_of (site_at (names_of lists) site.now) (work_at left.old work.now) left.old.rest (doing_at tx.old.contents (K.as_keeper keeper.old) tally.old))
+        (doing_at tx.new.contents (K.as_keeper keeper.new) tally.new) (K.as_keeper keeper.old) (K.as_keeper keeper.new) result) }
     ensures remains { (under : UnderChange) → Spares under site.now.t site.now.changing (left.old.plan.table.id ∷ []) → Remains c.now site.now.t under units.old tx.old.contents units.new tx.new.contents }
 {
     'rows: for _row in 0..u64::MAX {
@@ -480,8 +480,8 @@ fn changed<K: Keep>(
     requires begun { is_some (own tx.old.contents site.now.t).begun ≡ true }
     requires covers { Covers site.now.changing site.now.t (spec.tables_of v.now s.now) }
     ensures exact { ForViews c.now units.old v.now (λ lists. (changing : Sequence Changing) → site.now.changing ≡ changing ++ map (spec.under site.now.t) (spec.tables_of v.now s.now)
-        → Shows (spec.begun_ran (spec.Stmt (names_of lists) site.now.levels) (names_of lists) (place_at v.now.edition origin site.now.t changing) s.now binds.now site.now.left (doing_at tx.old.contents (K.told keeper.old) tally.old))
-        (doing_at tx.new.contents (K.told keeper.new) tally.new) (K.told keeper.old) (K.told keeper.new) result) }
+        → Shows (spec.begun_ran (spec.Stmt (names_of lists) site.now.levels) (names_of lists) (place_at v.now.edition origin site.now.t changing) s.now binds.now site.now.left (doing_at tx.old.contents (K.as_keeper keeper.old) tally.old))
+        (doing_at tx.new.contents (K.as_keeper keeper.new) tally.new) (K.as_keeper keeper.old) (K.as_keeper keeper.new) result) }
     ensures remains { (under : UnderChange) → Spares under site.now.t site.now.changing (spec.tables_of v.now s.now) → Remains c.now site.now.t under units.old tx.old.contents units.new tx.new.contents }
 {
     match started(alloc, c, units, tx, v, origin, site.t, s, binds) {
@@ -523,8 +523,8 @@ fn change<K: Keep>(
     requires fit { Fits c.now units.old tx.old.contents site.now.t }
     requires covers { Covers site.now.changing site.now.t (spec.tables_of v.now s.now) }
     ensures exact { ForViews c.now units.old v.now (λ lists. (changing : Sequence Changing) → site.now.changing ≡ changing ++ map (spec.under site.now.t) (spec.tables_of v.now s.now)
-        → Tells (spec.change_ran (spec.Stmt (names_of lists) site.now.levels) (names_of lists) (place_at v.now.edition origin site.now.t changing) s.now binds.now site.now.left room (base_of tx.old.contents (K.told keeper.old)))
-        (base_of tx.new.contents (K.told keeper.new)) (K.told keeper.old) (K.told keeper.new) result) }
+        → Tells (spec.change_ran (spec.Stmt (names_of lists) site.now.levels) (names_of lists) (place_at v.now.edition origin site.now.t changing) s.now binds.now site.now.left room (base_of tx.old.contents (K.as_keeper keeper.old)))
+        (base_of tx.new.contents (K.as_keeper keeper.new)) (K.as_keeper keeper.old) (K.as_keeper keeper.new) result) }
     ensures remains { (under : UnderChange) → Spares under site.now.t site.now.changing (spec.tables_of v.now s.now) → Remains c.now site.now.t under units.old tx.old.contents units.new tx.new.contents }
 {
     let mark = tx.mark(site.t)?;
@@ -571,8 +571,8 @@ fn tested<K: Keep>(
     requires tables { tables.now ≡ spec.tables_of v.now s.now }
     requires free { list_any (is_changing t tables.now) changing.now ≡ false }
     ensures exact { ForViews c.now units.old v.now (λ lists.
-        Tells (spec.checked_ran (spec.Stmt (names_of lists) levels) (names_of lists) (place_at v.now.edition origin t changing.now) s.now binds.now left room (base_of tx.old.contents (K.told keeper.old)))
-        (base_of tx.new.contents (K.told keeper.new)) (K.told keeper.old) (K.told keeper.new) result) }
+        Tells (spec.checked_ran (spec.Stmt (names_of lists) levels) (names_of lists) (place_at v.now.edition origin t changing.now) s.now binds.now left room (base_of tx.old.contents (K.as_keeper keeper.old)))
+        (base_of tx.new.contents (K.as_keeper keeper.new)) (K.as_keeper keeper.old) (K.as_keeper keeper.new) result) }
     ensures remains { Remains c.now t (under_by changing.now) units.old tx.old.contents units.new tx.new.contents }
 {
     match s {
@@ -623,8 +623,8 @@ pub fn statement<K: Keep>(
     requires tables { v.now.tables ≡ c.now.tables.living }
     requires fit { Fits c.now units.old tx.old.contents t }
     ensures exact { ForViews c.now units.old v.now (λ lists.
-        Tells (spec.Stmt (names_of lists) levels (place_at v.now.edition origin t changing.now) s.now binds.now left room (base_of tx.old.contents (K.told keeper.old)))
-        (base_of tx.new.contents (K.told keeper.new)) (K.told keeper.old) (K.told keeper.new) result) }
+        Tells (spec.Stmt (names_of lists) levels (place_at v.now.edition origin t changing.now) s.now binds.now left room (base_of tx.old.contents (K.as_keeper keeper.old)))
+        (base_of tx.new.contents (K.as_keeper keeper.new)) (K.as_keeper keeper.old) (K.as_keeper keeper.new) result) }
     ensures remains { Remains c.now t (under_by changing.now) units.old tx.old.contents units.new tx.new.contents }
 {
     if levels == 0 {

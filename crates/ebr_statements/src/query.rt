@@ -47,7 +47,7 @@ pub fn run_query(
 {
     let mark = tx.mark(t)?;
     tx.begin(t);
-    match given(alloc, tx, t, v, q, binds, changing, room) {
+    match rows_of_query(alloc, tx, t, v, q, binds, changing, room) {
         Ok(rows) => Ok(Answer::Rows(rows)),
         Err(stop) => {
             tx.back_to_mark(t, mark);
@@ -57,7 +57,7 @@ pub fn run_query(
 }
 
 /// The rows of a query in a transaction that has begun.
-fn given(
+fn rows_of_query(
     alloc: Global,
     tx: &mut Transactions,
     t: TxId,

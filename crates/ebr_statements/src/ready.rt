@@ -11,7 +11,7 @@ ghost use Rattle.ebr_base.specs.Keys.{same_class, same_key};
 ghost use Rattle.ebr_check.specs.Units.{row_columns as columns_behind, columns_or_none};
 ghost use Rattle.ebr_ast.specs.declared.view.EditionView.{EditionView as Sees};
 ghost use Rattle.ebr_base.specs.declared.numbers.EditionNo.{EditionNo as Edition};
-ghost use Rattle.ebr_cross.specs.Catalogue.{Lists, View, kept};
+ghost use Rattle.ebr_cross.specs.Catalogue.{Lists, View, as_catalogue};
 ghost use Rattle.ebr_exprtree.specs.declared.op.Op.TheVariants as op;
 ghost use Rattle.ebr_code.specs.Units.{unit_code};
 ghost use Rattle.ebr_run.specs.Units.{valid_unit};
@@ -354,7 +354,7 @@ fn firings(
     s: &SqlTree,
 ) -> Result<List<Firing>, NoMemory>
     requires { IsInOrder v.now }
-    ensures { (lists : Lists) (t : TxId) (changing : Sequence Changing) → c.now ≡ kept lists → v.now ≡ View lists v.now.edition
+    ensures { (lists : Lists) (t : TxId) (changing : Sequence Changing) → c.now ≡ as_catalogue lists → v.now ≡ View lists v.now.edition
         → IfOk result (λ firings. firings ≡ spec.firings (names_of lists) (place_at v.now.edition origin t changing) at s.now) }
 {
     let e = v.edition;

@@ -43,10 +43,10 @@ pub fn run_sql<K: Keep>(
     requires tables { v.now.tables ≡ world.old.catalogue.tables.living }
     requires fit { Fits world.old.catalogue world.old.book world.old.tx.contents t }
     ensures exact { ForViews world.old.catalogue world.old.book v.now (λ c.
-        Tells (spec.Stmt (names_of c) 50 (own_place v.now.edition t) s.now binds.now left room (base_of world.old.tx.contents (K.told world.old.keeper)))
-        (base_of world.new.tx.contents (K.told world.new.keeper)) (K.told world.old.keeper) (K.told world.new.keeper) result) }
+        Tells (spec.Stmt (names_of c) 50 (own_place v.now.edition t) s.now binds.now left room (base_of world.old.tx.contents (K.as_keeper world.old.keeper)))
+        (base_of world.new.tx.contents (K.as_keeper world.new.keeper)) (K.as_keeper world.old.keeper) (K.as_keeper world.new.keeper) result) }
     ensures apart { ForViews world.old.catalogue world.old.book v.now (λ c.
-        IsApart (names_of c) 50 (own_place v.now.edition t) s.now binds.now left room (base_of world.old.tx.contents (K.told world.old.keeper)) result world.new.tx.contents) }
+        IsApart (names_of c) 50 (own_place v.now.edition t) s.now binds.now left room (base_of world.old.tx.contents (K.as_keeper world.old.keeper)) result world.new.tx.contents) }
     ensures catalogue { world.new.catalogue ≡ world.old.catalogue }
     ensures remains { Remains world.old.catalogue t (λ u table. false) world.old.book world.old.tx.contents world.new.book world.new.tx.contents }
 {

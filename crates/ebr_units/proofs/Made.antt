@@ -7,7 +7,7 @@ use Rattle.ebr_editions.specs.Editions.{Editions, IsLine, IsNumberedFrom, first_
 use Rattle.ebr_editions.proofs.Lists.{by_test, false_true, same_edition, is_edition-same}
 use Rattle.ebr_editions.proofs.Line.{living-entry, edition_of-above}
 use Rattle.ebr_cross.specs.declared.catalogue.Catalogue.{Catalogue}
-use Rattle.ebr_cross.specs.Catalogue.{Lists, View, kept}
+use Rattle.ebr_cross.specs.Catalogue.{Lists, View, as_catalogue}
 use Rattle.ebr_laws.specs.Served.{HasCodeOf}
 use Rattle.ebr_units.specs.Living.{served_by, AreCurrent, HasBook, ServeAll, Keeps, GivesLiving}
 use Rattle.ebr_units.proofs.Kept.{has-code, kept-all}
@@ -49,11 +49,11 @@ pub record MadeUpTo (c : Lists) (old : List EditionView) (n : ℕ) (now : List E
   pub made : (e : EditionNo) → is_living c.editions.made e ≡ true → e.0 ≤ n → HasBook c e now
   pub keeps : Keeps c old now
 
-in-lists : (now : Catalogue) (c : Lists) → IsLine now.chain → now ≡ kept c → IsLine c.editions
+in-lists : (now : Catalogue) (c : Lists) → IsLine now.chain → now ≡ as_catalogue c → IsLine c.editions
 in-lists now c line is = subst (λ (n : Catalogue). IsLine n.chain) is line
 
 -- no edition has number 0
-pub made-none : (now : Catalogue) (c : Lists) (vs : List EditionView) → IsLine now.chain → now ≡ kept c → AreCurrent c vs → MadeUpTo c vs 0 vs
+pub made-none : (now : Catalogue) (c : Lists) (vs : List EditionView) → IsLine now.chain → now ≡ as_catalogue c → AreCurrent c vs → MadeUpTo c vs 0 vs
 made-none now c vs line is all = record {
   made = λ e lives low.
       let x = living-entry c.editions.made e lives in
@@ -78,7 +78,7 @@ made-one {E = E} c old now next n e b r at is before gives =
 pub made-stops : {E : Type 0} (c : Lists) (old now next : List EditionView) (n : ℕ) (e : EditionNo) (r : Result (Option EditionView) E) → MadeUpTo c old n now → GivesLiving c e now r next → Keeps c old next
 made-stops c old now next n e r before g = record { current = g.keeps.current; others = λ d h. g.keeps.others d (before.keeps.others d h) }
 
-pub made-all : (now : Catalogue) (c : Lists) (old vs : List EditionView) (n last : ℕ) → IsLine now.chain → now ≡ kept c → last ≡ (leaf now.chain.made).0 → last ≤ n → MadeUpTo c old n vs → ServeAll c vs
+pub made-all : (now : Catalogue) (c : Lists) (old vs : List EditionView) (n last : ℕ) → IsLine now.chain → now ≡ as_catalogue c → last ≡ (leaf now.chain.made).0 → last ≤ n → MadeUpTo c old n vs → ServeAll c vs
 made-all now c old vs n last line is at enough all = λ e lives.
     let low : e.0 ≤ (leaf c.editions.made).0 = at-most-leaf c.editions e (in-lists now c line is) lives in
     let end : last ≡ (leaf c.editions.made).0 = at ∙ ap (λ (x : Catalogue). (leaf x.chain.made).0) is in

@@ -8,7 +8,7 @@ use Rattle.ebr_ast.specs.Views.{IsInOrder}
 use Rattle.ebr_editions.specs.Editions.{is_edition, is_living}
 use Rattle.ebr_cross.specs.declared.catalogue.Catalogue.{Catalogue}
 use Rattle.ebr_cross.specs.declared.record.CatalogueRecord.{CatalogueRecord}
-use Rattle.ebr_cross.specs.Catalogue.{Lists, HaveOwnKeys, IsViewOf, View, kept}
+use Rattle.ebr_cross.specs.Catalogue.{Lists, HaveOwnKeys, IsViewOf, View, as_catalogue}
 use Rattle.ebr_cross.specs.Records.{with_record}
 use Rattle.ebr_code.specs.Books.{Book}
 use Rattle.ebr_laws.specs.Served.{HasCodeOf}
@@ -80,15 +80,15 @@ pub record GivesLiving {E : Type 0} (c : Lists) (e : EditionNo) (old : List Edit
 pub record IsKept (now : Catalogue) : Type 0 where
   pub lists : Lists
   pub own_keys : HaveOwnKeys lists
-  pub is : now ≡ kept lists
+  pub is : now ≡ as_catalogue lists
 
 -- This is so of whichever lists a catalogue keeps, where the books are of what editions see of these.
 abbrev pub ForBooks : Catalogue → List EditionView → (Lists → Type 0) → Type 0
-ForBooks now views P = (c : Lists) → HaveOwnKeys c → AreCurrent c views → now ≡ kept c → P c
+ForBooks now views P = (c : Lists) → HaveOwnKeys c → AreCurrent c views → now ≡ as_catalogue c → P c
 
 -- The same of the lists before a record, which led from them to what the catalogue keeps.
 abbrev pub ForBooksBefore : Catalogue → List EditionView → CatalogueRecord → (Lists → Type 0) → Type 0
-ForBooksBefore now views r P = (c : Lists) → HaveOwnKeys c → AreCurrent c views → now ≡ kept (with_record c r) → P c
+ForBooksBefore now views r P = (c : Lists) → HaveOwnKeys c → AreCurrent c views → now ≡ as_catalogue (with_record c r) → P c
 
 -- This is so of whichever lists a view is of, where the books are of what editions see of these.
 abbrev pub ForSeen : EditionView → List EditionView → (Lists → Type 0) → Type 0

@@ -9,7 +9,7 @@ use Rattle.ebr_report.specs.declared.ends.SessionEnd.{SessionEnd}
 use Rattle.ebr_asks.specs.declared.entry.Exchange.{Exchange}
 use Rattle.ebr_core.specs.Engine.{EngineState}
 use Rattle.ebr_core.specs.History.{Mine}
-use Rattle.ebr_worker.specs.Matches.{kept}
+use Rattle.ebr_worker.specs.Matches.{as_recorded}
 use Rattle.ebr_worker.specs.Ends.{Came, IsEnd, is_refused}
 use Rattle.ebr_worker.specs.Work.{IsEndOf, Over, Work}
 
@@ -17,11 +17,11 @@ use Rattle.ebr_worker.specs.Work.{IsEndOf, Over, Work}
 abbrev more : ℕ → Exchange → ℕ
 more n x = n + cond (is_refused x) 1 0
 
-counted_kept : (n : ℕ) (mine : List Exchange) → fold more n (map kept mine) ≡ fold more n mine
+counted_kept : (n : ℕ) (mine : List Exchange) → fold more n (map as_recorded mine) ≡ fold more n mine
 counted_kept n [] = refl
 counted_kept n (x ∷ mine) = counted_kept (more n x) mine
 
-refused_kept : (mine : List Exchange) → count_by is_refused (map kept mine) ≡ count_by is_refused mine
+refused_kept : (mine : List Exchange) → count_by is_refused (map as_recorded mine) ≡ count_by is_refused mine
 refused_kept mine = counted_kept 0 mine
 
 same_some : {X : Type 0} (a b : X) → Some a ≡ Some b → a ≡ b
@@ -32,7 +32,7 @@ module _ {S K : Type 0} (held : S → Option (List ℕ)) (faults : S → ℕ) (w
   end_is : x.end ≡ k
   end_is = same_some x.end k (sym came_to.end ∙ ended)
 
-  mine_is : Mine e.history s ≡ map kept w.session.transcript
+  mine_is : Mine e.history s ≡ map as_recorded w.session.transcript
   mine_is = ap (Mine e.history) (sym number) ∙ over.seated.matches
 
   in_sink : (sink : Option S) → IfSome sink (λ t. faults t ≡ w.faults) → 0 < w.faults → IfSome sink (λ t. 0 < faults t)
@@ -44,7 +44,7 @@ module _ {S K : Type 0} (held : S → Option (List ℕ)) (faults : S → ℕ) (w
     replies = w.written;
     came_to = record {
       session_is = came_to.session ∙ number;
-      requests = came_to.requests ∙ sym (ap length mine_is ∙ length-map w.session.transcript kept);
+      requests = came_to.requests ∙ sym (ap length mine_is ∙ length-map w.session.transcript as_recorded);
       refused = came_to.refused ∙ sym (ap (count_by is_refused) mine_is ∙ refused_kept w.session.transcript);
       came = subst (λ f. Came f script (Mine e.history s) w.written) (sym end_is)
           (subst (λ t. Came k t (Mine e.history s) w.written) script_is (subst (λ r. Came k w.session.script (Mine e.history r) w.written) number over.came));

@@ -51,20 +51,20 @@ flushed all o s n m held held' faults faults' end view onward counted whole fail
     all_of false within = tt
 
 -- The session took an answer.
-pub asked : {K : Type 0} (told : K → Keeper) (q : Ask) (x : Answer) (book : Option EditionView) (over : Bool) (o : Work) (s t : Progress) (n : ℕ) (held : Option (List ℕ)) (faults : ℕ) (end : Option EndKind) (e e' : EngineState K) (c : EndKind) (id : SessionId)
-    → work s n held faults end ≡ o → s.out ≡ Some q → t ≡ answered s.out x s → Follows t → id ≡ s.session → Replies told e e' id q x book → c ≡ end_of x → over ≡ t.ended
-    → Asked told q (if over then Some c else None) o (work t n held faults end) e e'
-asked told q x book over o s t n held faults end e e' c id view out took f number replies is_end ended =
+pub asked : {K : Type 0} (as_keeper : K → Keeper) (q : Ask) (x : Answer) (book : Option EditionView) (over : Bool) (o : Work) (s t : Progress) (n : ℕ) (held : Option (List ℕ)) (faults : ℕ) (end : Option EndKind) (e e' : EngineState K) (c : EndKind) (id : SessionId)
+    → work s n held faults end ≡ o → s.out ≡ Some q → t ≡ answered s.out x s → Follows t → id ≡ s.session → Replies as_keeper e e' id q x book → c ≡ end_of x → over ≡ t.ended
+    → Asked as_keeper q (if over then Some c else None) o (work t n held faults end) e e'
+asked as_keeper q x book over o s t n held faults end e e' c id view out took f number replies is_end ended =
     let is : t ≡ answered (Some q) x s = took ∙ ap (λ out. answered out x s) out in
-    let did : Asked told q (if over then Some c else None) (work s n held faults end) (work t n held faults end) e e' = record {
+    let did : Asked as_keeper q (if over then Some c else None) (work s n held faults end) (work t n held faults end) e e' = record {
       answer = x;
       book = book;
-      replies = subst (λ r. Replies told e e' r q x book) number replies;
+      replies = subst (λ r. Replies as_keeper e e' r q x book) number replies;
       took = ap (λ u. work u n held faults end) is;
       follows = f;
       ended = ap (λ b. if b then Some c else None) (ended ∙ ap (λ (u : Progress). u.ended) is) ∙ ap (λ d. if ends q x then Some d else None) is_end;
     } in
-    subst (λ w. Asked told q (if over then Some c else None) w (work t n held faults end) e e') view did
+    subst (λ w. Asked as_keeper q (if over then Some c else None) w (work t n held faults end) e e') view did
 
 -- The session dropped its ask.
 pub quits : (o : Work) (s t : Progress) (n : ℕ) (held : Option (List ℕ)) (faults : ℕ) (end : Option EndKind) → work s n held faults end ≡ o → t ≡ quitting s.ended s → work t n held faults end ≡ record o { session = quitting o.session.ended o.session }

@@ -17,7 +17,7 @@ use Rattle.ebr_faults.specs.Faults.{Rises}
 use Rattle.ebr_record.specs.Keeper.{Keeper}
 use Rattle.ebr_core.specs.Engine.{EngineState}
 use Rattle.ebr_core.specs.History.{Mine, exchange}
-use Rattle.ebr_worker.specs.Matches.{has_fault, is_fault, kept}
+use Rattle.ebr_worker.specs.Matches.{has_fault, is_fault, as_recorded}
 use Rattle.ebr_worker.specs.Paced.{AllOver, IsFirst, IsSession, Next, Paced, ToEnds, Turn, Turns, is_over}
 use Rattle.ebr_worker.specs.Ends.{Came}
 use Rattle.ebr_worker.specs.Work.{Adds, Makes, Over, Seated, Stands, StandsBy, Turned, Work}
@@ -27,7 +27,7 @@ use Rattle.ebr_worker.proofs.Histories.{mine_more, mine_other, over_other}
 
 -- ---- workers behind an entry of another session
 
-module _ {K : Type 0} (told : K → Keeper) (s : SessionId) (x : Entry) (w : Work) (e e' : EngineState K) (adds : Adds told s x e e') (other : w.session.session.0 ≡ s.0 → ⊥) where
+module _ {K : Type 0} (as_keeper : K → Keeper) (s : SessionId) (x : Entry) (w : Work) (e e' : EngineState K) (adds : Adds as_keeper s x e e') (other : w.session.session.0 ≡ s.0 → ⊥) where
   same_mine : Mine e'.history w.session.session ≡ Mine e.history w.session.session
   same_mine = ap (λ h. Mine h w.session.session) adds.is ∙ mine_other e.history x s w.session.session adds.of other
 
@@ -107,7 +107,7 @@ eq_or_not (suc m) (suc n) = elim (eq_or_not m n) [ inl is ↦ inl (ap suc is) | 
 numbered : (w : Work) (i : ℕ) → w.session.session ≡ record { 0 = i + 1 } → w.session.session.0 ≡ i + 1
 numbered w i is = ap (λ (s : SessionId). s.0) is
 
-module _ {K : Type 0} (told : K → Keeper) (at : ℕ) (ws ws' : List Work) (e e' : EngineState K) (all : AllStand ws e) (did : TurnedAt told at ws ws' e e') where
+module _ {K : Type 0} (as_keeper : K → Keeper) (at : ℕ) (ws ws' : List Work) (e e' : EngineState K) (all : AllStand ws e) (did : TurnedAt as_keeper at ws ws' e e') where
   get : (i : ℕ) (w : Work) → (i ≡ at → ⊥) → slice_get ws' i ≡ Some w → slice_get ws i ≡ Some w
   get i w other is = sym (set_there ws at i did.after other) ∙ ap (λ xs. slice_get xs i) (sym did.now) ∙ is
 
@@ -117,13 +117,13 @@ module _ {K : Type 0} (told : K → Keeper) (at : ℕ) (ws ws' : List Work) (e e
   number_is : did.before.session.session ≡ record { 0 = at + 1 }
   number_is = all.number at did.before did.was
 
-  books_by : (k : Option EndKind) → Makes told k did.before did.after e e' → length e'.books ≡ length e.books
+  books_by : (k : Option EndKind) → Makes as_keeper k did.before did.after e e' → length e'.books ≡ length e.books
   books_by None (x, adds) = adds.books
   books_by (Some k) (same, is) = ap (λ (f : EngineState K). length f.books) is
 
-  stand_by : (k : Option EndKind) → Makes told k did.before did.after e e' → (i : ℕ) (w : Work) → (i ≡ at → ⊥) → slice_get ws i ≡ Some w → Stands w e'
+  stand_by : (k : Option EndKind) → Makes as_keeper k did.before did.after e e' → (i : ℕ) (w : Work) → (i ≡ at → ⊥) → slice_get ws i ≡ Some w → Stands w e'
   stand_by None (x, adds) i w other is =
-      stands_on told did.before.session.session x w e e' adds
+      stands_on as_keeper did.before.session.session x w e e' adds
       (λ same. other (omega (arith, same, numbered w i (all.number i w is), numbered did.before at number_is)))
       (all.stand i w is)
   stand_by (Some k) (same, is_same) i w other is = subst (Stands w) (sym is_same) (all.stand i w is)
@@ -179,24 +179,24 @@ rises_on : (a b c : ℕ) → Rises a b → b ≤ c → Rises a c
 rises_on a b c rises grown = omega (arith, grown, rises)
 
 -- An entry more is that the disk failed only where the count of faults rose.
-pub faultless_more : {K : Type 0} (told : K → Keeper) (s : SessionId) (x : Entry) (first e e' : EngineState K) → Adds told s x e e' → (told first.keeper).faults ≤ (told e.keeper).faults → Faultless told first e → Faultless told first e'
-faultless_more told s x first e e' adds grown was = λ is.
+pub faultless_more : {K : Type 0} (as_keeper : K → Keeper) (s : SessionId) (x : Entry) (first e e' : EngineState K) → Adds as_keeper s x e e' → (as_keeper first.keeper).faults ≤ (as_keeper e.keeper).faults → Faultless as_keeper first e → Faultless as_keeper first e'
+faultless_more as_keeper s x first e e' adds grown was = λ is.
     elim (any_behind e.history x (ap has_fault (sym adds.is) ∙ is)) [ inl before ↦ rises_on _ _ _ (was before) adds.counted | inr now ↦ rises_since _ _ _ grown (adds.fault (fault_is x.answer now)) ]
 
-module _ {K : Type 0} (told : K → Keeper) (order left : List SessionId) (ws0 ws ws' : List Work) (first e e' : EngineState K) (at : ℕ) (did : TurnedAt told at ws ws' e e') where
+module _ {K : Type 0} (as_keeper : K → Keeper) (order left : List SessionId) (ws0 ws ws' : List Work) (first e e' : EngineState K) (at : ℕ) (did : TurnedAt as_keeper at ws ws' e e') where
   faults : EngineState K → ℕ
-  faults f = (told f.keeper).faults
+  faults f = (as_keeper f.keeper).faults
 
   -- What a turn keeps of a rehearsal, whatever is left of the order.
-  keeps : (left' : List SessionId) → Rehearses told order left ws0 ws first e
+  keeps : (left' : List SessionId) → Rehearses as_keeper order left ws0 ws first e
       → ((rest : List Entry) → Turns (length e.books) left' e'.history rest → Turns (length e.books) order [] (e'.history ++ rest))
-      → Rehearses told order left' ws0 ws' first e'
+      → Rehearses as_keeper order left' ws0 ws' first e'
   keeps left' so_far paced' =
       let all : AllStand ws e = so_far.all_stand in
-      let books : length e'.books ≡ length e.books = books_turned told at ws ws' e e' all did in
+      let books : length e'.books ≡ length e.books = books_turned as_keeper at ws ws' e e' all did in
       record {
-        all_stand = all_turned told at ws ws' e e' all did;
-        scripts = scripts_turned told at ws ws' e e' all did ∙ so_far.scripts;
+        all_stand = all_turned as_keeper at ws ws' e e' all did;
+        scripts = scripts_turned as_keeper at ws ws' e e' all did ∙ so_far.scripts;
         books = books ∙ so_far.books;
         sessions = sessions_by did.before.end did.turned.makes ∙ so_far.sessions;
         paced = subst (λ n. (rest : List Entry) → Turns n left' e'.history rest → Turns n order [] (e'.history ++ rest)) (sym books) paced';
@@ -204,25 +204,25 @@ module _ {K : Type 0} (told : K → Keeper) (order left : List SessionId) (ws0 w
         faultless = faultless_by did.before.end did.turned.makes so_far.counted so_far.faultless;
       }
     where
-      sessions_by : (k : Option EndKind) → Makes told k did.before did.after e e' → e'.sessions ≡ e.sessions
+      sessions_by : (k : Option EndKind) → Makes as_keeper k did.before did.after e e' → e'.sessions ≡ e.sessions
       sessions_by None (x, adds) = adds.sessions
       sessions_by (Some k) (same, is) = ap (λ (f : EngineState K). f.sessions) is
 
-      counted_by : (k : Option EndKind) → Makes told k did.before did.after e e' → (told first.keeper).faults ≤ (told e.keeper).faults → (told first.keeper).faults ≤ (told e'.keeper).faults
+      counted_by : (k : Option EndKind) → Makes as_keeper k did.before did.after e e' → (as_keeper first.keeper).faults ≤ (as_keeper e.keeper).faults → (as_keeper first.keeper).faults ≤ (as_keeper e'.keeper).faults
       counted_by None (x, adds) grown = omega (arith, grown, adds.counted)
-      counted_by (Some k) (same, is) grown = subst (λ (f : EngineState K). (told first.keeper).faults ≤ (told f.keeper).faults) (sym is) grown
+      counted_by (Some k) (same, is) grown = subst (λ (f : EngineState K). (as_keeper first.keeper).faults ≤ (as_keeper f.keeper).faults) (sym is) grown
 
-      faultless_by : (k : Option EndKind) → Makes told k did.before did.after e e' → (told first.keeper).faults ≤ (told e.keeper).faults → Faultless told first e → Faultless told first e'
-      faultless_by None (x, adds) grown was = faultless_more told did.before.session.session x first e e' adds grown was
-      faultless_by (Some k) (same, is) grown was = subst (Faultless told first) (sym is) was
+      faultless_by : (k : Option EndKind) → Makes as_keeper k did.before did.after e e' → (as_keeper first.keeper).faults ≤ (as_keeper e.keeper).faults → Faultless as_keeper first e → Faultless as_keeper first e'
+      faultless_by None (x, adds) grown was = faultless_more as_keeper did.before.session.session x first e e' adds grown was
+      faultless_by (Some k) (same, is) grown was = subst (Faultless as_keeper first) (sym is) was
 
 -- A turn of the order is taken.
-module _ {K : Type 0} (told : K → Keeper) (order left : List SessionId) (s : SessionId) (ws0 ws ws' : List Work) (first e e' : EngineState K) (at : ℕ) (did : TurnedAt told at ws ws' e e') (is : s ≡ record { 0 = at + 1 })
-    (so_far : Rehearses told order (s ∷ left) ws0 ws first e) where
+module _ {K : Type 0} (as_keeper : K → Keeper) (order left : List SessionId) (s : SessionId) (ws0 ws ws' : List Work) (first e e' : EngineState K) (at : ℕ) (did : TurnedAt as_keeper at ws ws' e e') (is : s ≡ record { 0 = at + 1 })
+    (so_far : Rehearses as_keeper order (s ∷ left) ws0 ws first e) where
   session_is : did.before.session.session ≡ s
   session_is = so_far.all_stand.number at did.before did.was ∙ sym is
 
-  step : (n : ℕ) → ((rest : List Entry) → Turns n (s ∷ left) e.history rest → Turns n order [] (e.history ++ rest)) → (k : Option EndKind) → StandsBy k did.before e → Makes told k did.before did.after e e'
+  step : (n : ℕ) → ((rest : List Entry) → Turns n (s ∷ left) e.history rest → Turns n order [] (e.history ++ rest)) → (k : Option EndKind) → StandsBy k did.before e → Makes as_keeper k did.before did.after e e'
       → (rest : List Entry) → Turns n left e'.history rest → Turns n order [] (e'.history ++ rest)
   step n on None works (x, adds) =
       let runs : is_over e.history s ≡ false = subst (λ r. is_over e.history r ≡ false) session_is works.not_over in
@@ -234,17 +234,17 @@ module _ {K : Type 0} (told : K → Keeper) (order left : List SessionId) (s : S
       subst (λ (f : EngineState K). (rest : List Entry) → Turns n left f.history rest → Turns n order [] (f.history ++ rest)) (sym is_same)
       (λ rest turns. on rest (subst (λ b. Turn b (Turns n left e.history rest) (Next s rest (λ y more. Turns n left (e.history ++ y ∷ []) more))) (sym ended) turns))
 
-  pub turn_taken : Rehearses told order left ws0 ws' first e'
-  turn_taken = keeps told order (s ∷ left) ws0 ws ws' first e e' at did left so_far (step (length e.books) so_far.paced did.before.end (so_far.all_stand.stand at did.before did.was) did.turned.makes)
+  pub turn_taken : Rehearses as_keeper order left ws0 ws' first e'
+  turn_taken = keeps as_keeper order (s ∷ left) ws0 ws ws' first e e' at did left so_far (step (length e.books) so_far.paced did.before.end (so_far.all_stand.stand at did.before did.was) did.turned.makes)
 
 -- The same of the turn at a place of the order.
-pub taken_at : {K : Type 0} (told : K → Keeper) (order : List SessionId) (n i at : ℕ) (s d : SessionId) (ws0 ws ws' : List Work) (first e e' : EngineState K) → i < length order → s ≡ get_or order i d → All (IsSession n) order → at ≡ s.0 - 1
-    → TurnedAt told at ws ws' e e' → Rehearses told order (drop i order) ws0 ws first e → Rehearses told order (drop (i + 1) order) ws0 ws' first e'
-taken_at told order n i at s d ws0 ws ws' first e e' within is sessions place did so_far =
+pub taken_at : {K : Type 0} (as_keeper : K → Keeper) (order : List SessionId) (n i at : ℕ) (s d : SessionId) (ws0 ws ws' : List Work) (first e e' : EngineState K) → i < length order → s ≡ get_or order i d → All (IsSession n) order → at ≡ s.0 - 1
+    → TurnedAt as_keeper at ws ws' e e' → Rehearses as_keeper order (drop i order) ws0 ws first e → Rehearses as_keeper order (drop (i + 1) order) ws0 ws' first e'
+taken_at as_keeper order n i at s d ws0 ws ws' first e e' within is sessions place did so_far =
     let session : IsSession n s = subst (IsSession n) (sym is) (All-get_or (IsSession n) order i d within sessions) in
     let left : drop i order ≡ s ∷ drop (i + 1) order = at_drop_more (λ xs. xs) order i d within ∙ ap (λ x. x ∷ drop (i + 1) order) (sym is) in
     let number : s.0 ≡ at + 1 = omega (arith, place, session.first) in
-    turn_taken told order (drop (i + 1) order) s ws0 ws ws' first e e' at did (ap (λ m. record { 0 = m }) number) (subst (λ l. Rehearses told order l ws0 ws first e) left so_far)
+    turn_taken as_keeper order (drop (i + 1) order) s ws0 ws ws' first e e' at did (ap (λ m. record { 0 = m }) number) (subst (λ l. Rehearses as_keeper order l ws0 ws first e) left so_far)
 
 -- ---- the first session that hasn't ended
 
@@ -332,8 +332,8 @@ module _ {K : Type 0} (ws : List Work) (e : EngineState K) (all : AllStand ws e)
   all_over none r is_session = over_at r is_session (λ w is. ended_all ws (r.0 - 1) w none is)
 
 -- Behind the order the first session that hasn't ended makes a turn.
-module _ {K : Type 0} (told : K → Keeper) (order : List SessionId) (ws0 ws ws' : List Work) (first e e' : EngineState K) (at : ℕ) (did : TurnedAt told at ws ws' e e') (working : position goes_on ws ≡ Some at)
-    (so_far : Rehearses told order [] ws0 ws first e) where
+module _ {K : Type 0} (as_keeper : K → Keeper) (order : List SessionId) (ws0 ws ws' : List Work) (first e e' : EngineState K) (at : ℕ) (did : TurnedAt as_keeper at ws ws' e e') (working : position goes_on ws ≡ Some at)
+    (so_far : Rehearses as_keeper order [] ws0 ws first e) where
   abbrev all : AllStand ws e
   all = so_far.all_stand
 
@@ -345,7 +345,7 @@ module _ {K : Type 0} (told : K → Keeper) (order : List SessionId) (ws0 ws ws'
         (λ w is. ended_before ws at (r.0 - 1) w working (omega (arith, less, is_session.first, numbered did.before at (all.number at did.before did.was))) is);
   }
 
-  last_step : (k : Option EndKind) → StandsBy k did.before e → Makes told k did.before did.after e e' → (rest : List Entry) → ToEnds (length e.books) e'.history rest → Turns (length e.books) order [] (e'.history ++ rest)
+  last_step : (k : Option EndKind) → StandsBy k did.before e → Makes as_keeper k did.before did.after e e' → (rest : List Entry) → ToEnds (length e.books) e'.history rest → Turns (length e.books) order [] (e'.history ++ rest)
   last_step None works (x, adds) =
       subst (λ h. (rest : List Entry) → ToEnds (length e.books) h rest → Turns (length e.books) order [] (h ++ rest)) (sym adds.is)
       (λ rest turns. subst (Turns (length e.books) order []) (sym (append_assoc e.history (x ∷ []) rest))
@@ -353,13 +353,13 @@ module _ {K : Type 0} (told : K → Keeper) (order : List SessionId) (ws0 ws ws'
   last_step (Some k) over (same, is_same) =
       subst (λ (f : EngineState K). (rest : List Entry) → ToEnds (length e.books) f.history rest → Turns (length e.books) order [] (f.history ++ rest)) (sym is_same) so_far.paced
 
-  pub turn_behind : Rehearses told order [] ws0 ws' first e'
-  turn_behind = keeps told order [] ws0 ws ws' first e e' at did [] so_far (last_step did.before.end (all.stand at did.before did.was) did.turned.makes)
+  pub turn_behind : Rehearses as_keeper order [] ws0 ws' first e'
+  turn_behind = keeps as_keeper order [] ws0 ws ws' first e e' at did [] so_far (last_step did.before.end (all.stand at did.before did.was) did.turned.makes)
 
 -- ---- the beginning and the end
 
-pub begins : {K : Type 0} (told : K → Keeper) (order : List SessionId) (ws : List Work) (e : EngineState K) → AllStand ws e → e.history ≡ [] → Rehearses told order order ws ws e e
-begins told order ws e all empty = record {
+pub begins : {K : Type 0} (as_keeper : K → Keeper) (order : List SessionId) (ws : List Work) (e : EngineState K) → AllStand ws e → e.history ≡ [] → Rehearses as_keeper order order ws ws e e
+begins as_keeper order ws e all empty = record {
   all_stand = all;
   scripts = refl;
   books = refl;
@@ -372,35 +372,35 @@ begins told order ws e all empty = record {
     no_entry : false ≡ true → ⊥
     no_entry is = cc
 
-pub paced_so : {K : Type 0} (told : K → Keeper) (order : List SessionId) (ws0 ws : List Work) (first e : EngineState K) → Rehearses told order [] ws0 ws first e → position goes_on ws ≡ None → Paced (length e.books) order e.history
-paced_so told order ws0 ws first e so_far none =
+pub paced_so : {K : Type 0} (as_keeper : K → Keeper) (order : List SessionId) (ws0 ws : List Work) (first e : EngineState K) → Rehearses as_keeper order [] ws0 ws first e → position goes_on ws ≡ None → Paced (length e.books) order e.history
+paced_so as_keeper order ws0 ws first e so_far none =
     subst (Turns (length e.books) order []) (append-nil e.history) (so_far.paced [] (all_over ws e so_far.all_stand none))
 
 -- ---- how many asks are left
 
 -- A turn that makes an entry makes the session's exchanges one more.
-module _ {K : Type 0} (told : K → Keeper) (w w' : Work) (e e' : EngineState K) (did : Turned told w w' e e') where
+module _ {K : Type 0} (as_keeper : K → Keeper) (w w' : Work) (e e' : EngineState K) (did : Turned as_keeper w w' e e') where
   mine_length : (v : Work) (f : EngineState K) → Seated v.session f → length (Mine f.history v.session.session) ≡ length v.session.transcript
-  mine_length v f seated = ap length seated.matches ∙ length-map v.session.transcript kept
+  mine_length v f seated = ap length seated.matches ∙ length-map v.session.transcript as_recorded
 
-  grown : (x : Entry) → Adds told w.session.session x e e' → Seated w.session e → Seated w'.session e' → length w'.session.transcript ≡ length w.session.transcript + 1
+  grown : (x : Entry) → Adds as_keeper w.session.session x e e' → Seated w.session e → Seated w'.session e' → length w'.session.transcript ≡ length w.session.transcript + 1
   grown x adds was now =
       let s : SessionId = w.session.session in
       let more : Mine e'.history s ≡ Mine e.history s ++ exchange x ∷ [] = ap (λ h. Mine h s) adds.is ∙ mine_more e.history x s adds.of in
       sym (mine_length w' e' now) ∙ ap (λ r. length (Mine e'.history r)) did.session ∙ ap length more ∙ length-append (Mine e.history s) (exchange x ∷ []) ∙ ap (λ n. n + 1) (mine_length w e was)
 
-  fewer_by : (k : Option EndKind) → k ≡ None → StandsBy k w e → Makes told k w w' e e' → MAX_COUNT - length w'.session.transcript < MAX_COUNT - length w.session.transcript
+  fewer_by : (k : Option EndKind) → k ≡ None → StandsBy k w e → Makes as_keeper k w w' e e' → MAX_COUNT - length w'.session.transcript < MAX_COUNT - length w.session.transcript
   fewer_by None is works (x, adds) = omega (arith, works.few, grown x adds works.seated (seated_of w'.end w' e' did.stands))
   fewer_by (Some k) is over makes = cc
 
   pub fewer_turned : w.end ≡ None → Stands w e → MAX_COUNT - length w'.session.transcript < MAX_COUNT - length w.session.transcript
   fewer_turned none stands = fewer_by w.end none stands did.makes
 
-module _ {K : Type 0} (told : K → Keeper) (at : ℕ) (ws ws' : List Work) (e e' : EngineState K) (all : AllStand ws e) (did : TurnedAt told at ws ws' e e') where
+module _ {K : Type 0} (as_keeper : K → Keeper) (at : ℕ) (ws ws' : List Work) (e e' : EngineState K) (all : AllStand ws e) (did : TurnedAt as_keeper at ws ws' e e') where
   sum_less : (f : Work → ℕ) (xs : List Work) (n : ℕ) (x y : Work) → slice_get xs n ≡ Some x → f y < f x → sum_by f (slice_set xs n y) < sum_by f xs
   sum_less f xs n x y is less = omega (arith, sum_by-set f xs n y x (slice_get_within xs n x is), ap f (get_or_from_slice_get xs n x x is), less)
 
   pub fewer_left : did.before.end ≡ None → asks_left ws' < asks_left ws
   fewer_left none =
       subst (λ xs. asks_left xs < asks_left ws) (sym did.now)
-      (sum_less (λ (w : Work). MAX_COUNT - length w.session.transcript) ws at did.before did.after did.was (fewer_turned told did.before did.after e e' did.turned none (all.stand at did.before did.was)))
+      (sum_less (λ (w : Work). MAX_COUNT - length w.session.transcript) ws at did.before did.after did.was (fewer_turned as_keeper did.before did.after e e' did.turned none (all.stand at did.before did.was)))

@@ -41,23 +41,23 @@ counted_so answer.NoMemory r k l is = is.faults
 counted_so answer.Stopped r k l is = absurd is
 counted_so x r k l is = is.1.faults
 
-module _ {K : Type 0} (told : K → Keeper) where
-  counted_by : (b : Bool) (old new : K) (x : Answer) (r : Replied) → Gives told b old new x r → (told old).faults ≤ (told new).faults
-  counted_by false old new x r gives = counted_so x r (told old) (told new) gives
-  counted_by true old new x r gives = omega (arith, ap (λ k. (told k).faults) gives.1)
+module _ {K : Type 0} (as_keeper : K → Keeper) where
+  counted_by : (b : Bool) (old new : K) (x : Answer) (r : Replied) → Gives as_keeper b old new x r → (as_keeper old).faults ≤ (as_keeper new).faults
+  counted_by false old new x r gives = counted_so x r (as_keeper old) (as_keeper new) gives
+  counted_by true old new x r gives = omega (arith, ap (λ k. (as_keeper k).faults) gives.1)
 
-  fault_by : (b : Bool) (old new : K) (x : Answer) (r : Replied) → Gives told b old new x r → x ≡ answer.DiskFault → Rises (told old).faults (told new).faults
-  fault_by false old new x r gives is = (subst (λ a. IsAnswer a r (told old) (told new)) is gives).cause
+  fault_by : (b : Bool) (old new : K) (x : Answer) (r : Replied) → Gives as_keeper b old new x r → x ≡ answer.DiskFault → Rises (as_keeper old).faults (as_keeper new).faults
+  fault_by false old new x r gives is = (subst (λ a. IsAnswer a r (as_keeper old) (as_keeper new)) is gives).cause
   fault_by true old new x r gives is = absurd (not_both x is gives.0)
     where
       not_both : (a : Answer) → a ≡ answer.DiskFault → a ≡ answer.Stopped → ⊥
       not_both a one two = cc
 
-  stopped_by : (b : Bool) (old new : K) (x : Answer) (r : Replied) → Gives told b old new x r → x ≡ answer.Stopped → b ≡ true
-  stopped_by false old new x r gives is = absurd (subst (λ a. IsAnswer a r (told old) (told new)) is gives)
+  stopped_by : (b : Bool) (old new : K) (x : Answer) (r : Replied) → Gives as_keeper b old new x r → x ≡ answer.Stopped → b ≡ true
+  stopped_by false old new x r gives is = absurd (subst (λ a. IsAnswer a r (as_keeper old) (as_keeper new)) is gives)
   stopped_by true old new x r gives is = refl
 
-  leaves_by : (b : Bool) (old new : K) (x : Answer) (r : Replied) → Gives told b old new x r → (b ≡ false → x ≡ answer.Done) → AnswersLeave x
+  leaves_by : (b : Bool) (old new : K) (x : Answer) (r : Replied) → Gives as_keeper b old new x r → (b ≡ false → x ≡ answer.Done) → AnswersLeave x
   leaves_by false old new x r gives done = subst AnswersLeave (sym (done refl)) tt
   leaves_by true old new x r gives done = subst AnswersLeave (sym gives.0) tt
 
@@ -91,11 +91,11 @@ suits x book has = tt
 
 -- ---- the whole
 
-module _ {K : Type 0} (told : K → Keeper) (old mid : EngineState K) (s : SessionId) (q : Ask) (x : Answer) (seat : IsSession (length old.books) s) (did : AnswersAsk told old mid s q x) where
+module _ {K : Type 0} (as_keeper : K → Keeper) (old mid : EngineState K) (s : SessionId) (q : Ask) (x : Answer) (seat : IsSession (length old.books) s) (did : AnswersAsk as_keeper old mid s q x) where
   book_is : book_at mid.books s.0 ≡ did.book
   book_is = ap (λ books. book_at books s.0) did.books ∙ book_taken old.books s.0 did.book seat.first seat.last
 
-  replies_taken : Replies told old (record mid { books = with_book mid.books s.0 None }) s q x (book_at mid.books s.0)
+  replies_taken : Replies as_keeper old (record mid { books = with_book mid.books s.0 None }) s q x (book_at mid.books s.0)
   replies_taken = record {
     adds = record {
       is = did.entry;
@@ -103,14 +103,14 @@ module _ {K : Type 0} (told : K → Keeper) (old mid : EngineState K) (s : Sessi
       sessions = did.sessions;
       books = books_length mid.books s.0 None ∙ ap length did.books ∙ books_length old.books s.0 did.book;
       others = did.others;
-      counted = counted_by told (has_given_up old.history) old.keeper mid.keeper x (Reply (database_of old) s q) did.gives;
-      fault = λ is. fault_by told (has_given_up old.history) old.keeper mid.keeper x (Reply (database_of old) s q) did.gives (sym (entry_of_answer s q x) ∙ is);
-      stopped = λ is. stopped_by told (has_given_up old.history) old.keeper mid.keeper x (Reply (database_of old) s q) did.gives (sym (entry_of_answer s q x) ∙ is);
+      counted = counted_by as_keeper (has_given_up old.history) old.keeper mid.keeper x (Reply (database_of old) s q) did.gives;
+      fault = λ is. fault_by as_keeper (has_given_up old.history) old.keeper mid.keeper x (Reply (database_of old) s q) did.gives (sym (entry_of_answer s q x) ∙ is);
+      stopped = λ is. stopped_by as_keeper (has_given_up old.history) old.keeper mid.keeper x (Reply (database_of old) s q) did.gives (sym (entry_of_answer s q x) ∙ is);
     };
     suits = suits x _ (subst (HasBook x) (sym book_is) did.has_book);
-    leaves = λ is. leaves_by told (has_given_up old.history) old.keeper mid.keeper x (Reply (database_of old) s q) did.gives (did.leaves is);
+    leaves = λ is. leaves_by as_keeper (has_given_up old.history) old.keeper mid.keeper x (Reply (database_of old) s q) did.gives (did.leaves is);
     stays = did.stays;
   }
 
-  pub replies : (new : EngineState K) (book : Option EditionView) → new ≡ record mid { books = with_book mid.books s.0 None } → book ≡ book_at mid.books s.0 → Replies told old new s q x book
-  replies new book is book_told = subst (λ n. Replies told old n s q x book) (sym is) (subst (Replies told old (record mid { books = with_book mid.books s.0 None }) s q x) (sym book_told) replies_taken)
+  pub replies : (new : EngineState K) (book : Option EditionView) → new ≡ record mid { books = with_book mid.books s.0 None } → book ≡ book_at mid.books s.0 → Replies as_keeper old new s q x book
+  replies new book is book_told = subst (λ n. Replies as_keeper old n s q x book) (sym is) (subst (Replies as_keeper old (record mid { books = with_book mid.books s.0 None }) s q x) (sym book_told) replies_taken)

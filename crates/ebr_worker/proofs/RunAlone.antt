@@ -65,42 +65,42 @@ goes_by q x on = not_true (is_last x) (λ last. both (ends q x) on (last_ends q 
 
 -- ---- a turn
 
-module _ {K : Type 0} (told : K → Keeper) (w0 w w' : Work) (first e e' : EngineState K) (so_far : RunsAlone told w0 w first e) (runs : w.end ≡ None) (did : Turned told w w' e e') where
-  makes : (x : Entry) × Adds told w.session.session x e e'
-  makes = subst (λ o. Makes told o w w' e e') runs did.makes
+module _ {K : Type 0} (as_keeper : K → Keeper) (w0 w w' : Work) (first e e' : EngineState K) (so_far : RunsAlone as_keeper w0 w first e) (runs : w.end ≡ None) (did : Turned as_keeper w w' e e') where
+  makes : (x : Entry) × Adds as_keeper w.session.session x e e'
+  makes = subst (λ o. Makes as_keeper o w w' e e') runs did.makes
 
   works : Works w e
   works = subst (λ o. StandsBy o w e) runs so_far.stands
 
-  not_stopped : (x : Entry) → Adds told w.session.session x e e' → is_stop x.answer ≡ false
+  not_stopped : (x : Entry) → Adds as_keeper w.session.session x e e' → is_stop x.answer ≡ false
   not_stopped x adds = not_true (is_stop x.answer) (λ is. both (has_given_up e.history) (so_far.goes runs) (adds.stopped (stop_is x.answer is)))
 
-  goes_on : (x : Entry) → Adds told w.session.session x e e' → w'.end ≡ None → has_given_up e'.history ≡ false
+  goes_on : (x : Entry) → Adds as_keeper w.session.session x e e' → w'.end ≡ None → has_given_up e'.history ≡ false
   goes_on x adds still =
       let after : Works w' e' = subst (λ o. StandsBy o w' e') still did.stands in
       let on : ends x.ask x.answer ≡ false =
       sym (over_more e.history x w.session.session adds.of works.not_over) ∙ ap (λ h. is_over h w.session.session) (sym adds.is) ∙ ap (is_over e'.history) (sym did.session) ∙ after.not_over in
       ap has_given_up adds.is ∙ given_up_more e.history x (so_far.goes runs) (goes_by x.ask x.answer on)
 
-  after_entry : (x : Entry) → Adds told w.session.session x e e' → RunsAlone told w0 w' first e'
+  after_entry : (x : Entry) → Adds as_keeper w.session.session x e e' → RunsAlone as_keeper w0 w' first e'
   after_entry x adds = record {
     stands = did.stands;
     session = did.session ∙ so_far.session;
     script = did.script ∙ so_far.script;
     sessions = adds.sessions ∙ so_far.sessions;
     counted = omega (arith, so_far.counted, adds.counted);
-    faultless = faultless_more told w.session.session x first e e' adds so_far.counted so_far.faultless;
+    faultless = faultless_more as_keeper w.session.session x first e e' adds so_far.counted so_far.faultless;
     no_stop = ap has_stop adds.is ∙ stop_more e.history x so_far.no_stop (not_stopped x adds);
     goes = goes_on x adds;
   }
 
-  pub alone_turned : RunsAlone told w0 w' first e'
+  pub alone_turned : RunsAlone as_keeper w0 w' first e'
   alone_turned = after_entry makes.0 makes.1
 
 -- ---- the beginning and the end
 
-pub alone_first : {K : Type 0} (told : K → Keeper) (w : Work) (e : EngineState K) → Works w e → w.end ≡ None → e.history ≡ [] → RunsAlone told w w e e
-alone_first told w e works runs none = record {
+pub alone_first : {K : Type 0} (as_keeper : K → Keeper) (w : Work) (e : EngineState K) → Works w e → w.end ≡ None → e.history ≡ [] → RunsAlone as_keeper w w e e
+alone_first as_keeper w e works runs none = record {
   stands = subst (λ o. StandsBy o w e) (sym runs) works;
   session = refl;
   script = refl;
@@ -123,8 +123,8 @@ works_alone {K} e k w s script is begins f session written no_end =
 no_end : false ≡ true → ⊥
 no_end is = cc
 
-pub alone_few : {K : Type 0} (told : K → Keeper) (w0 w : Work) (first e : EngineState K) → RunsAlone told w0 w first e → IsSome w.end → length w.session.transcript ≤ MAX_COUNT
-alone_few told w0 w first e ran ended = by w.end ended ran.stands
+pub alone_few : {K : Type 0} (as_keeper : K → Keeper) (w0 w : Work) (first e : EngineState K) → RunsAlone as_keeper w0 w first e → IsSome w.end → length w.session.transcript ≤ MAX_COUNT
+alone_few as_keeper w0 w first e ran ended = by w.end ended ran.stands
   where
     by : (o : Option EndKind) → IsSome o → StandsBy o w e → length w.session.transcript ≤ MAX_COUNT
     by None some stands = absurd (no_end some)
@@ -140,7 +140,7 @@ runs_on o p r same is on = by o (ap is_some (sym same) ∙ is ∙ ap not on)
 same_some : {X : Type 0} (a b : X) → Some a ≡ Some b → a ≡ b
 same_some a b e = cc
 
-module _ {S K : Type 0} (held : S → Option (List ℕ)) (faults : S → ℕ) (told : K → Keeper) (w0 w : Work) (first e : EngineState K) (script : List ℕ) (ran : RunsAlone told w0 w first e) (number : w0.session.session ≡ nth_session 0) (script_is : w0.session.script ≡ script) where
+module _ {S K : Type 0} (held : S → Option (List ℕ)) (faults : S → ℕ) (as_keeper : K → Keeper) (w0 w : Work) (first e : EngineState K) (script : List ℕ) (ran : RunsAlone as_keeper w0 w first e) (number : w0.session.session ≡ nth_session 0) (script_is : w0.session.script ≡ script) where
   ends_at : (o : Option EndKind) → w.end ≡ o → IsSome o → StandsBy o w e → EndsAt (script ∷ []) e 0 w
   ends_at None is some stands = absurd (no_end some)
   ends_at (Some k) is some over = record {
@@ -161,8 +161,8 @@ module _ {S K : Type 0} (held : S → Option (List ℕ)) (faults : S → ℕ) (t
         no_stop = ap has_stop same ∙ ran.no_stop;
       }
 
-pub history_alone : {K : Type 0} (told : K → Keeper) (w0 w : Work) (first e : EngineState K) (h : List Entry) → ((k : K) → (told k).faults ≡ 0) → RunsAlone told w0 w first e → first.sessions ≡ 1 → h ≡ e.history → Legal (Build [] e.sessions) e.history → IsHistory 1 h
-history_alone told w0 w first e h none ran one same legal = record {
+pub history_alone : {K : Type 0} (as_keeper : K → Keeper) (w0 w : Work) (first e : EngineState K) (h : List Entry) → ((k : K) → (as_keeper k).faults ≡ 0) → RunsAlone as_keeper w0 w first e → first.sessions ≡ 1 → h ≡ e.history → Legal (Build [] e.sessions) e.history → IsHistory 1 h
+history_alone as_keeper w0 w first e h none ran one same legal = record {
   legal = subst (λ t. Legal (Build [] 1) t) (sym same) (subst (λ n. Legal (Build [] n) e.history) (ran.sessions ∙ one) legal);
-  no_fault = ap has_fault same ∙ no_fault told first e none ran.faultless;
+  no_fault = ap has_fault same ∙ no_fault as_keeper first e none ran.faultless;
 }

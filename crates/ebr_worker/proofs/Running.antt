@@ -116,9 +116,9 @@ ends_first scripts ws e same all i w is =
     })
 
 pub end_at : {S K : Type 0} (held : S → Option (List ℕ)) (faults : S → ℕ) (scripts : List (List ℕ)) (e : EngineState K) (i : ℕ) (w : Work) (x : SessionEnd S) → EndsAt scripts e i w → IsEndOf held faults w x → IsSome x.sink → IsEndAt held faults scripts e.history i x
-end_at held faults scripts e i w x at told sink = record {
+end_at held faults scripts e i w x at as_keeper sink = record {
   sink = sink;
-  is_end = λ script there. is_end held faults w e at.end (nth_session i) script x at.ended at.over at.number (at.script script there) told;
+  is_end = λ script there. is_end held faults w e at.end (nth_session i) script x at.ended at.over at.number (at.script script there) as_keeper;
 }
 
 -- ---- the disk
@@ -126,11 +126,11 @@ end_at held faults scripts e i w x at told sink = record {
 no_rise : (a b : ℕ) → Rises a b → b ≡ 0 → ⊥
 no_rise a b rises none = omega (arith, rises, none)
 
-pub no_fault : {K : Type 0} (told : K → Keeper) (first e : EngineState K) → ((k : K) → (told k).faults ≡ 0) → Faultless told first e → has_fault e.history ≡ false
-no_fault told first e none faultless = by (has_fault e.history) refl
+pub no_fault : {K : Type 0} (as_keeper : K → Keeper) (first e : EngineState K) → ((k : K) → (as_keeper k).faults ≡ 0) → Faultless as_keeper first e → has_fault e.history ≡ false
+no_fault as_keeper first e none faultless = by (has_fault e.history) refl
   where
     by : (b : Bool) → has_fault e.history ≡ b → has_fault e.history ≡ false
-    by true is = absurd (no_rise (told first.keeper).faults (told e.keeper).faults (faultless is) (none e.keeper))
+    by true is = absurd (no_rise (as_keeper first.keeper).faults (as_keeper e.keeper).faults (faultless is) (none e.keeper))
     by false is = is
 
 -- ---- the loops over workers and sinks

@@ -23,7 +23,7 @@ use Rattle.ebr_session.specs.Sessions.{SessionRun, Printed}
 use Rattle.ebr_core.specs.Engine.{EngineState, database_of, entry_of}
 use Rattle.ebr_core.specs.History.{IsLive, Mine}
 use Rattle.ebr_core.specs.History.{exchange as exchange_of}
-use Rattle.ebr_worker.specs.Matches.{ask_kept, kept}
+use Rattle.ebr_worker.specs.Matches.{ask_recorded, as_recorded}
 use Rattle.ebr_worker.specs.Paced.{IsSession, is_over}
 use Rattle.ebr_worker.specs.Ends.{AnswersLeave, Came, QuitWhole, Ran, RanOut, RanToEnd, StopsIt, WantsMemory, printed_before_last}
 use Rattle.ebr_worker.specs.Work.{Adds, Over, Seated, StandsBy, Work, Works}
@@ -32,15 +32,15 @@ use Rattle.ebr_worker.proofs.Histories.{mine_more, over_more}
 
 -- ---- what is kept of exchanges
 
-answers_kept : (mine : List Exchange) → answers (map kept mine) ≡ answers mine
+answers_kept : (mine : List Exchange) → answers (map as_recorded mine) ≡ answers mine
 answers_kept [] = refl
 answers_kept (x ∷ mine) = ap (λ xs. x.answer ∷ xs) (answers_kept mine)
 
-answers_of : (mine transcript : List Exchange) → mine ≡ map kept transcript → answers mine ≡ answers transcript
+answers_of : (mine transcript : List Exchange) → mine ≡ map as_recorded transcript → answers mine ≡ answers transcript
 answers_of mine transcript matches = ap answers matches ∙ answers_kept transcript
 
-length_of : (mine transcript : List Exchange) → mine ≡ map kept transcript → length mine ≡ length transcript
-length_of mine transcript matches = ap length matches ∙ length-map transcript kept
+length_of : (mine transcript : List Exchange) → mine ≡ map as_recorded transcript → length mine ≡ length transcript
+length_of mine transcript matches = ap length matches ∙ length-map transcript as_recorded
 
 -- the answers before the last exchange
 before_last : (mine : List Exchange) (x : Exchange) → take (length mine) (answers (mine ++ x ∷ [])) ≡ answers mine
@@ -50,7 +50,7 @@ before_last mine x =
     ∙ take-append_seam (answers mine) (x.answer ∷ [])
 
 -- the entry of an ask has what is kept of its exchange
-entry_kept : (s : SessionId) (q : Ask) (x : Answer) → exchange_of (entry_of s q x) ≡ kept (exchange q x)
+entry_kept : (s : SessionId) (q : Ask) (x : Answer) → exchange_of (entry_of s q x) ≡ as_recorded (exchange q x)
 entry_kept s q answer.Stopped = refl
 entry_kept s q x = refl
 
@@ -63,14 +63,14 @@ entry_ends : (s : SessionId) (q : Ask) (x : Answer) → ends (entry_of s q x).as
 entry_ends s q answer.Stopped = sym (stopped_ends q)
 entry_ends s q x = refl
 
-leave_kept : (x : Answer) → ask_kept ask.Leave x ≡ ask.Leave
+leave_kept : (x : Answer) → ask_recorded ask.Leave x ≡ ask.Leave
 leave_kept answer.Stopped = refl
 leave_kept x = refl
 
 -- ---- what follows of a session
 
 -- a session that has ended has run so
-ran_so : (s : Progress) (mine : List Exchange) → Follows s → s.ended ≡ true → mine ≡ map kept s.transcript → Ran s.script mine s.quit (run_of s).state.printed
+ran_so : (s : Progress) (mine : List Exchange) → Follows s → s.ended ≡ true → mine ≡ map as_recorded s.transcript → Ran s.script mine s.quit (run_of s).state.printed
 ran_so s mine f over matches =
     let made : Made Ended (asks s.transcript) s = subst (λ b. HasAsked b s.out s) over f.asked in
     let same : answers mine ≡ answers s.transcript = answers_of mine s.transcript matches in
@@ -117,7 +117,7 @@ asking q old new e works few on =
       follows = on.follows;
       seated = record {
         is_session = subst (IsSession (length e.books)) (sym number) works.seated.is_session;
-        matches = ap (Mine e.history) number ∙ works.seated.matches ∙ ap (map kept) (sym mine);
+        matches = ap (Mine e.history) number ∙ works.seated.matches ∙ ap (map as_recorded) (sym mine);
       };
       not_over = ap (is_over e.history) number ∙ works.not_over;
       few = subst (λ t. length t + 1 < MAX_COUNT) (sym mine) few;
@@ -141,7 +141,7 @@ done_by x on leaves = absurd leaves
 
 -- the last exchange of a session, and how it has run
 record Last (script : List ℕ) (before mine : List Exchange) (q : Ask) (x : Answer) (replies : List ℕ) : Type 0 where
-  pub is : mine ≡ before ++ kept (exchange q x) ∷ []
+  pub is : mine ≡ before ++ as_recorded (exchange q x) ∷ []
   pub went_on : AllContinue (answers before)
   pub ran : Ran script mine None replies
   pub leaves : q ≡ ask.Leave → AnswersLeave x
@@ -149,7 +149,7 @@ record Last (script : List ℕ) (before mine : List Exchange) (q : Ask) (x : Ans
 ran_out : (By : Answer → Type 0) (script : List ℕ) (before mine : List Exchange) (q : Ask) (x : Answer) (replies : List ℕ) → By x → Last script before mine q x replies → RanOut By script mine replies
 ran_out By script before mine q x replies by_it l = record {
   before = before;
-  ask = ask_kept q x;
+  ask = ask_recorded q x;
   answer = x;
   last = l.is;
   went_on = l.went_on;
@@ -163,7 +163,7 @@ ran_to_end script before mine q x replies on over l =
     let done : x ≡ answer.Done = done_by x on (l.leaves left) in
     record {
       before = before;
-      last = l.is ∙ ap (λ a. before ++ kept (exchange a x) ∷ []) left ∙ ap (λ y. before ++ kept (exchange ask.Leave y) ∷ []) done;
+      last = l.is ∙ ap (λ a. before ++ as_recorded (exchange a x) ∷ []) left ∙ ap (λ y. before ++ as_recorded (exchange ask.Leave y) ∷ []) done;
       went_on = l.went_on;
       ran = l.ran;
     }
@@ -181,7 +181,7 @@ no_sink_fault answer.Stopped same = cc
 no_sink_fault x same = cc
 
 -- What an answered ask makes of it, where all was written before.
-module _ {K : Type 0} (told : K → Keeper) (q : Ask) (end : Option EndKind) (old new : Work) (e e' : EngineState K) (was : Asking q old.session e) (written : old.written ≡ old.session.printed) (did : Asked told q end old new e e') where
+module _ {K : Type 0} (as_keeper : K → Keeper) (q : Ask) (end : Option EndKind) (old new : Work) (e e' : EngineState K) (was : Asking q old.session e) (written : old.written ≡ old.session.printed) (did : Asked as_keeper q end old new e e') where
   abbrev s : Progress
   s = old.session
 
@@ -209,18 +209,18 @@ module _ {K : Type 0} (told : K → Keeper) (q : Ask) (end : Option EndKind) (ol
   quit_is : new.session.quit ≡ None
   quit_is = ap (λ (t : Progress). t.quit) session_is ∙ was.no_quit
 
-  mine_is : Mine e'.history s.session ≡ Mine e.history s.session ++ kept (exchange q x) ∷ []
+  mine_is : Mine e'.history s.session ≡ Mine e.history s.session ++ as_recorded (exchange q x) ∷ []
   mine_is =
       ap (λ h. Mine h s.session) did.replies.adds.is
       ∙ mine_more e.history entry s.session did.replies.adds.of
       ∙ ap (λ y. Mine e.history s.session ++ y ∷ []) (entry_kept s.session q x)
 
-  matches_is : Mine e'.history s.session ≡ map kept new.session.transcript
+  matches_is : Mine e'.history s.session ≡ map as_recorded new.session.transcript
   matches_is =
       mine_is
-      ∙ ap (λ m. m ++ kept (exchange q x) ∷ []) was.seated.matches
-      ∙ sym (map-append kept s.transcript (exchange q x ∷ []))
-      ∙ ap (map kept) (sym transcript_is)
+      ∙ ap (λ m. m ++ as_recorded (exchange q x) ∷ []) was.seated.matches
+      ∙ sym (map-append as_recorded s.transcript (exchange q x ∷ []))
+      ∙ ap (map as_recorded) (sym transcript_is)
 
   seated_is : Seated new.session e'
   seated_is = record {
@@ -303,8 +303,8 @@ written_so w e works =
     works.written ∙ (printed_so w e works).0 ∙ ap (printed_before s.script (answers s.transcript)) (sym (length-map s.transcript (λ (x : Exchange). x.answer)))
 
 -- A session quits, goes on to Leave, and has it answered.
-module _ {K : Type 0} (told : K → Keeper) (w quits mid new : Work) (e e' : EngineState K) (q : Ask) (c : Option EndKind) (may : MayLeave w.session w.written e) (quit_is : quits ≡ record w { session = quitting w.session.ended w.session })
-    (on : Advanced (Ok (next.Ask q)) quits mid) (did : Asked told q c mid new e e') where
+module _ {K : Type 0} (as_keeper : K → Keeper) (w quits mid new : Work) (e e' : EngineState K) (q : Ask) (c : Option EndKind) (may : MayLeave w.session w.written e) (quit_is : quits ≡ record w { session = quitting w.session.ended w.session })
+    (on : Advanced (Ok (next.Ask q)) quits mid) (did : Asked as_keeper q c mid new e e') where
   abbrev p : Progress
   p = w.session
 
@@ -347,21 +347,21 @@ module _ {K : Type 0} (told : K → Keeper) (w quits mid new : Work) (e e' : Eng
   abbrev leaving : Entry
   leaving = entry_of p.session q said
 
-  adds_left : Adds told p.session leaving e e'
-  adds_left = subst (λ r. Adds told r (entry_of r q said) e e') number_mid did.replies.adds
+  adds_left : Adds as_keeper p.session leaving e e'
+  adds_left = subst (λ r. Adds as_keeper r (entry_of r q said) e e') number_mid did.replies.adds
 
-  mine_left : Mine e'.history p.session ≡ Mine e.history p.session ++ kept (exchange q said) ∷ []
+  mine_left : Mine e'.history p.session ≡ Mine e.history p.session ++ as_recorded (exchange q said) ∷ []
   mine_left =
       ap (λ h. Mine h p.session) adds_left.is
       ∙ mine_more e.history leaving p.session adds_left.of
       ∙ ap (λ y. Mine e.history p.session ++ y ∷ []) (entry_kept p.session q said)
 
-  matches_left : Mine e'.history p.session ≡ map kept new.session.transcript
+  matches_left : Mine e'.history p.session ≡ map as_recorded new.session.transcript
   matches_left =
       mine_left
-      ∙ ap (λ m. m ++ kept (exchange q said) ∷ []) may.seated.matches
-      ∙ sym (map-append kept p.transcript (exchange q said ∷ []))
-      ∙ ap (map kept) (sym transcript_left)
+      ∙ ap (λ m. m ++ as_recorded (exchange q said) ∷ []) may.seated.matches
+      ∙ sym (map-append as_recorded p.transcript (exchange q said ∷ []))
+      ∙ ap (map as_recorded) (sym transcript_left)
 
   answers_same : answers (Mine e.history p.session) ≡ answers p.transcript
   answers_same = answers_of (Mine e.history p.session) p.transcript may.seated.matches
@@ -376,10 +376,10 @@ module _ {K : Type 0} (told : K → Keeper) (w quits mid new : Work) (e e' : Eng
   long_left : length new.session.transcript ≡ length p.transcript + 1
   long_left = ap length transcript_left ∙ length-append p.transcript (exchange q said ∷ [])
 
-  leave_is : kept (exchange q said) ≡ record { ask = ask.Leave; answer = said }
-  leave_is = ap (λ a. kept (exchange a said)) is_leave ∙ ap (λ a. record { ask = a; answer = said }) (leave_kept said)
+  leave_is : as_recorded (exchange q said) ≡ record { ask = ask.Leave; answer = said }
+  leave_is = ap (λ a. as_recorded (exchange a said)) is_leave ∙ ap (λ a. record { ask = a; answer = said }) (leave_kept said)
 
-  pub left : Left told w new e e'
+  pub left : Left as_keeper w new e e'
   left = record {
     quit = record {
       before = Mine e.history p.session;
@@ -410,9 +410,9 @@ module _ {K : Type 0} (told : K → Keeper) (w quits mid new : Work) (e e' : Eng
 -- ---- turns
 
 -- A session that has quit is over, with its cause.
-over_left_so : {K : Type 0} (told : K → Keeper) (k : EndKind) (old new : Work) (e e' : EngineState K) → Left told old new e e'
+over_left_so : {K : Type 0} (as_keeper : K → Keeper) (k : EndKind) (old new : Work) (e e' : EngineState K) → Left as_keeper old new e e'
     → Came k old.session.script (Mine e'.history old.session.session) old.written → (k ≡ ending.SinkFault → 0 < new.faults) → Over k new e'
-over_left_so told k old new e e' l came failed = record {
+over_left_so as_keeper k old new e e' l came failed = record {
   ended = l.ended;
   seated = l.seated;
   over = ap (is_over e'.history) l.session ∙ l.over;
@@ -423,9 +423,9 @@ over_left_so told k old new e e' l came failed = record {
   failed = failed;
 }
 
-pub stepped_asked : {K : Type 0} (told : K → Keeper) (q : Ask) (c : Option EndKind) (old mid wrote new : Work) (e e' : EngineState K) → Works old e → length old.session.transcript + 1 < MAX_COUNT
-    → Advanced (Ok (next.Ask q)) old mid → Flushed true mid wrote → Asked told q c wrote new e e' → Stepped told c old new e e'
-stepped_asked told q c old mid wrote new e e' works few on flushed did =
+pub stepped_asked : {K : Type 0} (as_keeper : K → Keeper) (q : Ask) (c : Option EndKind) (old mid wrote new : Work) (e e' : EngineState K) → Works old e → length old.session.transcript + 1 < MAX_COUNT
+    → Advanced (Ok (next.Ask q)) old mid → Flushed true mid wrote → Asked as_keeper q c wrote new e e' → Stepped as_keeper c old new e e'
+stepped_asked as_keeper q c old mid wrote new e e' works few on flushed did =
     let was : Asking q wrote.session e = subst (λ s. Asking q s e) (sym flushed.session) (asking q old mid e works few on) in
     let same : mid.faults ≡ old.faults = ap (λ (v : Work). v.faults) on.same in
     let kept_so : new.faults ≡ wrote.faults = ap (λ (v : Work). v.faults) did.took in
@@ -433,8 +433,8 @@ stepped_asked told q c old mid wrote new e e' works few on flushed did =
     record {
       session = ap (λ (t : Progress). t.session) (ap (λ (v : Work). v.session) did.took) ∙ number;
       script = ap (λ (t : Progress). t.script) (ap (λ (v : Work). v.session) did.took) ∙ ap (λ (t : Progress). t.script) flushed.session ∙ ap (λ (t : Progress). t.script) on.advances.is;
-      came = came told q c wrote new e e' was flushed.whole did;
-      makes = (entry_of old.session.session q did.answer, subst (λ r. Adds told r (entry_of r q did.answer) e e') number did.replies.adds);
+      came = came as_keeper q c wrote new e e' was flushed.whole did;
+      makes = (entry_of old.session.session q did.answer, subst (λ r. Adds as_keeper r (entry_of r q did.answer) e e') number did.replies.adds);
       counted = omega (arith, same, kept_so, flushed.counted);
     }
 
@@ -442,20 +442,20 @@ not_sink : {A : Type 0} → ending.NoMemory ≡ ending.SinkFault → A
 not_sink same = cc
 
 -- A session that found no memory, or has made too many asks, leaves with all written that it printed.
-pub stepped_left : {K : Type 0} (told : K → Keeper) (k : EndKind) (old new : Work) (e e' : EngineState K) → k ≡ ending.NoMemory → Works old e → Left told old new e e' → Stepped told (Some k) old new e e'
-stepped_left told k old new e e' is works l =
+pub stepped_left : {K : Type 0} (as_keeper : K → Keeper) (k : EndKind) (old new : Work) (e e' : EngineState K) → k ≡ ending.NoMemory → Works old e → Left as_keeper old new e e' → Stepped as_keeper (Some k) old new e e'
+stepped_left as_keeper k old new e e' is works l =
     let quit : QuitWhole old.session.script (Mine e'.history old.session.session) old.written =
     record { quit = l.quit; whole = written_so old e works ∙ ap (printed_before_last old.session.script) (sym l.behind) } in
-    subst (λ c. Stepped told (Some c) old new e e') (sym is) (record {
+    subst (λ c. Stepped as_keeper (Some c) old new e e') (sym is) (record {
       session = l.session;
       script = l.script;
-      came = over_left_so told ending.NoMemory old new e e' l (inl quit) (λ same. not_sink same);
+      came = over_left_so as_keeper ending.NoMemory old new e e' l (inl quit) (λ same. not_sink same);
       makes = l.makes;
       counted = omega (arith, l.faults);
     })
 
-pub stepped_failed : {K : Type 0} (told : K → Keeper) (k : EndKind) (m : NoMemory) (old mid new : Work) (e e' : EngineState K) → k ≡ ending.NoMemory → Works old e → Advanced (Err m) old mid → Left told mid new e e'
-    → Stepped told (Some k) old new e e'
-stepped_failed told k m old mid new e e' is works on l =
+pub stepped_failed : {K : Type 0} (as_keeper : K → Keeper) (k : EndKind) (m : NoMemory) (old mid new : Work) (e e' : EngineState K) → k ≡ ending.NoMemory → Works old e → Advanced (Err m) old mid → Left as_keeper mid new e e'
+    → Stepped as_keeper (Some k) old new e e'
+stepped_failed as_keeper k m old mid new e e' is works on l =
     let same : mid ≡ old = on.same ∙ ap (λ s. record old { session = s }) on.advances.2 in
-    subst (λ w. Stepped told (Some k) w new e e') same (stepped_left told k mid new e e' is (subst (λ w. Works w e) (sym same) works) l)
+    subst (λ w. Stepped as_keeper (Some k) w new e e') same (stepped_left as_keeper k mid new e e' is (subst (λ w. Works w e) (sym same) works) l)

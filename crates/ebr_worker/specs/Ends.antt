@@ -16,13 +16,13 @@ use Rattle.ebr_calls.specs.Courses.{AllContinue}
 use Rattle.ebr_session.specs.Has.{IsPrefix, answers, asks, printed_before}
 use Rattle.ebr_session.specs.Sessions.{SessionRun, Printed}
 use Rattle.ebr_core.specs.History.{Mine}
-use Rattle.ebr_worker.specs.Matches.{kept}
+use Rattle.ebr_worker.specs.Matches.{as_recorded}
 
 -- The asks of a session's exchanges are just those of its run for the answers that it was given, up to asks that were answered Stopped,
 -- and this is what the run prints. With `quit` it quits after so many answers.
 pub record Ran (script : List ℕ) (mine : List Exchange) (quit : Option ℕ) (printed : List ℕ) : Type 0 where
   pub transcript : List Exchange
-  pub matches : mine ≡ map kept transcript
+  pub matches : mine ≡ map as_recorded transcript
   pub asked : (SessionRun script (answers mine) quit).state.asks ≡ asks transcript
   pub printed_is : (SessionRun script (answers mine) quit).state.printed ≡ printed
   pub ended : (SessionRun script (answers mine) quit).flow ≡ Ended

@@ -11,16 +11,16 @@ use Rattle.ebr_asks.specs.declared.entry.Exchange.{Exchange}
 use Rattle.ebr_core.specs.History.{Mine}
 
 -- The ask that an entry holds: Leave in the place of one that was answered that the engine has stopped.
-abbrev pub ask_kept : Ask → Answer → Ask
-ask_kept q Stopped = Leave
-ask_kept q x = q
+abbrev pub ask_recorded : Ask → Answer → Ask
+ask_recorded q Stopped = Leave
+ask_recorded q x = q
 
-abbrev pub kept : Exchange → Exchange
-kept x = record { ask = ask_kept x.ask x.answer; answer = x.answer }
+abbrev pub as_recorded : Exchange → Exchange
+as_recorded x = record { ask = ask_recorded x.ask x.answer; answer = x.answer }
 
 -- A session's exchanges are those that the history has of it.
 abbrev pub Matches : List Exchange → List Entry → SessionId → Type 0
-Matches transcript history s = Mine history s ≡ map kept transcript
+Matches transcript history s = Mine history s ≡ map as_recorded transcript
 
 abbrev pub is_fault : Answer → Bool
 is_fault DiskFault = true

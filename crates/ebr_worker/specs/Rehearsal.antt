@@ -24,4 +24,4 @@ scripts_of ws = map (λ (w : Work). w.session.script) ws
 
 -- An entry that the disk failed stands in the history only where the keeper's count of faults rose.
 abbrev pub Faultless : {K : Type 0} → (K → Keeper) → EngineState K → EngineState K → Type 0
-Faultless told first e = has_fault e.history ≡ true → Rises (told first.keeper).faults (told e.keeper).faults
+Faultless as_keeper first e = has_fault e.history ≡ true → Rises (as_keeper first.keeper).faults (as_keeper e.keeper).faults

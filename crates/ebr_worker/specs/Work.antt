@@ -66,27 +66,27 @@ Stands w e = StandsBy w.end w e
 
 -- An entry of a session was added. Other sessions that live stay so. That the disk failed is answered only where the keeper's count of
 -- faults rose, and Stopped only where the engine had given up.
-pub record Adds {K : Type 0} (told : K → Keeper) (s : SessionId) (x : Entry) (old new : EngineState K) : Type 0 where
+pub record Adds {K : Type 0} (as_keeper : K → Keeper) (s : SessionId) (x : Entry) (old new : EngineState K) : Type 0 where
   pub is : new.history ≡ old.history ++ x ∷ []
   pub of : x.session ≡ s
   pub sessions : new.sessions ≡ old.sessions
   pub books : length new.books ≡ length old.books
   pub others : (r : SessionId) → (r.0 ≡ s.0 → ⊥) → IsLive (database_of old) r → IsLive (database_of new) r
-  pub counted : (told old.keeper).faults ≤ (told new.keeper).faults
-  pub fault : x.answer ≡ DiskFault → Rises (told old.keeper).faults (told new.keeper).faults
+  pub counted : (as_keeper old.keeper).faults ≤ (as_keeper new.keeper).faults
+  pub fault : x.answer ≡ DiskFault → Rises (as_keeper old.keeper).faults (as_keeper new.keeper).faults
   pub stopped : x.answer ≡ Stopped → has_given_up old.history ≡ true
 
 -- The turn of a session that has ended does nothing, and any other one makes an entry.
 abbrev pub Makes : {K : Type 0} → (K → Keeper) → Option EndKind → Work → Work → EngineState K → EngineState K → Type 0
-Makes told None old new e e' = (x : Entry) × Adds told old.session.session x e e'
-Makes told (Some k) old new e e' = (new ≡ old) × (e' ≡ e)
+Makes as_keeper None old new e e' = (x : Entry) × Adds as_keeper old.session.session x e e'
+Makes as_keeper (Some k) old new e e' = (new ≡ old) × (e' ≡ e)
 
 -- What a turn does.
-pub record Turned {K : Type 0} (told : K → Keeper) (old new : Work) (e e' : EngineState K) : Type 0 where
+pub record Turned {K : Type 0} (as_keeper : K → Keeper) (old new : Work) (e e' : EngineState K) : Type 0 where
   pub session : new.session.session ≡ old.session.session
   pub script : new.session.script ≡ old.session.script
   pub stands : Stands new e'
-  pub makes : Makes told old.end old new e e'
+  pub makes : Makes as_keeper old.end old new e e'
   pub counted : old.faults ≤ new.faults
 
 -- ---- its end

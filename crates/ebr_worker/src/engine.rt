@@ -33,7 +33,7 @@ pub fn answer<K: Keep>(
     requires seat { IsSession (length engine.old.books) session }
     requires live { IsLive (database_of engine.old) session }
     requires fit { IsFit ask }
-    ensures { Replies K.told engine.old engine.new session ask result.0 result.1 }
+    ensures { Replies K.as_keeper engine.old engine.new session ask result.0 result.1 }
 {
     let answer = engine.answer(session, ask);
     let book = engine.take_book(session);

@@ -19,7 +19,7 @@ impl Model for MemoryKeep {
 
     ghost Value = { Kept };
 
-    ghost view = { λ k. record { kept = k.list.kept; stopped = k.list.stopped } };
+    ghost view = { λ k. record { records = k.list.records; stopped = k.list.stopped } };
 
     ghost invariant = { λ k. (k.list.failing ≡ []) × (k.list.faults ≡ 0) };
 }
@@ -37,9 +37,9 @@ impl MemoryKeep {
 }
 
 impl Keep for MemoryKeep {
-    ghost use Rattle.ebr_worker.specs.inside.Memory.{told};
+    ghost use Rattle.ebr_worker.specs.inside.Memory.{as_keeper};
 
-    ghost told = { told };
+    ghost as_keeper = { as_keeper };
 
     fn is_stopped(&self) -> bool {
         self.list.is_stopped()

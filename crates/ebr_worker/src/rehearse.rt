@@ -26,7 +26,7 @@ pub fn rehearse_core<K: Keep, S: Sink>(
     ensures ended { AllEnded workers.new engine.new }
     ensures scripts { scripts_of workers.new ≡ scripts_of workers.old }
     ensures sessions { engine.new.sessions ≡ engine.old.sessions }
-    ensures faultless { Faultless K.told engine.old engine.new }
+    ensures faultless { Faultless K.as_keeper engine.old engine.new }
 {
     take_turns(engine, workers, order);
     while let Some(at) = first_working(workers) {
@@ -43,7 +43,7 @@ fn take_turns<K: Keep, S: Sink>(
     requires stand { AllStand workers.old engine.old }
     requires first { engine.old.history ≡ [] }
     requires order { All (IsSession (length workers.old)) order.now }
-    ensures { Rehearses K.told order.now [] workers.old workers.new engine.old engine.new }
+    ensures { Rehearses K.as_keeper order.now [] workers.old workers.new engine.old engine.new }
 {
     for session in order {
         turn_at(engine, workers, session.0 as usize - 1);
@@ -54,7 +54,7 @@ fn take_turns<K: Keep, S: Sink>(
 fn turn_at<K: Keep, S: Sink>(engine: &mut Engine<K>, workers: &mut [Worker<S>], at: usize)
     requires stand { AllStand workers.old engine.old }
     requires within { at < length workers.old }
-    ensures { TurnedAt K.told at workers.old workers.new engine.old engine.new }
+    ensures { TurnedAt K.as_keeper at workers.old workers.new engine.old engine.new }
 {
     workers[at].turn(engine);
 }

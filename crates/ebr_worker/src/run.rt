@@ -107,7 +107,7 @@ fn run_out<K: Keep, S: Sink>(engine: &mut Engine<K>, worker: &mut Worker<S>)
     requires works { Works worker.old engine.old }
     requires runs { worker.old.end ≡ None }
     requires first { engine.old.history ≡ [] }
-    ensures alone { RunsAlone K.told worker.old worker.new engine.old engine.new }
+    ensures alone { RunsAlone K.as_keeper worker.old worker.new engine.old engine.new }
     ensures ended { IsSome worker.new.end }
 {
     while worker.end().is_none() {

@@ -71,7 +71,7 @@ impl<S: Sink> Worker<S> {
     /// its sink fails, it quits, and the turn makes its Leave. That of a session that has ended does nothing.
     pub fn turn<K: Keep>(&mut self, engine: &mut Engine<K>)
         requires { Stands self.old engine.old }
-        ensures { Turned K.told self.old self.new engine.old engine.new }
+        ensures { Turned K.as_keeper self.old self.new engine.old engine.new }
     {
         if self.end.is_some() {
             return;
@@ -82,7 +82,7 @@ impl<S: Sink> Worker<S> {
     /// One turn of a session that runs. Gives how it ended, where it has.
     fn step<K: Keep>(&mut self, engine: &mut Engine<K>) -> Option<EndKind>
         requires { Works self.old engine.old }
-        ensures { Stepped K.told result self.old self.new engine.old engine.new }
+        ensures { Stepped K.as_keeper result self.old self.new engine.old engine.new }
     {
         if self.session.transcript().len() >= MAX_COUNT - 1 {
             return Some(self.leave(engine, EndKind::NoMemory));
@@ -125,7 +125,7 @@ impl<S: Sink> Worker<S> {
         requires live { IsLive (database_of engine.old) self.old.session.session }
         requires out { self.old.session.out ≡ Some ask }
         requires fit { IsFit ask }
-        ensures { Asked K.told ask result self.old self.new engine.old engine.new }
+        ensures { Asked K.as_keeper ask result self.old self.new engine.old engine.new }
     {
         let (answer, book) = answer(engine, self.session.id(), ask);
         let end = end_of(&answer);
@@ -141,7 +141,7 @@ impl<S: Sink> Worker<S> {
     fn leave<K: Keep>(&mut self, engine: &mut Engine<K>, end: EndKind) -> EndKind
         requires { MayLeave self.old.session self.old.written engine.old }
         ensures end { result ≡ end }
-        ensures left { Left K.told self.old self.new engine.old engine.new }
+        ensures left { Left K.as_keeper self.old self.new engine.old engine.new }
     {
         self.quit();
         match self.advance() {
@@ -165,7 +165,7 @@ impl<S: Sink> Worker<S> {
     pub fn into_end(self) -> SessionEnd<S>
         requires ended { IsSome self.end }
         requires few { length self.session.transcript ≤ MAX_COUNT }
-        ensures told { IsEndOf S.held S.faults self result }
+        ensures end { IsEndOf S.held S.faults self result }
         ensures sink { IsSome result.sink }
     {
         let Worker {

@@ -5,7 +5,7 @@ use Rattle.ebr_base.specs.declared.numbers.EditionNo.{EditionNo}
 use Rattle.ebr_ast.specs.declared.definition.Definition.{Definition}
 use Rattle.ebr_asks.specs.declared.answer.Answer.{Answer}
 use Rattle.ebr_cross.specs.declared.record.CatalogueRecord.{CatalogueRecord}
-use Rattle.ebr_cross.specs.Catalogue.{Lists, HaveOwnKeys, kept}
+use Rattle.ebr_cross.specs.Catalogue.{Lists, HaveOwnKeys, as_catalogue}
 use Rattle.ebr_cross.specs.Definitions.{outcome}
 use Rattle.ebr_cross.specs.Records.{with_record}
 use Rattle.ebr_record.specs.declared.record.Record.{Record}
@@ -37,13 +37,13 @@ Recorded = Outcome ℕ (Result CatalogueRecord Code)
 pub record IsKept (old new : Keeper) (o : Recorded) (r : CatalogueRecord) : Type 0 where
   pub made : o.made ≡ record_of r ∷ []
   pub value : o.value ≡ Ok r
-  pub kept : Grew old new (record_of r ∷ [])
+  pub grew : Grew old new (record_of r ∷ [])
 
 -- Nothing was kept.
 pub record NotKept (old new : Keeper) (o : Recorded) (code : Code) : Type 0 where
   pub made : o.made ≡ []
   pub value : o.value ≡ Err code
-  pub kept : Grew old new []
+  pub grew : Grew old new []
 
 -- by what the keeping of an outcome's record answers
 abbrev pub KeepsOutcome : Keeper → Keeper → Result (Unit {0}) Failure → Result CatalogueRecord Code → Recorded → Type 0
@@ -55,7 +55,7 @@ module _ {K : Type 0} where
   -- A table that a definition would make wasn't added before.
   pub record MakesNew (now : Current K) (e : EditionNo) (sessions : List EditionNo) (what : Definition) (text : List ℕ) : Type 0 where
     pub lists : Lists
-    pub is : now.world.catalogue ≡ kept lists
+    pub is : now.world.catalogue ≡ as_catalogue lists
     pub new : (r : CatalogueRecord) → outcome lists e sessions what text ≡ Ok r → IsNew now.world.tx.contents r
 
   -- The views, the books and the tables are those behind a definition.
@@ -67,42 +67,42 @@ module _ {K : Type 0} where
 
   -- The catalogue is so too.
   pub record Applied (lists : Lists) (r : CatalogueRecord) (old new : Current K) : Type 0 where
-    pub catalogue : new.world.catalogue ≡ kept (with_record lists r)
+    pub catalogue : new.world.catalogue ≡ as_catalogue (with_record lists r)
     pub own_keys : HaveOwnKeys (with_record lists r)
     pub noticed : Noticed lists r old new
 
   -- This is so of whichever lists are held.
   abbrev pub ForLists : Current K → (Lists → Type 0) → Type 0
-  ForLists now P = (lists : Lists) → HaveOwnKeys lists → AreCurrent lists now.views → AreCurrent lists now.world.book → now.world.catalogue ≡ kept lists → P lists
+  ForLists now P = (lists : Lists) → HaveOwnKeys lists → AreCurrent lists now.views → AreCurrent lists now.world.book → now.world.catalogue ≡ as_catalogue lists → P lists
 
-module _ {K : Type 0} (told : K → Keeper) where
+module _ {K : Type 0} (as_keeper : K → Keeper) where
   -- This is so of whichever database is held.
   abbrev pub ForHeld : Current K → (Database → Type 0) → Type 0
-  ForHeld now P = (db : Database) → Holds told now db → P db
+  ForHeld now P = (db : Database) → Holds as_keeper now db → P db
 
   -- There is such a database.
   pub record HoldsSome (now : Current K) : Type 0 where
     pub database : Database
-    pub holds : Holds told now database
+    pub holds : Holds as_keeper now database
 
   -- The definition was carried out, and its record kept.
   pub record IsMade (old new : Current K) (db : Database) (o : Recorded) : Type 0 where
     pub definition : CatalogueRecord
-    pub is : IsKept (told old.world.keeper) (told new.world.keeper) o definition
-    pub holds : Holds told new (with_definition_of db definition)
+    pub is : IsKept (as_keeper old.world.keeper) (as_keeper new.world.keeper) o definition
+    pub holds : Holds as_keeper new (with_definition_of db definition)
 
   -- It was refused, and nothing is another.
   pub record IsRefused (old new : Current K) (db : Database) (o : Recorded) (code : Code) : Type 0 where
-    pub is : NotKept (told old.world.keeper) (told new.world.keeper) o code
-    pub holds : Holds told new db
+    pub is : NotKept (as_keeper old.world.keeper) (as_keeper new.world.keeper) o code
+    pub holds : Holds as_keeper new db
 
   -- by what the carrying out answers
   abbrev pub Carries : Current K → Current K → Result (Unit {0}) Failure → Database → Recorded → Type 0
   Carries old new (Ok u) db o = IsMade old new db o
   Carries old new (Err (Refused code)) db o = IsRefused old new db o code
-  Carries old new (Err (Halted why)) db o = GaveUp (told old.world.keeper) (told new.world.keeper) o.made why
+  Carries old new (Err (Halted why)) db o = GaveUp (as_keeper old.world.keeper) (as_keeper new.world.keeper) o.made why
 
   -- This is answered, or there was no memory; the keeper wasn't asked.
   abbrev pub AnswersIn : Current K → Current K → Result Answer Halt → Database → Answer → Type 0
-  AnswersIn old new (Ok a) db wanted = (a ≡ wanted) × Holds told new db × (new.world.keeper ≡ old.world.keeper)
+  AnswersIn old new (Ok a) db wanted = (a ≡ wanted) × Holds as_keeper new db × (new.world.keeper ≡ old.world.keeper)
   AnswersIn old new (Err w) db wanted = (w ≡ why.NoMemory) × (new.world.keeper ≡ old.world.keeper)

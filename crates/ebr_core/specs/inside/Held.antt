@@ -13,7 +13,7 @@ use Rattle.ebr_seats.specs.Tests.{is_misplaced}
 use Rattle.ebr_asks.specs.declared.ask.Ask.TheVariants.{Begin, Sql, Ddl, EndCall, Leave}
 use Rattle.ebr_asks.specs.declared.answer.Answer.{Answer}
 use Rattle.ebr_asks.specs.declared.answer.Answer.TheVariants.{View, Done, Refused as refused}
-use Rattle.ebr_cross.specs.Catalogue.{HaveOwnKeys, kept}
+use Rattle.ebr_cross.specs.Catalogue.{HaveOwnKeys, as_catalogue}
 use Rattle.ebr_record.specs.Keeper.{Keeper}
 use Rattle.ebr_database.specs.declared.failure.Failure.{Failure}
 use Rattle.ebr_database.specs.declared.failure.Failure.TheVariants.{Refused, Halted}
@@ -72,22 +72,22 @@ abbrev pub ComesWith : Ask → Answer → Option EditionView → Type 0
 ComesWith Begin answer book = IsBookOf answer book
 ComesWith ask answer book = book ≡ None
 
-module _ {K : Type 0} (told : K → Keeper) where
+module _ {K : Type 0} (as_keeper : K → Keeper) where
   -- The catalogue is kept of the lists of the database, in which objects stand under their own keys; the views and the books are of
   -- what their editions see; the transactions, the seats and the keeper are those of the database; its records are such as the
   -- machine makes; and none of its transactions began later than now.
   pub record Holds (now : Current K) (db : Database) : Type 0 where
-    pub catalogue_is : now.world.catalogue ≡ kept (lists_of db)
+    pub catalogue_is : now.world.catalogue ≡ as_catalogue (lists_of db)
     pub own_keys : HaveOwnKeys (lists_of db)
     pub views_are : AreCurrent (lists_of db) now.views
     pub books_are : AreCurrent (lists_of db) now.world.book
-    pub seated : Seated (told now.world.keeper).used now.world.tx.contents now.seats.items db
+    pub seated : Seated (as_keeper now.world.keeper).used now.world.tx.contents now.seats.items db
     pub reached : AreReached db.records
     pub early : HasEarly db
 
   -- the keeper at a moment
   abbrev pub keeper_of : Current K → Keeper
-  keeper_of now = told now.world.keeper
+  keeper_of now = as_keeper now.world.keeper
 
   -- The session is this one, in this edition.
   pub record HasSession (db : Database) (s : SessionId) (e : EditionNo) (x : Session) : Type 0 where
@@ -109,7 +109,7 @@ module _ {K : Type 0} (told : K → Keeper) where
   -- The answer is the reply's, its records were kept, and its database is held.
   pub record IsReplied (old new : Current K) (a : Answer) (r : Replied) : Type 0 where
     pub answer : a ≡ r.answer
-    pub kept : Grew (keeper_of old) (keeper_of new) r.records
+    pub grew : Grew (keeper_of old) (keeper_of new) r.records
     pub holds : Holds new r.database
 
   -- what a call replies that may give up

@@ -53,7 +53,7 @@ abbrev pub Copies : {T B : Type 0} → T × B → Result ((T × B) × T) Halt �
 Copies given (Ok pair) = (pair.0 ≡ given) × (pair.1 ≡ given.0)
 Copies given (Err e) = e ≡ why.NoMemory
 
-module _ {K : Type 0} (told : K → Keeper) where
+module _ {K : Type 0} (as_keeper : K → Keeper) where
   abbrev pub state_of : Parts K → EngineState K
   state_of p = record { history = p.history.items; sessions = length p.living.items; books = p.books.items; keeper = p.current.world.keeper }
 
@@ -67,8 +67,8 @@ module _ {K : Type 0} (told : K → Keeper) where
   -- live session and for one with which the engine gives up.
   pub record Runs (p : Parts K) : Type 0 where
     pub legal : (more : List Entry) → Legal (database p) more → Legal (first p) (p.history.items ++ more)
-    pub holds : Holds told p.current (database p)
-    pub goes : (told p.current.world.keeper).stopped ≡ false
+    pub holds : Holds as_keeper p.current (database p)
+    pub goes : (as_keeper p.current.world.keeper).stopped ≡ false
     pub room : vec_len p.history + live_count p.living.items + 1 ≤ vec_capacity p.history
 
   -- Behind this history all asks are answered Stopped, and there is room for one entry for each live session.
@@ -123,5 +123,5 @@ module _ {K : Type 0} (told : K → Keeper) where
 
   -- what a try to reply gives, with a copy of the answer
   abbrev pub Tries : Current K → Current K → Result ((Answer × Option EditionView) × Answer) Halt → Replied → Type 0
-  Tries old new (Ok pair) r = IsReplied told old new pair.0.0 r × (pair.1 ≡ pair.0.0)
-  Tries old new (Err why) r = GaveUp (keeper_of told old) (keeper_of told new) r.records why
+  Tries old new (Ok pair) r = IsReplied as_keeper old new pair.0.0 r × (pair.1 ≡ pair.0.0)
+  Tries old new (Err why) r = GaveUp (keeper_of as_keeper old) (keeper_of as_keeper new) r.records why

@@ -19,7 +19,7 @@ use Rattle.ebr_run.specs.Packages.{state_of, at}
 use Rattle.ebr_run.specs.State.{State, Memory, Outcome, Runs, Normal, ended, raises, bare, then_run}
 use Rattle.ebr_run.specs.Values.{unfit}
 use Rattle.ebr_run.specs.Expressions.{Calls, given_back}
-use Rattle.ebr_run.specs.Calls.{Formal, Part, enter, too_deep, given, left, returned, back_in, make, refer_to}
+use Rattle.ebr_run.specs.Calls.{Formal, Part, enter, too_deep, result_values, left, returned, back_in, make, refer_to}
 use Rattle.ebr_run.specs.Units.{with_specification}
 use Rattle.ebr_code.specs.declared.book.Unit as compiled
 use Rattle.ebr_code.specs.declared.book.Subprogram.{Subprogram}
@@ -95,7 +95,7 @@ with_subprogram u f frames s m = record m {
 
 -- two runs do the same
 abbrev pub GoesAs : Book → Running → Running → Type 0
-GoesAs book a b = (asks : List Ask) (given : List Answer) → rest_of book a asks given ≡ rest_of book b asks given
+GoesAs book a b = (asks : List Ask) (result_values : List Answer) → rest_of book a asks result_values ≡ rest_of book b asks result_values
 
 -- what a subprogram has to do from a place on before these tasks
 abbrev pub rest_tasks : Bool → List Instruction → ℕ → List Task → List Task
@@ -138,7 +138,7 @@ handed k (f ∷ fs) vs = if f.gives then at value.Null k vs ∷ handed (suc k) f
 
 -- all that a subprogram gives back
 abbrev pub gives : Part → List Value → List Value → List Value
-gives p operands variables = given p.function operands ++ handed 0 p.formals variables
+gives p operands variables = result_values p.function operands ++ handed 0 p.formals variables
 
 -- a run that goes on with the memory beneath, but for the operands
 abbrev pub closing_memory : Running → Running
@@ -151,9 +151,9 @@ closing m = record m { variables = closed m.variables; cursors = closed m.cursor
 -- new goes on where old left a subprogram, and takes so many of these values back
 abbrev pub GoesBack : Running → Running → List Value → ℕ → Type 0
 GoesBack old new vs results =
-    (book : Book) (asks : List Ask) (given : List Answer)
-    → rest_of book new asks given
-    ≡ resume book old.makings_left old.frames_left old.tasks (outer (saved_of old)) (given_back results (ended Normal (back_in (memory_of (saved_of old)) vs (rest.state_of old asks given))) (above (operands_of (saved_of old))))
+    (book : Book) (asks : List Ask) (result_values : List Answer)
+    → rest_of book new asks result_values
+    ≡ resume book old.makings_left old.frames_left old.tasks (outer (saved_of old)) (given_back results (ended Normal (back_in (memory_of (saved_of old)) vs (rest.state_of old asks result_values))) (above (operands_of (saved_of old))))
 
 -- ---- packages
 

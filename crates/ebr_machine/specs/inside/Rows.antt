@@ -29,7 +29,7 @@ IfDone false old new m = new ≡ old
 -- new is what old becomes where the instructions from one place up to another are done
 pub record Ran (old new : Running) (place at : ℕ) (body : List Instruction) : Type 0 where
   pub later : later_of new ≡ later_of old
-  pub here : (calls : Calls) (asks : List Ask) (given : List Answer) → then_run (stands_at new (state_of new asks given)) (run (drop at body) calls) ≡ run (drop place body) calls (state_of old asks given)
+  pub here : (calls : Calls) (asks : List Ask) (answers : List Answer) → then_run (stands_at new (state_of new asks answers)) (run (drop at body) calls) ≡ run (drop place body) calls (state_of old asks answers)
 
 -- new has to do these instructions of a code before all that old has to do, and is else as old
 pub record LeavesRest (old new : Running) (body : List Instruction) (at : ℕ) : Type 0 where

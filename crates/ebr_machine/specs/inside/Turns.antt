@@ -20,7 +20,7 @@ turn_ends e end = false
 
 -- all that a run will do if this begins
 abbrev pub with_next : Book → Running → Runs → List Ask → List Answer → Outcome
-with_next book m f asks given = resume book m.makings_left m.frames_left m.tasks (saved_of m) (f (state_of m asks given))
+with_next book m f asks answers = resume book m.makings_left m.frames_left m.tasks (saved_of m) (f (state_of m asks answers))
 
 -- a loop of this head and this body
 abbrev pub loop_in : List Instruction → List Instruction → Book → Running → Runs
@@ -33,14 +33,14 @@ turn_in head body book m = rest_of_turn (run head (calls book m)) (run body (cal
 -- new is what old becomes where this begins, but that the loop is still to do
 pub record Again (old new : Running) (head body : List Instruction) (f : List Instruction → List Instruction → Book → Running → Runs) : Type 0 where
   pub flow : new.flow ≡ flow.Normal
-  pub goes : (book : Book) (asks : List Ask) (given : List Answer) → with_next book new (loop_in head body book new) asks given ≡ with_next book old (f head body book old) asks given
+  pub goes : (book : Book) (asks : List Ask) (answers : List Answer) → with_next book new (loop_in head body book new) asks answers ≡ with_next book old (f head body book old) asks answers
 
 -- new is what old becomes where this begins, with the loop still to do or not
 abbrev pub Turned : Bool → Running → Running → List Instruction → List Instruction → (List Instruction → List Instruction → Book → Running → Runs) → Type 0
 Turned true old new head body f = Again old new head body f
-Turned false old new head body f = (book : Book) (asks : List Ask) (given : List Answer) → rest_of book new asks given ≡ with_next book old (f head body book old) asks given
+Turned false old new head body f = (book : Book) (asks : List Ask) (answers : List Answer) → rest_of book new asks answers ≡ with_next book old (f head body book old) asks answers
 
 -- new is what old becomes where a step and the instructions of a code up to a place are done
 pub record Stepped (old new : Running) (at : ℕ) (body : List Instruction) : Type 0 where
   pub later : later_of new ≡ later_of old
-  pub here : (calls : Calls) (asks : List Ask) (given : List Answer) → then_run (stands_at new (state_of new asks given)) (run (drop at body) calls) ≡ then_run (step (state_of old asks given) done) (run body calls)
+  pub here : (calls : Calls) (asks : List Ask) (answers : List Answer) → then_run (stands_at new (state_of new asks answers)) (run (drop at body) calls) ≡ then_run (step (state_of old asks answers) done) (run body calls)

@@ -13,13 +13,13 @@ use Rattle.ebr_places.specs.declared.codes.Among.{Among}
 use Rattle.ebr_places.specs.declared.codes.Among.TheVariants as among
 
 -- the code that one declaration gives an exception
-abbrev pub given : Word → Decl → Option ℕ
-given n (decl.ExceptionInit m k) = if bytes_eq n m then Some k else None
-given n d = None
+abbrev pub declared_code : Word → Decl → Option ℕ
+declared_code n (decl.ExceptionInit m k) = if bytes_eq n m then Some k else None
+declared_code n d = None
 
 abbrev pub given_in : Option Decl → Word → Option ℕ
 given_in None n = None
-given_in (Some d) n = given n d
+given_in (Some d) n = declared_code n d
 
 abbrev pub given_by : PackageItem → Word → Option ℕ
 given_by i n = given_in (declaration_in i) n

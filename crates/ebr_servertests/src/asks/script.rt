@@ -82,7 +82,7 @@ fn book(alloc: Global, engine: &mut Engine<ListKeep>, s: SessionId) -> Result<By
 }
 
 /// The entries from the one with this number on, counted from 0.
-fn told(alloc: Global, engine: &Engine<ListKeep>, from: &str) -> Result<Bytes, NoMemory> {
+fn history_from(alloc: Global, engine: &Engine<ListKeep>, from: &str) -> Result<Bytes, NoMemory> {
     let from = number(from)? as usize;
     if from > engine.history().len() {
         return Err(NoMemory);
@@ -100,7 +100,7 @@ fn line(alloc: Global, engine: &mut Engine<ListKeep>, text: &str) -> Result<Byte
     match word {
         "repeat" => repeated(alloc, engine, s, rest),
         "book" => book(alloc, engine, s),
-        "history" => told(alloc, engine, rest),
+        "history" => history_from(alloc, engine, rest),
         _ => said(alloc, engine, s, text),
     }
 }
@@ -156,7 +156,7 @@ fn kept_fault(
     let (history, keeper) = engine.into_parts();
     release(history);
     let mut out = Bytes::new(alloc);
-    let printed = records(alloc, keeper.kept(), &mut out);
+    let printed = records(alloc, keeper.records(), &mut out);
     release(keeper);
     printed?;
     if out.as_slice() == wanted.as_bytes() {

@@ -20,7 +20,7 @@ use Rattle.ebr_session.specs.inside.Stages.{Awaits, IsReady}
 pub record Parts (B : Type 0) : Type 0 where
   pub session : SessionId
   pub script : Reading
-  pub kept : Kept
+  pub transcript : Kept
   pub printed : List ℕ
   pub quit : Option ℕ
   pub work : Work B
@@ -41,7 +41,7 @@ phase_behind true p = phase.Over
 phase_behind false p = p
 
 abbrev pub progress : {B : Type 0} → Phase → Option Ask → Parts B → Progress
-progress p out s = record { session = s.session; script = s.script.script; transcript = s.kept.exchanges; printed = s.printed; quit = s.quit; out = out_of p out; ended = is_over p }
+progress p out s = record { session = s.session; script = s.script.script; transcript = s.transcript.exchanges; printed = s.printed; quit = s.quit; out = out_of p out; ended = is_over p }
 
 -- what a session does behind a transcript
 abbrev pub course_behind : List ℕ → List Exchange → Course
@@ -52,7 +52,7 @@ spot mine s = place (asks mine) s.printed s.work.packages s.work.room
 
 -- Nothing was asked yet.
 pub record First {B : Type 0} (s : Parts B) : Type 0 where
-  pub none : s.kept.exchanges ≡ []
+  pub none : s.transcript.exchanges ≡ []
   pub ready : IsReady s.work.stage
   pub goes : GoesOn (course_behind s.script.script []) (rest_of s.script) (spot [] s)
 
@@ -60,7 +60,7 @@ pub record First {B : Type 0} (s : Parts B) : Type 0 where
 pub record Answered {B : Type 0} (serves : B → EditionNo → Book) (s : Parts B) : Type 0 where
   pub before : List Exchange
   pub last : Exchange
-  pub is : s.kept.exchanges ≡ before ++ last ∷ []
+  pub is : s.transcript.exchanges ≡ before ++ last ∷ []
   pub suits : Suits serves last.answer s.book
   pub awaits : Awaits serves s.work.stage last.ask (course_behind s.script.script before) (rest_of s.script) (spot before s)
 
@@ -73,41 +73,41 @@ pub record WillAsk (f : Course) (made : List Ask) (printed : List ℕ) : Type 0 
   pub will : Asks f ask at
 
 abbrev pub before_last : {B : Type 0} → Parts B → List ℕ
-before_last s = printed_before s.script.script (answers s.kept.exchanges) (length s.kept.exchanges)
+before_last s = printed_before s.script.script (answers s.transcript.exchanges) (length s.transcript.exchanges)
 
 -- It waits for an answer.
 pub record Waits {B : Type 0} (serves : B → EditionNo → Book) (q : Ask) (s : Parts B) : Type 0 where
-  pub awaits : Awaits serves s.work.stage q (course_behind s.script.script s.kept.exchanges) (rest_of s.script) (spot s.kept.exchanges s)
+  pub awaits : Awaits serves s.work.stage q (course_behind s.script.script s.transcript.exchanges) (rest_of s.script) (spot s.transcript.exchanges s)
   pub least : IsPrefix (before_last s) s.printed
-  pub went_on : AllContinue (answers s.kept.exchanges)
+  pub went_on : AllContinue (answers s.transcript.exchanges)
   pub no_quit : s.quit ≡ None
-  pub room : HasRoom 2 s.kept
+  pub room : HasRoom 2 s.transcript
 
 -- It can go on.
 pub record IsAnswered {B : Type 0} (serves : B → EditionNo → Book) (s : Parts B) : Type 0 where
   pub by : First s ⊎ Answered serves s
-  pub next : WillAsk (course_behind s.script.script s.kept.exchanges) (asks s.kept.exchanges) s.printed
+  pub next : WillAsk (course_behind s.script.script s.transcript.exchanges) (asks s.transcript.exchanges) s.printed
   pub still : s.printed ≡ before_last s
-  pub went_on : AllContinue (answers s.kept.exchanges)
+  pub went_on : AllContinue (answers s.transcript.exchanges)
   pub no_quit : s.quit ≡ None
-  pub room : HasRoom 1 s.kept
+  pub room : HasRoom 1 s.transcript
 
 -- It found no memory.
 pub record HasFailed {B : Type 0} (s : Parts B) : Type 0 where
-  pub next : WillAsk (course_behind s.script.script s.kept.exchanges) (asks s.kept.exchanges) s.printed
+  pub next : WillAsk (course_behind s.script.script s.transcript.exchanges) (asks s.transcript.exchanges) s.printed
   pub still : s.printed ≡ before_last s
-  pub went_on : AllContinue (answers s.kept.exchanges)
+  pub went_on : AllContinue (answers s.transcript.exchanges)
   pub no_quit : s.quit ≡ None
-  pub room : HasRoom 1 s.kept
+  pub room : HasRoom 1 s.transcript
 
 -- It has quit, and is to leave.
 pub record HasQuit {B : Type 0} (out : Option Ask) (s : Parts B) : Type 0 where
-  pub next : WillAsk (course_behind s.script.script s.kept.exchanges) (asks s.kept.exchanges) s.printed
+  pub next : WillAsk (course_behind s.script.script s.transcript.exchanges) (asks s.transcript.exchanges) s.printed
   pub least : IsPrefix (before_last s) s.printed
-  pub went_on : AllContinue (answers s.kept.exchanges)
-  pub quit_is : s.quit ≡ Some (length s.kept.exchanges)
+  pub went_on : AllContinue (answers s.transcript.exchanges)
+  pub quit_is : s.quit ≡ Some (length s.transcript.exchanges)
   pub leave : IfSome out (λ q. q ≡ ask.Leave)
-  pub room : HasRoom 1 s.kept
+  pub room : HasRoom 1 s.transcript
 
 abbrev pub Holds : {B : Type 0} → (B → EditionNo → Book) → Phase → Option Ask → Parts B → Type 0
 Holds serves phase.Working (Some q) s = Waits serves q s

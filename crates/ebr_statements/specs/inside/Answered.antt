@@ -10,7 +10,7 @@ use Rattle.ebr_asks.specs.declared.answer.Answer.{Answer}
 use Rattle.ebr_asks.specs.declared.answer.Answer.TheVariants as answer
 use Rattle.ebr_tx.specs.Data.{Data}
 use Rattle.ebr_dml.specs.declared.step.DmlStep.{DmlStep}
-use Rattle.ebr_dml.specs.Steps.{Standing, Stepped}
+use Rattle.ebr_dml.specs.Steps.{DmlState, Stepped}
 use Rattle.ebr_database.specs.declared.failure.Failure.{Failure}
 use Rattle.ebr_database.specs.declared.failure.Failure.TheVariants.{Refused, Halted}
 use Rattle.ebr_database.specs.declared.failure.Halt.{Halt}
@@ -45,7 +45,7 @@ Tests (Err (Raised code)) defined = defined ≡ Err code
 Tests (Err stop.NoMemory) defined = Unit {0}
 
 -- a step of the rows
-abbrev pub Steps : Result DmlStep Failure → Standing → Data → Result Stepped Code → Type 0
+abbrev pub Steps : Result DmlStep Failure → DmlState → Data → Result Stepped Code → Type 0
 Steps (Ok step) s d defined = defined ≡ Ok (record { answer = step; standing = s; data_after = d })
 Steps (Err (Refused code)) s d defined = defined ≡ Err code
 Steps (Err (Halted why)) s d defined = why ≡ NoMemory

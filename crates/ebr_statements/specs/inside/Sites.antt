@@ -4,7 +4,7 @@ use Rattle.ebr_asks.specs.declared.ask.Ask.{Ask}
 use Rattle.ebr_asks.specs.declared.answer.Answer.{Answer}
 use Rattle.ebr_tx.specs.Data.{Data}
 use Rattle.ebr_record.specs.Keeper.{Keeper}
-use Rattle.ebr_dml.specs.Steps.{Standing}
+use Rattle.ebr_dml.specs.Steps.{DmlState}
 use Rattle.ebr_dml.specs.declared.taken.Taken.{Taken}
 use Rattle.ebr_database.specs.declared.failure.Halt.{Halt}
 use Rattle.ebr_database.specs.Base.{Base}
@@ -31,7 +31,7 @@ site_at names w = record { view = names.view; deeper = Stmt names w.levels; tx =
 abbrev pub doing_at : Data → Keeper → Tally → Doing
 doing_at d k tally = record { base = base_of d k; steps = tally.steps; room = tally.room; lines = tally.lines }
 
-abbrev pub work_at : Standing → Triggers → Work
+abbrev pub work_at : DmlState → Triggers → Work
 work_at s w = record { plan = s.plan; binds = s.binds; operation = w.operation; before = map ready_of w.before; after = map ready_of w.after }
 
 -- a body's run that has begun, and has made no ask
@@ -44,10 +44,10 @@ Ends o b old now r (Ok end) = (asks : List Ask) × Said o b old now (shown r.mac
 Ends o b old now r (Err why) = GaveUp old now o.made why
 
 -- A row was given to its BEFORE triggers, and these are to come behind it.
-pub record IsBetween (s : Standing) (r : Taken) (rest : List Taken) : Type 0 where
+pub record IsBetween (s : DmlState) (r : Taken) (rest : List Taken) : Type 0 where
   pub begun : s.begun ≡ true
   pub rest_is : s.rest ≡ Ok (r ∷ rest)
 
 -- That row was changed.
-pub record HasPassed (s : Standing) (rest : List Taken) (s' : Standing) : Type 0 where
+pub record HasPassed (s : DmlState) (rest : List Taken) (s' : DmlState) : Type 0 where
   pub is : s' ≡ record s { rest = Ok rest; begun = false; count = s.count + 1 }

@@ -16,8 +16,8 @@ use Rattle.ebr_worker.specs.Work.{Adds}
 
 -- The engine made one entry for a session's ask, with this answer, and handed out the book of a view. The session lives on unless it
 -- left or was answered Stopped.
-pub record Replies {K : Type 0} (told : K → Keeper) (old new : EngineState K) (s : SessionId) (ask : Ask) (answer : Answer) (book : Option EditionView) : Type 0 where
-  pub adds : Adds told s (entry_of s ask answer) old new
+pub record Replies {K : Type 0} (as_keeper : K → Keeper) (old new : EngineState K) (s : SessionId) (ask : Ask) (answer : Answer) (book : Option EditionView) : Type 0 where
+  pub adds : Adds as_keeper s (entry_of s ask answer) old new
   pub suits : Suits (λ v e. served v) answer book
   pub leaves : ask ≡ Leave → AnswersLeave answer
   pub stays : answer ≢ Stopped → ask ≢ Leave → IsLive (database_of new) s

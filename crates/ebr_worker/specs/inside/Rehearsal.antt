@@ -16,23 +16,23 @@ use Rattle.ebr_worker.specs.Work.{Over, Stands, Turned, Work}
 use Rattle.ebr_worker.specs.Rehearsal.{AllStand, Faultless, scripts_of}
 
 -- One worker has made a turn.
-pub record TurnedAt {K : Type 0} (told : K → Keeper) (at : ℕ) (old new : List Work) (e e' : EngineState K) : Type 0 where
+pub record TurnedAt {K : Type 0} (as_keeper : K → Keeper) (at : ℕ) (old new : List Work) (e e' : EngineState K) : Type 0 where
   pub before : Work
   pub after : Work
   pub was : slice_get old at ≡ Some before
   pub now : new ≡ slice_set old at after
-  pub turned : Turned told before after e e'
+  pub turned : Turned as_keeper before after e e'
 
 -- How far a rehearsal has come, of whose order these turns are left: whatever makes the rest of the history by what is left makes the whole
 -- by the order.
-pub record Rehearses {K : Type 0} (told : K → Keeper) (order left : List SessionId) (first_ws ws : List Work) (first e : EngineState K) : Type 0 where
+pub record Rehearses {K : Type 0} (as_keeper : K → Keeper) (order left : List SessionId) (first_ws ws : List Work) (first e : EngineState K) : Type 0 where
   pub all_stand : AllStand ws e
   pub scripts : scripts_of ws ≡ scripts_of first_ws
   pub books : length e.books ≡ length first.books
   pub sessions : e.sessions ≡ first.sessions
   pub paced : (rest : List Entry) → Turns (length e.books) left e.history rest → Turns (length e.books) order [] (e.history ++ rest)
-  pub counted : (told first.keeper).faults ≤ (told e.keeper).faults
-  pub faultless : Faultless told first e
+  pub counted : (as_keeper first.keeper).faults ≤ (as_keeper e.keeper).faults
+  pub faultless : Faultless as_keeper first e
 
 -- the session hasn't ended
 abbrev pub goes_on : Work → Bool
@@ -72,12 +72,12 @@ pub record IsEndAt {S : Type 0} (held : S → Option (List ℕ)) (faults : S →
   pub is_end : (script : List ℕ) → slice_get scripts i ≡ Some script → IsEnd held faults history script (nth_session i) e
 
 -- How far the one session has come: no ask was answered that the engine has stopped, and it hasn't given up while the session runs.
-pub record RunsAlone {K : Type 0} (told : K → Keeper) (first_w w : Work) (first e : EngineState K) : Type 0 where
+pub record RunsAlone {K : Type 0} (as_keeper : K → Keeper) (first_w w : Work) (first e : EngineState K) : Type 0 where
   pub stands : Stands w e
   pub session : w.session.session ≡ first_w.session.session
   pub script : w.session.script ≡ first_w.session.script
   pub sessions : e.sessions ≡ first.sessions
-  pub counted : (told first.keeper).faults ≤ (told e.keeper).faults
-  pub faultless : Faultless told first e
+  pub counted : (as_keeper first.keeper).faults ≤ (as_keeper e.keeper).faults
+  pub faultless : Faultless as_keeper first e
   pub no_stop : has_stop e.history ≡ false
   pub goes : w.end ≡ None → has_given_up e.history ≡ false

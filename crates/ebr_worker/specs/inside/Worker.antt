@@ -24,11 +24,11 @@ use Rattle.ebr_worker.specs.Work.{Adds, Seated, StandsBy, Work}
 use Rattle.ebr_worker.specs.inside.Engine.{Replies}
 
 -- What a turn of a session that runs has come to: how it ended, if it has.
-pub record Stepped {K : Type 0} (told : K → Keeper) (end : Option EndKind) (old new : Work) (e e' : EngineState K) : Type 0 where
+pub record Stepped {K : Type 0} (as_keeper : K → Keeper) (end : Option EndKind) (old new : Work) (e e' : EngineState K) : Type 0 where
   pub session : new.session.session ≡ old.session.session
   pub script : new.session.script ≡ old.session.script
   pub came : StandsBy end new e'
-  pub makes : (x : Entry) × Adds told old.session.session x e e'
+  pub makes : (x : Entry) × Adds as_keeper old.session.session x e e'
   pub counted : old.faults ≤ new.faults
 
 -- The session went on, and nothing was written.
@@ -54,10 +54,10 @@ end_of answer.Stopped = ending.Stopped
 end_of x = ending.Ended
 
 -- The engine answered the ask that was out, and the session took the answer.
-pub record Asked {K : Type 0} (told : K → Keeper) (q : Ask) (end : Option EndKind) (old new : Work) (e e' : EngineState K) : Type 0 where
+pub record Asked {K : Type 0} (as_keeper : K → Keeper) (q : Ask) (end : Option EndKind) (old new : Work) (e e' : EngineState K) : Type 0 where
   pub answer : Answer
   pub book : Option EditionView
-  pub replies : Replies told e e' old.session.session q answer book
+  pub replies : Replies as_keeper e e' old.session.session q answer book
   pub took : new ≡ record old { session = answered (Some q) answer old.session }
   pub follows : Follows new.session
   pub ended : end ≡ (if ends q answer then Some (end_of answer) else None)
@@ -74,10 +74,10 @@ pub record MayLeave {K : Type 0} (s : Progress) (written : List ℕ) (e : Engine
   pub least : IsPrefix (printed_before_last s.script (answers s.transcript)) written
 
 -- It has quit and left, behind the answers that it had taken.
-pub record Left {K : Type 0} (told : K → Keeper) (old new : Work) (e e' : EngineState K) : Type 0 where
+pub record Left {K : Type 0} (as_keeper : K → Keeper) (old new : Work) (e e' : EngineState K) : Type 0 where
   pub quit : Quit old.session.script (Mine e'.history old.session.session) old.written
   pub behind : answers quit.before ≡ answers old.session.transcript
-  pub makes : (x : Entry) × Adds told old.session.session x e e'
+  pub makes : (x : Entry) × Adds as_keeper old.session.session x e e'
   pub seated : Seated new.session e'
   pub over : is_over e'.history old.session.session ≡ true
   pub ended : new.session.ended ≡ true

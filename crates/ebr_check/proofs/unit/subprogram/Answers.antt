@@ -9,10 +9,10 @@ use Rattle.ebr_check.proofs.unit.subprogram.Goals as goal
 
 pub returns-clause-least : goal.returns-clause-least
 returns-clause-least c =
-    subprogram_noted c.args.it.now (env c.args.place.now c.args.known.now) c.add_parameters.new.known c.given.result c.args.least.now c.head.new.least c.block.new.least
+    subprogram_noted c.args.it.now (env c.args.place.now c.args.known.now) c.add_parameters.new.known c.result_type.result c.args.least.now c.head.new.least c.block.new.least
     c.in_ok-head.ensures
     (c.in_ok-add_parameters.ensures ∙ ap (λ ps. with_parameters c.args.place.now.seen.now.view ps c.args.known.now) c.as_slice.ensures)
-    c.given.ensures
+    c.result_type.ensures
     (c.in_ok-block.ensures.least ∙ ap (λ p. noted (in_body c.args.it.now.body (env p c.add_parameters.new.known)) c.head.new.least) c.within_subprogram-inner.ensures)
 
 pub returns-clause-known : goal.returns-clause-known

@@ -15,7 +15,7 @@ returns-clause-code c =
     let p = c.args.it.now.name in
     let q = c.visible_items-items.ensures in
     let a = c.in_ok-around.ensures ∙ ap (λ (xs : List PackageItem). in_specification v p xs) q in
-    also _ c.kept.result c.add_body-done.result c.kept.ensures.done
+    also _ c.value_if_done.result c.add_body-done.result c.value_if_done.ensures.done
     (on_ok_weaker c.add_body-done.result
     (λ e. e
     ∙ ap (λ (xs : List PackageItem). c.args.out.now ++ decls_code (filter_map declaration_in xs) c.in_ok-around.around) q
@@ -29,7 +29,7 @@ returns-clause-around c =
     let s = c.args.it.now.subprograms in
     let q = c.visible_items-items.ensures in
     let a = c.in_ok-around.ensures ∙ ap (λ (xs : List PackageItem). in_specification v p xs) q in
-    kept_is c.kept.result c.add_body-done.result c.add_body-done.new.around (in_package_body v c.args.it.now) c.kept.ensures.value c.kept.ensures.done
+    kept_is c.value_if_done.result c.add_body-done.result c.add_body-done.new.around (in_package_body v c.args.it.now) c.value_if_done.ensures.value c.value_if_done.ensures.done
     (on_ok_weaker c.add_body-done.result
     (λ e. e
     ∙ ap (λ (xs : List PackageItem). with_subprograms p 0 s (record (with_decls (filter_map declaration_in xs) c.in_ok-around.around) { unit = Some (body_key p) })) q

@@ -7,6 +7,6 @@ use Rattle.ebr_core.proofs.asks.savepoint.Goals as goal
 
 pub returns : goal.returns
 returns g c = λ db e x h has.
-    leaves_on g.K.Keep.told c.args.current.now _ db h refl refl refl (reply_savepoint db c.args.s x c.args.name.now) refl (early_savepoint db c.args.s h.early x has.there (c.asks_are_read_back.ensures db) c.args.name.now) refl _
+    leaves_on g.K.Keep.as_keeper c.args.current.now _ db h refl refl refl (reply_savepoint db c.args.s x c.args.name.now) refl (early_savepoint db c.args.s h.early x has.there (c.asks_are_read_back.ensures db) c.args.name.now) refl _
     (subst (λ ss. ForSession c.args.current.now.world.tx.contents ss c.args.s (λ used db x. Leaves used c.savepoint_top.new.tx.contents ss (as_answer (Ok tt)) (reply_savepoint db c.args.s x c.args.name.now)))
-    c.as_slice.ensures.value c.in_ok-savepoint_top.ensures (g.K.Keep.told c.args.current.now.world.keeper).used db x h.seated has.there)
+    c.as_slice.ensures.value c.in_ok-savepoint_top.ensures (g.K.Keep.as_keeper c.args.current.now.world.keeper).used db x h.seated has.there)

@@ -25,16 +25,16 @@ run_sql-requires-clause-tables g c =
 pub run_sql-requires-clause-fit : goal.run_sql-requires-clause-fit
 run_sql-requires-clause-fit g c =
     let held = c.requires.held in
-    fits g.K.Keep.told c.args.current.now held.database held.holds c.args.s held.session held.has.there c.top_of-t.result
+    fits g.K.Keep.as_keeper c.args.current.now held.database held.holds c.args.s held.session held.has.there c.top_of-t.result
     (subst (λ ss. IsTop ss c.args.s c.top_of-t.result) c.as_slice.ensures.value c.top_of-t.ensures)
 
 pub returns : goal.returns
 returns g c = λ db d x h has same.
     let seen = c.in_ok-view.ensures.view (lists_of db) h.own_keys h.views_are h.catalogue_is in
     let shown : IsViewOf (lists_of db) c.args.e c.get.result.now = subst (IsViewOf (lists_of db) c.args.e) (sym c.get.ensures) seen in
-    ran_reply g.K.Keep.told c.args.current.now _ db h c.args.s x has.there c.args.e d same c.args.stmt.now c.args.binds.now c.args.left c.room_for-room.result c.top_of-t.result c.get.result.now
+    ran_reply g.K.Keep.as_keeper c.args.current.now _ db h c.args.s x has.there c.args.e d same c.args.stmt.now c.args.binds.now c.args.left c.room_for-room.result c.top_of-t.result c.get.result.now
     (subst (λ ss. IsTop ss c.args.s c.top_of-t.result) c.as_slice.ensures.value c.top_of-t.ensures) shown
-    (room_of (g.K.Keep.told c.args.current.now.world.keeper).used c.args.current.now.world.tx.contents c.args.current.now.seats.items db c.args.s x h.seated has.there c.seat_of.result.now c.args.ask.now c.room_for-room.result
+    (room_of (g.K.Keep.as_keeper c.args.current.now.world.keeper).used c.args.current.now.world.tx.contents c.args.current.now.seats.items db c.args.s x h.seated has.there c.seat_of.result.now c.args.ask.now c.room_for-room.result
     (subst (λ ss. Some c.seat_of.result.now ≡ seat_at ss c.args.s.0) c.as_slice-2.ensures.value c.seat_of.ensures) c.room_for-room.ensures (Sql c.args.stmt.now c.args.binds.now c.args.left) c.requires.is)
     c.run_sql.ensures.catalogue
     (c.of.ensures.current (lists_of db) h.own_keys h.views_are h.catalogue_is) refl c.run_sql.ensures.remains c.run_sql.result

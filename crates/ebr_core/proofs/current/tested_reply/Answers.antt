@@ -8,19 +8,19 @@ use Rattle.ebr_core.proofs.current.tested_reply.Goals as goal
 pub reply-requires-clause-placed : goal.reply-requires-clause-placed
 reply-requires-clause-placed g c = λ db e x h has.
     in_place db c.args.s x c.args.ask.now
-    (sym (tests_are g.K.Keep.told c.args.current.now c.args.s c.args.ask.now c.seat_of.result.now c.first_tests.result
+    (sym (tests_are g.K.Keep.as_keeper c.args.current.now c.args.s c.args.ask.now c.seat_of.result.now c.first_tests.result
     (subst (λ ss. Some c.seat_of.result.now ≡ seat_at ss c.args.s.0) c.as_slice.ensures.value c.seat_of.ensures) c.first_tests.ensures db e x h has) ∙ c.in-None.is)
 
 pub returns-in-Some-clause-reply : goal.returns-in-Some-clause-reply
 returns-in-Some-clause-reply g c = λ db e x h has.
-    subst (λ o. IsReplied g.K.Keep.told c.args.current.now c.args.current.now c.refusal.result (unless_refused o db (reply_in e db c.args.s x c.args.ask.now)))
-    (sym c.in-Some.is ∙ tests_are g.K.Keep.told c.args.current.now c.args.s c.args.ask.now c.seat_of.result.now c.first_tests.result
+    subst (λ o. IsReplied g.K.Keep.as_keeper c.args.current.now c.args.current.now c.refusal.result (unless_refused o db (reply_in e db c.args.s x c.args.ask.now)))
+    (sym c.in-Some.is ∙ tests_are g.K.Keep.as_keeper c.args.current.now c.args.s c.args.ask.now c.seat_of.result.now c.first_tests.result
     (subst (λ ss. Some c.seat_of.result.now ≡ seat_at ss c.args.s.0) c.as_slice.ensures.value c.seat_of.ensures) c.first_tests.ensures db e x h has)
-    (refused_here g.K.Keep.told c.args.current.now c.args.s db h c.in-Some.code c.refusal.result c.refusal.ensures)
+    (refused_here g.K.Keep.as_keeper c.args.current.now c.args.s db h c.in-Some.code c.refusal.result c.refusal.ensures)
 
 pub returns-in-None-clause-reply : goal.returns-in-None-clause-reply
 returns-in-None-clause-reply g c = λ db e x h has.
-    subst (λ o. RepliesGiven g.K.Keep.told c.args.current.now c.reply.new.current c.reply.result (unless_refused o db (reply_in e db c.args.s x c.args.ask.now)))
-    (sym c.in-None.is ∙ tests_are g.K.Keep.told c.args.current.now c.args.s c.args.ask.now c.seat_of.result.now c.first_tests.result
+    subst (λ o. RepliesGiven g.K.Keep.as_keeper c.args.current.now c.reply.new.current c.reply.result (unless_refused o db (reply_in e db c.args.s x c.args.ask.now)))
+    (sym c.in-None.is ∙ tests_are g.K.Keep.as_keeper c.args.current.now c.args.s c.args.ask.now c.seat_of.result.now c.first_tests.result
     (subst (λ ss. Some c.seat_of.result.now ≡ seat_at ss c.args.s.0) c.as_slice.ensures.value c.seat_of.ensures) c.first_tests.ensures db e x h has)
     (c.reply.ensures.reply db e x h has)

@@ -17,13 +17,13 @@ invariant-all_compared-loop-e l =
 
 abbrev pub invariant-sum_from-loop-addend : goal.invariant-sum_from-loop-addend
 invariant-sum_from-loop-addend l = record {
-  told : (sum_from l.ty (map term_of (drop l.addend-index l.addend-items)) (env l.place l.known)).told ≡ (sum_from l.fn.first (map term_of l.addend-items) (env l.place l.known)).told;
+  typed : (sum_from l.ty (map term_of (drop l.addend-index l.addend-items)) (env l.place l.known)).typed ≡ (sum_from l.fn.first (map term_of l.addend-items) (env l.place l.known)).typed;
   least : noted (sum_from l.ty (map term_of (drop l.addend-index l.addend-items)) (env l.place l.known)).sites l.least ≡ noted (sum_from l.fn.first (map term_of l.addend-items) (env l.place l.known)).sites l.initial.least;
 }
 
 abbrev pub invariant-one_type-loop-e : goal.invariant-one_type-loop-e
 invariant-one_type-loop-e l = record {
-  told : (one_type l.ty (map reading_of (drop l.e-index l.e-items)) (env l.place l.known)).told ≡ (one_type None (map reading_of l.e-items) (env l.place l.known)).told;
+  typed : (one_type l.ty (map reading_of (drop l.e-index l.e-items)) (env l.place l.known)).typed ≡ (one_type None (map reading_of l.e-items) (env l.place l.known)).typed;
   least : noted (one_type l.ty (map reading_of (drop l.e-index l.e-items)) (env l.place l.known)).sites l.least ≡ noted (one_type None (map reading_of l.e-items) (env l.place l.known)).sites l.initial.least;
 }
 

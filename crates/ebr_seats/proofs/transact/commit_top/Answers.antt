@@ -18,7 +18,7 @@ returns-in_err-commit g c =
     (λ used db x h there same.
     commit_reply used c.args.tx.now.contents c.args.seats.now.items db c.args.s x h there (c.asks_are_read_back.ensures db) c.top_of-t.result
     (subst (λ ss. IsTop ss c.args.s c.top_of-t.result) c.as_slice.ensures.value c.top_of-t.ensures)
-    c.commit.new.tx.contents c.commit.ensures.stacks c.commit.ensures.storable (g.K.Keep.told c.args.keeper.now) (g.K.Keep.told c.commit.new.keeper) same
+    c.commit.new.tx.contents c.commit.ensures.stacks c.commit.ensures.storable (g.K.Keep.as_keeper c.args.keeper.now) (g.K.Keep.as_keeper c.commit.new.keeper) same
     (Err c.in_err-commit.field-0.0) c.args.seats.now.items c.in_err-commit.ensures.unchanged refl tt c.in_err-commit.ensures.exact)
 
 pub end_mark-requires : goal.end_mark-requires
@@ -27,8 +27,8 @@ end_mark-requires g c = has_seat c.args.tx.now.contents c.args.seats.now.items c
 pub returns : goal.returns
 returns g c = λ used db x h there same.
     let sd = held used c.args.tx.now.contents c.args.seats.now.items db c.args.s x h there in
-    subst (λ ss. Goes (g.K.Keep.told c.args.keeper.now) (g.K.Keep.told c.commit.new.keeper) c.commit.new.tx.contents ss (as_answer (Ok tt)) (reply_commit db c.args.s x)) (sym (c.end_mark.ensures sd.seat sd.there))
+    subst (λ ss. Goes (g.K.Keep.as_keeper c.args.keeper.now) (g.K.Keep.as_keeper c.commit.new.keeper) c.commit.new.tx.contents ss (as_answer (Ok tt)) (reply_commit db c.args.s x)) (sym (c.end_mark.ensures sd.seat sd.there))
     (committed used c.args.tx.now.contents c.args.seats.now.items db c.args.s x h there (c.asks_are_read_back.ensures db) c.top_of-t.result
     (subst (λ ss. IsTop ss c.args.s c.top_of-t.result) c.as_slice.ensures.value c.top_of-t.ensures)
-    c.commit.new.tx.contents c.commit.ensures.stacks c.commit.ensures.storable (g.K.Keep.told c.args.keeper.now) (g.K.Keep.told c.commit.new.keeper) same tt
+    c.commit.new.tx.contents c.commit.ensures.stacks c.commit.ensures.storable (g.K.Keep.as_keeper c.args.keeper.now) (g.K.Keep.as_keeper c.commit.new.keeper) same tt
     c.in_ok-commit.ensures.exact)

@@ -60,10 +60,10 @@ pub serve-returns-in_ok-t-in-Sql-clause-exact : goal.serve-returns-in_ok-t-in-Sq
 serve-returns-in_ok-t-in-Sql-clause-exact g t c = λ lists keys current is is_served.
     let on : top c.args.tx.now.contents c.args.site.now.t.session ≡ c.in_ok-t-in-Sql.t = open_is_top c.args.c.now c.args.units.now c.args.tx.now.contents (under_by c.args.site.now.changing) c.args.site.now.t c.args.opened.now c.requires.fit ∙ sym c.in_ok-t-in-Sql.ensures in
     let asked : c.args.ask.now ≡ ask.Sql c.get-in-Sql-2.result.now c.as_slice.result.now c.in-Sql.left = c.in-Sql.is ∙ (λ i. ask.Sql (sym c.get-in-Sql-2.ensures i) (sym c.as_slice.ensures i) c.in-Sql.left) in
-    subst (λ n. Tells (serve (site_at (names_of lists) c.args.site.now) (ready_of c.args.r.now) n c.args.ask.now (base_of c.args.tx.now.contents (g.K.Keep.told c.args.keeper.now))) (base_of c.statement.new.tx.contents (g.K.Keep.told c.statement.new.keeper)) (g.K.Keep.told c.args.keeper.now) (g.K.Keep.told c.statement.new.keeper) c.statement.result) c.in_ok-room-in-Sql.ensures (
-    subst (λ o. Tells o (base_of c.statement.new.tx.contents (g.K.Keep.told c.statement.new.keeper)) (g.K.Keep.told c.args.keeper.now) (g.K.Keep.told c.statement.new.keeper) c.statement.result)
-    (sym (serves_statement lists c.args.site.now c.args.r.now is_served c.in_ok-room-in-Sql.room c.args.tx.now.contents (g.K.Keep.told c.args.keeper.now) c.get-in-Sql.result.now c.in_ok-t-in-Sql.t c.get-in-Sql-2.result.now c.as_slice.result.now c.in-Sql.left c.args.ask.now (c.get-in-Sql.ensures ∙ c.view.ensures.view ∙ c.get.ensures) on asked))
-    (c.statement.ensures.exact lists keys current is (seen_book lists c.args.site.now c.args.r.now is_served c.in_ok-room-in-Sql.room c.args.tx.now.contents (g.K.Keep.told c.args.keeper.now) c.get-in-Sql.result.now (c.get-in-Sql.ensures ∙ c.view.ensures.view ∙ c.get.ensures))))
+    subst (λ n. Tells (serve (site_at (names_of lists) c.args.site.now) (ready_of c.args.r.now) n c.args.ask.now (base_of c.args.tx.now.contents (g.K.Keep.as_keeper c.args.keeper.now))) (base_of c.statement.new.tx.contents (g.K.Keep.as_keeper c.statement.new.keeper)) (g.K.Keep.as_keeper c.args.keeper.now) (g.K.Keep.as_keeper c.statement.new.keeper) c.statement.result) c.in_ok-room-in-Sql.ensures (
+    subst (λ o. Tells o (base_of c.statement.new.tx.contents (g.K.Keep.as_keeper c.statement.new.keeper)) (g.K.Keep.as_keeper c.args.keeper.now) (g.K.Keep.as_keeper c.statement.new.keeper) c.statement.result)
+    (sym (serves_statement lists c.args.site.now c.args.r.now is_served c.in_ok-room-in-Sql.room c.args.tx.now.contents (g.K.Keep.as_keeper c.args.keeper.now) c.get-in-Sql.result.now c.in_ok-t-in-Sql.t c.get-in-Sql-2.result.now c.as_slice.result.now c.in-Sql.left c.args.ask.now (c.get-in-Sql.ensures ∙ c.view.ensures.view ∙ c.get.ensures) on asked))
+    (c.statement.ensures.exact lists keys current is (seen_book lists c.args.site.now c.args.r.now is_served c.in_ok-room-in-Sql.room c.args.tx.now.contents (g.K.Keep.as_keeper c.args.keeper.now) c.get-in-Sql.result.now (c.get-in-Sql.ensures ∙ c.view.ensures.view ∙ c.get.ensures))))
 
 pub serve-returns-in_ok-t-in-Sql-clause-remains : goal.serve-returns-in_ok-t-in-Sql-clause-remains
 serve-returns-in_ok-t-in-Sql-clause-remains g t c = top_remains c.args.c.now c.args.site.now.t (under_by c.args.site.now.changing) c.args.opened.now c.args.units.now c.statement.new.units c.args.tx.now.contents c.statement.new.tx.contents c.in_ok-t-in-Sql.t c.in_ok-t-in-Sql.ensures c.statement.ensures.remains
@@ -93,7 +93,7 @@ asks-serve-served-requires g t c =
 pub asks-returns-in_err-answer-in-Ask-clause-exact : goal.asks-returns-in_err-answer-in-Ask-clause-exact
 asks-returns-in_err-answer-in-Ask-clause-exact g t c = let p = err_from_is_err_and c.from_residual-in_err-answer-in-Ask.result c.from_residual-in_err-answer-in-Ask.ensures.1 in λ lists keys current is run is_served has_begun.
     let inv = c.asks.invariant.0 lists keys current is run is_served has_begun in
-    rw (p.1, p.2) (ask_halts (site_at (names_of lists) c.args.site.now) (ready_of c.args.r.now) run inv.0 inv.1 (base_of c.asks.tx.contents (g.K.Keep.told c.asks.keeper)) _ _ _ c.advance.new.self c.advance.new.packages c.in_ok-ask.field-0 c.asks._ask (c.in_ok-ask.ensures.shows (served c.args.r.now.book) run inv.0 inv.1 (ap served c.get.ensures) inv.2) inv.3 c.in-Ask.ask c.room.result (g.K.Keep.told c.serve-served.new.keeper) c.in_err-answer-in-Ask.field-0.0 c.in-Ask.is c.asks-test.true c.room.ensures (subst (Tells _ (base_of c.serve-served.new.tx.contents (g.K.Keep.told c.serve-served.new.keeper)) (g.K.Keep.told c.asks.keeper) (g.K.Keep.told c.serve-served.new.keeper)) (sym c.in_err-answer-in-Ask.ensures) (c.serve-served.ensures.exact lists keys (c.asks.invariant.1.current lists keys current is) is is_served)))
+    rw (p.1, p.2) (ask_halts (site_at (names_of lists) c.args.site.now) (ready_of c.args.r.now) run inv.0 inv.1 (base_of c.asks.tx.contents (g.K.Keep.as_keeper c.asks.keeper)) _ _ _ c.advance.new.self c.advance.new.packages c.in_ok-ask.field-0 c.asks._ask (c.in_ok-ask.ensures.shows (served c.args.r.now.book) run inv.0 inv.1 (ap served c.get.ensures) inv.2) inv.3 c.in-Ask.ask c.room.result (g.K.Keep.as_keeper c.serve-served.new.keeper) c.in_err-answer-in-Ask.field-0.0 c.in-Ask.is c.asks-test.true c.room.ensures (subst (Tells _ (base_of c.serve-served.new.tx.contents (g.K.Keep.as_keeper c.serve-served.new.keeper)) (g.K.Keep.as_keeper c.asks.keeper) (g.K.Keep.as_keeper c.serve-served.new.keeper)) (sym c.in_err-answer-in-Ask.ensures) (c.serve-served.ensures.exact lists keys (c.asks.invariant.1.current lists keys current is) is is_served)))
 
 pub asks-returns-in_err-answer-in-Ask-clause-remains : goal.asks-returns-in_err-answer-in-Ask-clause-remains
 asks-returns-in_err-answer-in-Ask-clause-remains g t c = remains_open_then c.args.c.now c.args.site.now.t (under_by c.args.site.now.changing) c.args.opened.now c.asks.opened c.serve-served.new.opened c.args.units.now c.asks.units c.serve-served.new.units c.args.tx.now.contents c.asks.tx.contents c.serve-served.new.tx.contents c.asks.invariant.1 c.serve-served.ensures.remains
@@ -105,7 +105,7 @@ asks-asks-preserved g t c = (
         inv.0 ++ c.advance.new.self.inner.ask ∷ [],
         inv.1 ++ c.in_ok-answer-in-Ask.answer ∷ [],
         c.take.ensures.takes (served c.args.r.now.book) c.advance.new.packages c.asks.course.left run inv.0 inv.1 (c.in_ok-ask.ensures.has (served c.args.r.now.book) run inv.0 inv.1 (ap served c.get.ensures) inv.2),
-        ask_goes_on (site_at (names_of lists) c.args.site.now) (ready_of c.args.r.now) run inv.0 inv.1 (base_of c.asks.tx.contents (g.K.Keep.told c.asks.keeper)) _ _ _ c.advance.new.self c.advance.new.packages c.in_ok-ask.field-0 c.asks._ask (c.in_ok-ask.ensures.shows (served c.args.r.now.book) run inv.0 inv.1 (ap served c.get.ensures) inv.2) inv.3 c.in-Ask.ask c.room.result (g.K.Keep.told c.serve-served.new.keeper) _ c.in_ok-answer-in-Ask.answer c.in-Ask.is c.asks-test.true c.room.ensures (subst (Tells _ (base_of c.serve-served.new.tx.contents (g.K.Keep.told c.serve-served.new.keeper)) (g.K.Keep.told c.asks.keeper) (g.K.Keep.told c.serve-served.new.keeper)) (sym c.in_ok-answer-in-Ask.ensures) (c.serve-served.ensures.exact lists keys (c.asks.invariant.1.current lists keys current is) is is_served)),
+        ask_goes_on (site_at (names_of lists) c.args.site.now) (ready_of c.args.r.now) run inv.0 inv.1 (base_of c.asks.tx.contents (g.K.Keep.as_keeper c.asks.keeper)) _ _ _ c.advance.new.self c.advance.new.packages c.in_ok-ask.field-0 c.asks._ask (c.in_ok-ask.ensures.shows (served c.args.r.now.book) run inv.0 inv.1 (ap served c.get.ensures) inv.2) inv.3 c.in-Ask.ask c.room.result (g.K.Keep.as_keeper c.serve-served.new.keeper) _ c.in_ok-answer-in-Ask.answer c.in-Ask.is c.asks-test.true c.room.ensures (subst (Tells _ (base_of c.serve-served.new.tx.contents (g.K.Keep.as_keeper c.serve-served.new.keeper)) (g.K.Keep.as_keeper c.asks.keeper) (g.K.Keep.as_keeper c.serve-served.new.keeper)) (sym c.in_ok-answer-in-Ask.ensures) (c.serve-served.ensures.exact lists keys (c.asks.invariant.1.current lists keys current is) is is_served)),
       ),
   remains_open_then c.args.c.now c.args.site.now.t (under_by c.args.site.now.changing) c.args.opened.now c.asks.opened c.serve-served.new.opened c.args.units.now c.asks.units c.serve-served.new.units c.args.tx.now.contents c.asks.tx.contents c.serve-served.new.tx.contents c.asks.invariant.1 c.serve-served.ensures.remains,
 )
@@ -114,7 +114,7 @@ pub asks-returns-in-Done-clause-exact : goal.asks-returns-in-Done-clause-exact
 asks-returns-in-Done-clause-exact g t c = λ lists keys current is run is_served has_begun.
     let inv = c.asks.invariant.0 lists keys current is run is_served has_begun in
     let course : Course = record { machine = c.advance.new.self; packages = c.advance.new.packages; left = c.asks.course.left } in
-    run_ends (site_at (names_of lists) c.args.site.now) (ready_of c.args.r.now) run inv.0 inv.1 (base_of c.asks.tx.contents (g.K.Keep.told c.asks.keeper)) _ _ _ c.advance.new.self c.advance.new.packages c.in_ok-ask.field-0 c.asks._ask (c.in_ok-ask.ensures.shows (served c.args.r.now.book) run inv.0 inv.1 (ap served c.get.ensures) inv.2) inv.3 c.in-Done.end course refl refl c.in-Done.is
+    run_ends (site_at (names_of lists) c.args.site.now) (ready_of c.args.r.now) run inv.0 inv.1 (base_of c.asks.tx.contents (g.K.Keep.as_keeper c.asks.keeper)) _ _ _ c.advance.new.self c.advance.new.packages c.in_ok-ask.field-0 c.asks._ask (c.in_ok-ask.ensures.shows (served c.args.r.now.book) run inv.0 inv.1 (ap served c.get.ensures) inv.2) inv.3 c.in-Done.end course refl refl c.in-Done.is
 
 pub asks-returns-in-Done-clause-remains : goal.asks-returns-in-Done-clause-remains
 asks-returns-in-Done-clause-remains g t c = c.asks.invariant.1
@@ -144,11 +144,11 @@ body-returns-in_err-course-clause-remains g t c = remains_same c.args.c.now c.ar
 pub body-returns-clause-exact : goal.body-returns-clause-exact
 body-returns-clause-exact g t c = λ lists keys current is is_served.
     let w = site_at (names_of lists) c.args.site.now in
-    let σ = doing_at c.args.tx.now.contents (g.K.Keep.told c.args.keeper.now) c.args.tally.now in
+    let σ = doing_at c.args.tx.now.contents (g.K.Keep.as_keeper c.args.keeper.now) c.args.tally.now in
     let many = so_many c.args.c.now c.args.site.now.t (under_by c.args.site.now.changing) c.asks-end.new.opened c.args.units.now c.asks-end.new.units c.args.tx.now.contents c.asks-end.new.tx.contents c.requires.fit.top c.asks-end.ensures.remains in
     let begun = begins_with (View lists) c.args.r.now (run_of w c.args.op (ready_of c.args.r.now) c.args.old.now c.args.new σ) c.in_ok-course.course is_served ((rw c.as_slice.ensures at c.in_ok-course.ensures) w σ is_served refl refl refl) in
-    subst (Shows (body w c.args.op (ready_of c.args.r.now) c.args.old.now c.args.new σ) (doing_at c.close.new.tx.contents (g.K.Keep.told c.asks-end.new.keeper) c.finished-made.new.tally) (g.K.Keep.told c.args.keeper.now) (g.K.Keep.told c.asks-end.new.keeper)) (sym c.without.ensures)
-    (body_finishes w c.args.op (ready_of c.args.r.now) c.args.old.now c.args.new c.args.tx.now.contents c.asks-end.new.tx.contents c.close.new.tx.contents (g.K.Keep.told c.args.keeper.now) (g.K.Keep.told c.asks-end.new.keeper) c.args.tally.now c.finished-made.new.tally c.asks-end.new.course c.asks-end.result c.finished-made.result
+    subst (Shows (body w c.args.op (ready_of c.args.r.now) c.args.old.now c.args.new σ) (doing_at c.close.new.tx.contents (g.K.Keep.as_keeper c.asks-end.new.keeper) c.finished-made.new.tally) (g.K.Keep.as_keeper c.args.keeper.now) (g.K.Keep.as_keeper c.asks-end.new.keeper)) (sym c.without.ensures)
+    (body_finishes w c.args.op (ready_of c.args.r.now) c.args.old.now c.args.new c.args.tx.now.contents c.asks-end.new.tx.contents c.close.new.tx.contents (g.K.Keep.as_keeper c.args.keeper.now) (g.K.Keep.as_keeper c.asks-end.new.keeper) c.args.tally.now c.finished-made.new.tally c.asks-end.new.course c.asks-end.result c.finished-made.result
     (c.asks-end.ensures.exact lists keys current is (run_of w c.args.op (ready_of c.args.r.now) c.args.old.now c.args.new σ) is_served begun) (c.close.ensures.contents ∙ ap (λ n. closed_from_top n c.args.site.now.t.session c.asks-end.new.tx.contents) (sym many)) c.finished-made.ensures.finished)
 
 pub body-returns-clause-remains : goal.body-returns-clause-remains
@@ -191,13 +191,13 @@ bodies-returns-clause-remains g t c = c.bodies.invariant.1
 -- ---- write_row
 
 pub write_row-returns-in_err-new-clause-exact : goal.write_row-returns-in_err-new-clause-exact
-write_row-returns-in_err-new-clause-exact g t c = let p = err_from_is_err_and c.from_residual.result c.from_residual.ensures.1 in λ lists keys current is r rest between are_served. rw (p.1, p.2) (write_fails (site_at (names_of lists) c.args.site.now) c.args.work.now c.args.rows.now c.step.new.rows c.args.tx.now.contents c.step.new.tx.contents (g.K.Keep.told c.args.keeper.now) c.args.tally.now c.args.new r rest c.requires.tx between c.in_err-new.field-0.0 c.in_err-new.ensures.stepped c.in_err-new.ensures.unchanged)
+write_row-returns-in_err-new-clause-exact g t c = let p = err_from_is_err_and c.from_residual.result c.from_residual.ensures.1 in λ lists keys current is r rest between are_served. rw (p.1, p.2) (write_fails (site_at (names_of lists) c.args.site.now) c.args.work.now c.args.rows.now c.step.new.rows c.args.tx.now.contents c.step.new.tx.contents (g.K.Keep.as_keeper c.args.keeper.now) c.args.tally.now c.args.new r rest c.requires.tx between c.in_err-new.field-0.0 c.in_err-new.ensures.stepped c.in_err-new.ensures.unchanged)
 
 pub write_row-returns-in_err-new-clause-remains : goal.write_row-returns-in_err-new-clause-remains
 write_row-returns-in_err-new-clause-remains g t c = λ under spares. (step_remains c.args.c.now c.args.site.now.t under c.args.units.now c.args.tx.now.contents c.step.new.tx.contents c.args.rows.now c.args.site.now.changing c.args.rows.now.plan.table.id spares c.requires.tx refl c.step.ensures.leaves c.step.ensures.storable)
 
 pub write_row-returns-in-Before-clause-exact : goal.write_row-returns-in-Before-clause-exact
-write_row-returns-in-Before-clause-exact g t c = λ lists keys current is r rest between are_served. write_not_before (site_at (names_of lists) c.args.site.now) c.args.work.now c.args.rows.now c.step.new.rows c.args.tx.now.contents c.step.new.tx.contents (g.K.Keep.told c.args.keeper.now) c.args.tally.now c.args.new r rest c.requires.tx between c.in_ok-new.field-0 c.in_ok-new.ensures.stepped c.in-Before.old c.in-Before.new c.in-Before.is
+write_row-returns-in-Before-clause-exact g t c = λ lists keys current is r rest between are_served. write_not_before (site_at (names_of lists) c.args.site.now) c.args.work.now c.args.rows.now c.step.new.rows c.args.tx.now.contents c.step.new.tx.contents (g.K.Keep.as_keeper c.args.keeper.now) c.args.tally.now c.args.new r rest c.requires.tx between c.in_ok-new.field-0 c.in_ok-new.ensures.stepped c.in-Before.old c.in-Before.new c.in-Before.is
 
 pub write_row-returns-in-Before-clause-passed : goal.write_row-returns-in-Before-clause-passed
 write_row-returns-in-Before-clause-passed g t c = λ r rest between. write_passes c.args.rows.now c.step.new.rows c.args.tx.now.contents c.step.new.tx.contents c.args.new r rest between c.in_ok-new.field-0 c.in_ok-new.ensures.stepped
@@ -213,8 +213,8 @@ write_row-bodies-requires g t c =
 
 pub write_row-returns-in-After-clause-exact : goal.write_row-returns-in-After-clause-exact
 write_row-returns-in-After-clause-exact g t c = λ lists keys current is r rest between are_served.
-    subst (λ o. Shows o (doing_at c.bodies.new.tx.contents (g.K.Keep.told c.bodies.new.keeper) c.bodies.new.tally) (g.K.Keep.told c.args.keeper.now) (g.K.Keep.told c.bodies.new.keeper) c.bodies.result)
-    (sym (write_goes_on (site_at (names_of lists) c.args.site.now) c.args.work.now c.args.rows.now c.step.new.rows c.args.tx.now.contents c.step.new.tx.contents (g.K.Keep.told c.args.keeper.now) c.args.tally.now c.args.new r rest c.requires.tx between c.in_ok-new.field-0 c.in_ok-new.ensures.stepped c.in-After.old c.in-After.new c.in-After.is)) ((rw (c.as_slice.ensures, c.as_slice-in-After.ensures) at c.bodies.ensures.exact) lists keys current is are_served)
+    subst (λ o. Shows o (doing_at c.bodies.new.tx.contents (g.K.Keep.as_keeper c.bodies.new.keeper) c.bodies.new.tally) (g.K.Keep.as_keeper c.args.keeper.now) (g.K.Keep.as_keeper c.bodies.new.keeper) c.bodies.result)
+    (sym (write_goes_on (site_at (names_of lists) c.args.site.now) c.args.work.now c.args.rows.now c.step.new.rows c.args.tx.now.contents c.step.new.tx.contents (g.K.Keep.as_keeper c.args.keeper.now) c.args.tally.now c.args.new r rest c.requires.tx between c.in_ok-new.field-0 c.in_ok-new.ensures.stepped c.in-After.old c.in-After.new c.in-After.is)) ((rw (c.as_slice.ensures, c.as_slice-in-After.ensures) at c.bodies.ensures.exact) lists keys current is are_served)
 
 pub write_row-returns-in-After-clause-passed : goal.write_row-returns-in-After-clause-passed
 write_row-returns-in-After-clause-passed g t c = λ r rest between. whatever c.bodies.result _ (write_passes c.args.rows.now c.step.new.rows c.args.tx.now.contents c.step.new.tx.contents c.args.new r rest between c.in_ok-new.field-0 c.in_ok-new.ensures.stepped)
@@ -255,10 +255,10 @@ rows-bodies-requires g t c =
 pub rows-returns-in_err-new-in-Before-clause-exact : goal.rows-returns-in_err-new-in-Before-clause-exact
 rows-returns-in_err-new-in-Before-clause-exact g t c = let p = err_from_is_err_and c.from_residual-in_err-new-in-Before.result c.from_residual-in_err-new-in-Before.ensures.1 in λ lists keys current is before_served after_served.
     let b = (begins_row c.rows.left c.step.new.rows c.rows.tx.contents c.step.new.tx.contents (is_between c.args.left.now c.rows.left c.rows.tx.contents c.rows.invariant.1 c.requires.between) c.in_ok-old.field-0 c.in-Before.old c.in-Before.new c.in-Before.is c.in_ok-old.ensures.stepped) in
-    let now = g.K.Keep.told c.bodies.new.keeper in
+    let now = g.K.Keep.as_keeper c.bodies.new.keeper in
     let τ = doing_at c.bodies.new.tx.contents now c.bodies.new.tally in
     rw (p.1, p.2) (row_before_fails (site_at (names_of lists) c.args.site.now) c.args.left.now c.args.work.now _ _ _ c.rows.left c.step.new.rows c.rows.tx.contents c.step.new.tx.contents c.rows.tally c.in-Before.old c.in-Before.new c.rows.invariant.1 (c.rows.invariant.0 lists keys current is before_served after_served) b now τ c.in_err-new-in-Before.field-0.0 (
-    of_slices (site_at (names_of lists) c.args.site.now) c.args.work.now.operation _ _ _ _ c.in-Before.new (doing_at c.step.new.tx.contents (g.K.Keep.told c.rows.keeper) c.rows.tally) τ (g.K.Keep.told c.rows.keeper) now (Err c.in_err-new-in-Before.field-0.0) (AreServed (View lists))
+    of_slices (site_at (names_of lists) c.args.site.now) c.args.work.now.operation _ _ _ _ c.in-Before.new (doing_at c.step.new.tx.contents (g.K.Keep.as_keeper c.rows.keeper) c.rows.tally) τ (g.K.Keep.as_keeper c.rows.keeper) now (Err c.in_err-new-in-Before.field-0.0) (AreServed (View lists))
     c.as_slice.ensures c.as_slice-in-Before.ensures (c.in_err-new-in-Before.ensures.exact lists keys ((rows_stepped c.args.c.now c.args.site.now.t c.args.site.now.changing c.args.left.now c.rows.left c.args.units.now c.rows.units c.args.tx.now.contents c.rows.tx.contents c.requires.tx c.rows.invariant.1 c.rows.invariant.2 c.step.new.tx.contents c.step.ensures.leaves c.step.ensures.storable no_table (spares_none _ _ _)).current lists keys current is) is) before_served))
 
 pub rows-returns-in_err-new-in-Before-clause-remains : goal.rows-returns-in_err-new-in-Before-clause-remains
@@ -326,15 +326,15 @@ changed-rows-requires g t c =
 pub changed-returns-in-Ok-clause-exact : goal.changed-returns-in-Ok-clause-exact
 changed-returns-in-Ok-clause-exact g t c = λ lists keys current is seen changing split.
     let h = c.in-Ok.ensures.started lists keys current is seen changing in
-    subst (λ o. Shows o (doing_at c.rows.new.tx.contents (g.K.Keep.told c.rows.new.keeper) c.rows.new.tally) (g.K.Keep.told c.args.keeper.now) (g.K.Keep.told c.rows.new.keeper) c.rows.result)
-    (sym (change_begins lists c.args.v.now c.args.origin c.args.site.now changing c.args.s.now c.args.binds.now seen split c.args.tx.now.contents (g.K.Keep.told c.args.keeper.now) c.args.tally.now c.in-Ok.begun h)) (c.rows.ensures.exact lists keys (c.started.ensures.current lists keys current is) is h.3.before_served h.3.after_served)
+    subst (λ o. Shows o (doing_at c.rows.new.tx.contents (g.K.Keep.as_keeper c.rows.new.keeper) c.rows.new.tally) (g.K.Keep.as_keeper c.args.keeper.now) (g.K.Keep.as_keeper c.rows.new.keeper) c.rows.result)
+    (sym (change_begins lists c.args.v.now c.args.origin c.args.site.now changing c.args.s.now c.args.binds.now seen split c.args.tx.now.contents (g.K.Keep.as_keeper c.args.keeper.now) c.args.tally.now c.in-Ok.begun h)) (c.rows.ensures.exact lists keys (c.started.ensures.current lists keys current is) is h.3.before_served h.3.after_served)
 
 pub changed-returns-in-Ok-clause-remains : goal.changed-returns-in-Ok-clause-remains
 changed-returns-in-Ok-clause-remains g t c = λ under spares.
     remains_then c.args.c.now c.args.site.now.t under c.args.units.now c.started.new.units c.rows.new.units c.args.tx.now.contents c.args.tx.now.contents c.rows.new.tx.contents (made_remains c.args.c.now c.args.site.now.t under c.args.units.now c.started.new.units c.args.tx.now.contents c.started.ensures.current c.requires.fit.fit.storable) (c.rows.ensures.remains under (spares_one under c.args.site.now.t c.args.site.now.changing _ _ c.in-Ok.ensures.table spares))
 
 pub changed-returns-in-Err-clause-exact : goal.changed-returns-in-Err-clause-exact
-changed-returns-in-Err-clause-exact g t c = λ lists keys current is seen changing split. change_refused_first lists c.args.v.now c.args.origin c.args.site.now changing c.args.s.now c.args.binds.now seen split c.args.tx.now.contents (g.K.Keep.told c.args.keeper.now) c.args.tally.now c.in-Err.stop c.failure.result c.failure.ensures (c.in-Err.ensures.started lists keys current is seen changing)
+changed-returns-in-Err-clause-exact g t c = λ lists keys current is seen changing split. change_refused_first lists c.args.v.now c.args.origin c.args.site.now changing c.args.s.now c.args.binds.now seen split c.args.tx.now.contents (g.K.Keep.as_keeper c.args.keeper.now) c.args.tally.now c.in-Err.stop c.failure.result c.failure.ensures (c.in-Err.ensures.started lists keys current is seen changing)
 
 pub changed-returns-in-Err-clause-remains : goal.changed-returns-in-Err-clause-remains
 changed-returns-in-Err-clause-remains g t c = λ under spares. (made_remains c.args.c.now c.args.site.now.t under c.args.units.now c.started.new.units c.args.tx.now.contents c.started.ensures.current c.requires.fit.fit.storable)
@@ -365,15 +365,15 @@ pub change-back_to_mark-requires-clause-mark : goal.change-back_to_mark-requires
 change-back_to_mark-requires-clause-mark g t c = leaves_mark c.args.tx.now.contents c.changed.new.tx.contents c.args.site.now.t no_table c.in_ok-mark.mark c.in_ok-mark.ensures.later (remains_then c.args.c.now c.args.site.now.t no_table c.args.units.now c.args.units.now c.changed.new.units c.args.tx.now.contents c.begin.new.self.contents c.changed.new.tx.contents (begins_remains c.args.c.now c.args.site.now.t no_table c.args.units.now c.args.tx.now.contents c.begin.new.self.contents c.requires.fit c.begin.ensures.contents) (c.changed.ensures.remains no_table (spares_none _ _ _))).leaves
 
 pub change-returns-in-Ok-clause-exact : goal.change-returns-in-Ok-clause-exact
-change-returns-in-Ok-clause-exact g t c = λ lists keys current is seen changing split. change_done (Stmt (names_of lists) c.args.site.now.levels) (names_of lists) (place_at c.args.v.now.edition c.args.origin c.args.site.now.t changing) c.args.s.now c.args.binds.now c.args.site.now.left c.args.room c.args.tx.now.contents c.begin.new.self.contents (g.K.Keep.told c.args.keeper.now) (g.K.Keep.told c.changed.new.keeper) c.new-tally.result c.begin.ensures.contents c.new-tally.ensures c.in-Ok.n c.changed.new.tx.contents c.changed.new.tally (c.in-Ok.ensures.exact lists keys current is seen changing split)
+change-returns-in-Ok-clause-exact g t c = λ lists keys current is seen changing split. change_done (Stmt (names_of lists) c.args.site.now.levels) (names_of lists) (place_at c.args.v.now.edition c.args.origin c.args.site.now.t changing) c.args.s.now c.args.binds.now c.args.site.now.left c.args.room c.args.tx.now.contents c.begin.new.self.contents (g.K.Keep.as_keeper c.args.keeper.now) (g.K.Keep.as_keeper c.changed.new.keeper) c.new-tally.result c.begin.ensures.contents c.new-tally.ensures c.in-Ok.n c.changed.new.tx.contents c.changed.new.tally (c.in-Ok.ensures.exact lists keys current is seen changing split)
 
 pub change-returns-in-Ok-clause-remains : goal.change-returns-in-Ok-clause-remains
 change-returns-in-Ok-clause-remains g t c = λ under spares. remains_then c.args.c.now c.args.site.now.t under c.args.units.now c.args.units.now c.changed.new.units c.args.tx.now.contents c.begin.new.self.contents c.changed.new.tx.contents (begins_remains c.args.c.now c.args.site.now.t under c.args.units.now c.args.tx.now.contents c.begin.new.self.contents c.requires.fit c.begin.ensures.contents) (c.changed.ensures.remains under spares)
 
 pub change-returns-in-Err-clause-exact : goal.change-returns-in-Err-clause-exact
 change-returns-in-Err-clause-exact g t c = λ lists keys current is seen changing split.
-    subst (Tells _ (base_of c.back_to_mark.new.self.contents (g.K.Keep.told c.changed.new.keeper)) (g.K.Keep.told c.args.keeper.now) (g.K.Keep.told c.changed.new.keeper)) (sym c.refused_change.ensures) (
-    change_fails (Stmt (names_of lists) c.args.site.now.levels) (names_of lists) (place_at c.args.v.now.edition c.args.origin c.args.site.now.t changing) c.args.s.now c.args.binds.now c.args.site.now.left c.args.room c.args.tx.now.contents c.begin.new.self.contents (g.K.Keep.told c.args.keeper.now) (g.K.Keep.told c.changed.new.keeper) c.new-tally.result c.begin.ensures.contents c.new-tally.ensures c.in-Err.failure c.changed.new.tx.contents c.back_to_mark.new.self.contents c.in_ok-mark.mark c.changed.new.tally c.back_to_mark.ensures.contents c.in_ok-mark.ensures.mark
+    subst (Tells _ (base_of c.back_to_mark.new.self.contents (g.K.Keep.as_keeper c.changed.new.keeper)) (g.K.Keep.as_keeper c.args.keeper.now) (g.K.Keep.as_keeper c.changed.new.keeper)) (sym c.refused_change.ensures) (
+    change_fails (Stmt (names_of lists) c.args.site.now.levels) (names_of lists) (place_at c.args.v.now.edition c.args.origin c.args.site.now.t changing) c.args.s.now c.args.binds.now c.args.site.now.left c.args.room c.args.tx.now.contents c.begin.new.self.contents (g.K.Keep.as_keeper c.args.keeper.now) (g.K.Keep.as_keeper c.changed.new.keeper) c.new-tally.result c.begin.ensures.contents c.new-tally.ensures c.in-Err.failure c.changed.new.tx.contents c.back_to_mark.new.self.contents c.in_ok-mark.mark c.changed.new.tally c.back_to_mark.ensures.contents c.in_ok-mark.ensures.mark
     (c.in-Err.ensures.exact lists keys current is seen changing split))
 
 pub change-returns-in-Err-clause-remains : goal.change-returns-in-Err-clause-remains
@@ -387,12 +387,12 @@ tested-run_query-ran-requires-clause-live g t c = top_live c.args.tx.now.content
 
 pub tested-returns-in-Ok-clause-exact : goal.tested-returns-in-Ok-clause-exact
 tested-returns-in-Ok-clause-exact g t c = λ lists keys current is seen.
-    subst (λ s. Said (checked_ran (Stmt (names_of lists) c.args.levels) (names_of lists) (place_at c.args.v.now.edition c.args.origin c.args.t c.args.changing.now) s c.args.binds.now c.args.left c.args.room (base_of c.args.tx.now.contents (g.K.Keep.told c.args.keeper.now))) (base_of c.run_query-ran.new.tx.contents (g.K.Keep.told c.args.keeper.now)) (g.K.Keep.told c.args.keeper.now) (g.K.Keep.told c.args.keeper.now) c.in-Ok.answer) (sym (c.in-Query.is ∙ ap (λ q. sql.Query q) (sym c.get.ensures))) (query_answers (Stmt (names_of lists) c.args.levels) (names_of lists) (place_at c.args.v.now.edition c.args.origin c.args.t c.args.changing.now) c.get.result.now c.args.v.now seen c.args.binds.now c.args.left c.args.room c.args.tx.now.contents c.run_query-ran.new.tx.contents (g.K.Keep.told c.args.keeper.now) c.in-Ok.answer (c.in-Ok.ensures.answer (place_at c.args.v.now.edition c.args.origin c.args.t c.args.changing.now) (sym c.as_slice.ensures)))
+    subst (λ s. Said (checked_ran (Stmt (names_of lists) c.args.levels) (names_of lists) (place_at c.args.v.now.edition c.args.origin c.args.t c.args.changing.now) s c.args.binds.now c.args.left c.args.room (base_of c.args.tx.now.contents (g.K.Keep.as_keeper c.args.keeper.now))) (base_of c.run_query-ran.new.tx.contents (g.K.Keep.as_keeper c.args.keeper.now)) (g.K.Keep.as_keeper c.args.keeper.now) (g.K.Keep.as_keeper c.args.keeper.now) c.in-Ok.answer) (sym (c.in-Query.is ∙ ap (λ q. sql.Query q) (sym c.get.ensures))) (query_answers (Stmt (names_of lists) c.args.levels) (names_of lists) (place_at c.args.v.now.edition c.args.origin c.args.t c.args.changing.now) c.get.result.now c.args.v.now seen c.args.binds.now c.args.left c.args.room c.args.tx.now.contents c.run_query-ran.new.tx.contents (g.K.Keep.as_keeper c.args.keeper.now) c.in-Ok.answer (c.in-Ok.ensures.answer (place_at c.args.v.now.edition c.args.origin c.args.t c.args.changing.now) (sym c.as_slice.ensures)))
 
 pub tested-returns-in-Err-clause-exact : goal.tested-returns-in-Err-clause-exact
 tested-returns-in-Err-clause-exact g t c = λ lists keys current is seen.
-    subst (λ s. Tells (checked_ran (Stmt (names_of lists) c.args.levels) (names_of lists) (place_at c.args.v.now.edition c.args.origin c.args.t c.args.changing.now) s c.args.binds.now c.args.left c.args.room (base_of c.args.tx.now.contents (g.K.Keep.told c.args.keeper.now))) (base_of c.run_query-ran.new.tx.contents (g.K.Keep.told c.args.keeper.now)) (g.K.Keep.told c.args.keeper.now) (g.K.Keep.told c.args.keeper.now) c.refusal.result) (sym (c.in-Query.is ∙ ap (λ q. sql.Query q) (sym c.get.ensures)))
-    (subst (Tells (checked_ran (Stmt (names_of lists) c.args.levels) (names_of lists) (place_at c.args.v.now.edition c.args.origin c.args.t c.args.changing.now) (sql.Query c.get.result.now) c.args.binds.now c.args.left c.args.room (base_of c.args.tx.now.contents (g.K.Keep.told c.args.keeper.now))) (base_of c.run_query-ran.new.tx.contents (g.K.Keep.told c.args.keeper.now)) (g.K.Keep.told c.args.keeper.now) (g.K.Keep.told c.args.keeper.now)) (sym c.refusal.ensures) (query_refuses (Stmt (names_of lists) c.args.levels) (names_of lists) (place_at c.args.v.now.edition c.args.origin c.args.t c.args.changing.now) c.get.result.now c.args.v.now seen c.args.binds.now c.args.left c.args.room c.args.tx.now.contents c.run_query-ran.new.tx.contents (g.K.Keep.told c.args.keeper.now) c.in-Err.stop (c.in-Err.ensures.answer (place_at c.args.v.now.edition c.args.origin c.args.t c.args.changing.now) (sym c.as_slice.ensures))))
+    subst (λ s. Tells (checked_ran (Stmt (names_of lists) c.args.levels) (names_of lists) (place_at c.args.v.now.edition c.args.origin c.args.t c.args.changing.now) s c.args.binds.now c.args.left c.args.room (base_of c.args.tx.now.contents (g.K.Keep.as_keeper c.args.keeper.now))) (base_of c.run_query-ran.new.tx.contents (g.K.Keep.as_keeper c.args.keeper.now)) (g.K.Keep.as_keeper c.args.keeper.now) (g.K.Keep.as_keeper c.args.keeper.now) c.refusal.result) (sym (c.in-Query.is ∙ ap (λ q. sql.Query q) (sym c.get.ensures)))
+    (subst (Tells (checked_ran (Stmt (names_of lists) c.args.levels) (names_of lists) (place_at c.args.v.now.edition c.args.origin c.args.t c.args.changing.now) (sql.Query c.get.result.now) c.args.binds.now c.args.left c.args.room (base_of c.args.tx.now.contents (g.K.Keep.as_keeper c.args.keeper.now))) (base_of c.run_query-ran.new.tx.contents (g.K.Keep.as_keeper c.args.keeper.now)) (g.K.Keep.as_keeper c.args.keeper.now) (g.K.Keep.as_keeper c.args.keeper.now)) (sym c.refusal.ensures) (query_refuses (Stmt (names_of lists) c.args.levels) (names_of lists) (place_at c.args.v.now.edition c.args.origin c.args.t c.args.changing.now) c.get.result.now c.args.v.now seen c.args.binds.now c.args.left c.args.room c.args.tx.now.contents c.run_query-ran.new.tx.contents (g.K.Keep.as_keeper c.args.keeper.now) c.in-Err.stop (c.in-Err.ensures.answer (place_at c.args.v.now.edition c.args.origin c.args.t c.args.changing.now) (sym c.as_slice.ensures))))
 
 pub tested-returns-in-Ok-clause-remains : goal.tested-returns-in-Ok-clause-remains
 tested-returns-in-Ok-clause-remains g t c = left_remains c.args.c.now c.args.t (under_by c.args.changing.now) c.args.units.now c.args.tx.now.contents c.run_query-ran.new.tx.contents (c.run_query-ran.ensures.leaves (under_by c.args.changing.now)) c.run_query-ran.ensures.storable
@@ -415,7 +415,7 @@ tested-change-requires g t c =
 
 pub tested-returns-in_ok-site-in_default-clause-exact : goal.tested-returns-in_ok-site-in_default-clause-exact
 tested-returns-in_ok-site-in_default-clause-exact g t c = λ lists keys current is seen.
-    change_tells c.args.t c.args.changing.now c.args.tables.now (tables_of c.args.v.now c.args.s.now) c.args.left c.args.levels c.in_ok-site-in_default.site c.in_ok-site-in_default.ensures c.requires.tables (names_of lists) c.args.v.now.edition c.args.origin c.args.s.now c.args.binds.now c.args.room (base_of c.args.tx.now.contents (g.K.Keep.told c.args.keeper.now)) (base_of c.change.new.tx.contents (g.K.Keep.told c.change.new.keeper)) (g.K.Keep.told c.args.keeper.now) (g.K.Keep.told c.change.new.keeper) c.change.result
+    change_tells c.args.t c.args.changing.now c.args.tables.now (tables_of c.args.v.now c.args.s.now) c.args.left c.args.levels c.in_ok-site-in_default.site c.in_ok-site-in_default.ensures c.requires.tables (names_of lists) c.args.v.now.edition c.args.origin c.args.s.now c.args.binds.now c.args.room (base_of c.args.tx.now.contents (g.K.Keep.as_keeper c.args.keeper.now)) (base_of c.change.new.tx.contents (g.K.Keep.as_keeper c.change.new.keeper)) (g.K.Keep.as_keeper c.args.keeper.now) (g.K.Keep.as_keeper c.change.new.keeper) c.change.result
     c.in_default.not-Query (c.change.ensures.exact lists keys current is seen c.args.changing.now)
 
 pub tested-returns-in_ok-site-in_default-clause-remains : goal.tested-returns-in_ok-site-in_default-clause-remains
@@ -424,17 +424,17 @@ tested-returns-in_ok-site-in_default-clause-remains g t c = site_remains c.args.
 -- ---- statement
 
 pub statement-returns-then-levels-eq0-clause-exact : goal.statement-returns-then-levels-eq0-clause-exact
-statement-returns-then-levels-eq0-clause-exact g t c = λ lists keys current is seen. too_deep_as (names_of lists) c.args.levels (place_at c.args.v.now.edition c.args.origin c.args.t c.args.changing.now) c.args.s.now c.args.binds.now c.args.left c.args.room (base_of c.args.tx.now.contents (g.K.Keep.told c.args.keeper.now)) (g.K.Keep.told c.args.keeper.now) c.refused.result c.refused.ensures c.if-levels-eq0.true
+statement-returns-then-levels-eq0-clause-exact g t c = λ lists keys current is seen. too_deep_as (names_of lists) c.args.levels (place_at c.args.v.now.edition c.args.origin c.args.t c.args.changing.now) c.args.s.now c.args.binds.now c.args.left c.args.room (base_of c.args.tx.now.contents (g.K.Keep.as_keeper c.args.keeper.now)) (g.K.Keep.as_keeper c.args.keeper.now) c.refused.result c.refused.ensures c.if-levels-eq0.true
 
 pub statement-returns-in-Err-clause-exact : goal.statement-returns-in-Err-clause-exact
 statement-returns-in-Err-clause-exact g t c = λ lists keys current is seen.
     let some : 0 < c.args.levels = omega (arith, c.if-levels-eq0.false) in
-    subst (Tells _ (base_of c.args.tx.now.contents (g.K.Keep.told c.args.keeper.now)) (g.K.Keep.told c.args.keeper.now) (g.K.Keep.told c.args.keeper.now)) (sym c.refusal.ensures) (refuses (names_of lists) c.args.levels (place_at c.args.v.now.edition c.args.origin c.args.t c.args.changing.now) c.args.s.now c.args.binds.now c.args.left c.args.room (base_of c.args.tx.now.contents (g.K.Keep.told c.args.keeper.now)) (g.K.Keep.told c.args.keeper.now) c.in-Err.stop some (c.in-Err.ensures.answer (names_of lists) (place_at c.args.v.now.edition c.args.origin c.args.t c.args.changing.now) (sym seen) refl (sym c.as_slice.ensures)))
+    subst (Tells _ (base_of c.args.tx.now.contents (g.K.Keep.as_keeper c.args.keeper.now)) (g.K.Keep.as_keeper c.args.keeper.now) (g.K.Keep.as_keeper c.args.keeper.now)) (sym c.refusal.ensures) (refuses (names_of lists) c.args.levels (place_at c.args.v.now.edition c.args.origin c.args.t c.args.changing.now) c.args.s.now c.args.binds.now c.args.left c.args.room (base_of c.args.tx.now.contents (g.K.Keep.as_keeper c.args.keeper.now)) (g.K.Keep.as_keeper c.args.keeper.now) c.in-Err.stop some (c.in-Err.ensures.answer (names_of lists) (place_at c.args.v.now.edition c.args.origin c.args.t c.args.changing.now) (sym seen) refl (sym c.as_slice.ensures)))
 
 pub statement-returns-in-Ok-clause-exact : goal.statement-returns-in-Ok-clause-exact
 statement-returns-in-Ok-clause-exact g t c = λ lists keys current is seen.
     let some : 0 < c.args.levels = omega (arith, c.if-levels-eq0.false) in
-    passes (names_of lists) c.args.levels (place_at c.args.v.now.edition c.args.origin c.args.t c.args.changing.now) c.args.s.now c.args.binds.now c.args.left c.args.room (base_of c.args.tx.now.contents (g.K.Keep.told c.args.keeper.now)) (g.K.Keep.told c.args.keeper.now) some (c.in-Ok.ensures.answer (names_of lists) (place_at c.args.v.now.edition c.args.origin c.args.t c.args.changing.now) (sym seen) refl (sym c.as_slice.ensures)) (g.K.Keep.told c.tested.new.keeper) (base_of c.tested.new.tx.contents (g.K.Keep.told c.tested.new.keeper)) c.tested.result (c.tested.ensures.exact lists keys current is seen)
+    passes (names_of lists) c.args.levels (place_at c.args.v.now.edition c.args.origin c.args.t c.args.changing.now) c.args.s.now c.args.binds.now c.args.left c.args.room (base_of c.args.tx.now.contents (g.K.Keep.as_keeper c.args.keeper.now)) (g.K.Keep.as_keeper c.args.keeper.now) some (c.in-Ok.ensures.answer (names_of lists) (place_at c.args.v.now.edition c.args.origin c.args.t c.args.changing.now) (sym seen) refl (sym c.as_slice.ensures)) (g.K.Keep.as_keeper c.tested.new.keeper) (base_of c.tested.new.tx.contents (g.K.Keep.as_keeper c.tested.new.keeper)) c.tested.result (c.tested.ensures.exact lists keys current is seen)
 
 pub statement-returns-then-levels-eq0-clause-remains : goal.statement-returns-then-levels-eq0-clause-remains
 statement-returns-then-levels-eq0-clause-remains g t c = remains_same c.args.c.now c.args.t (under_by c.args.changing.now) c.args.units.now c.args.tx.now.contents c.requires.fit.fit.storable

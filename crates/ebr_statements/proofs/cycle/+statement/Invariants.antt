@@ -2,7 +2,7 @@ use Rattle.std.proofs.Common.{◌≡◌, ◌+◌, ◌*◌, ◌-◌, List, [], dr
 use Rattle.ebr_asks.specs.declared.answer.Answer.{Answer}
 use Rattle.ebr_asks.specs.declared.ask.Ask.{Ask}
 use Rattle.std.specs.Prelude.{map, ◌∷◌}
-use Rattle.ebr_cross.specs.Catalogue.{Lists, HaveOwnKeys, View, kept}
+use Rattle.ebr_cross.specs.Catalogue.{Lists, HaveOwnKeys, View, as_catalogue}
 use Rattle.ebr_database.specs.Shows.{base_of}
 use Rattle.ebr_database.proofs.Goes.{Goes}
 use Rattle.ebr_exec.specs.Places.{names_of}
@@ -54,29 +54,29 @@ decreases-tested g l = 16 * l.levels + 9
 -- the bodies that are left
 abbrev pub invariant-bodies-bodies : goal.invariant-bodies-bodies
 invariant-bodies-bodies g l =
-    ((c : Lists) → HaveOwnKeys c → AreCurrent c l.fn.units → l.c ≡ kept c → AreServed (View c) l.triggers
-    → Goes (spec.bodies (site_at (names_of c) l.site) l.op (map ready_of l.triggers) l.old l.fn.new (doing_at l.fn.tx.contents (g.K.Keep.told l.fn.keeper) l.fn.tally))
-    (spec.bodies (site_at (names_of c) l.site) l.op (map ready_of (drop l.r-index l.triggers)) l.old l.new (doing_at l.tx.contents (g.K.Keep.told l.keeper) l.tally))
-    (g.K.Keep.told l.fn.keeper) (g.K.Keep.told l.keeper))
+    ((c : Lists) → HaveOwnKeys c → AreCurrent c l.fn.units → l.c ≡ as_catalogue c → AreServed (View c) l.triggers
+    → Goes (spec.bodies (site_at (names_of c) l.site) l.op (map ready_of l.triggers) l.old l.fn.new (doing_at l.fn.tx.contents (g.K.Keep.as_keeper l.fn.keeper) l.fn.tally))
+    (spec.bodies (site_at (names_of c) l.site) l.op (map ready_of (drop l.r-index l.triggers)) l.old l.new (doing_at l.tx.contents (g.K.Keep.as_keeper l.keeper) l.tally))
+    (g.K.Keep.as_keeper l.fn.keeper) (g.K.Keep.as_keeper l.keeper))
     × Remains l.c l.site.t (under_by l.site.changing) l.fn.units l.fn.tx.contents l.units l.tx.contents
     × (length l.new ≡ length l.fn.new)
 
 -- the asks that are left
 abbrev pub invariant-asks-asks : goal.invariant-asks-asks
 invariant-asks-asks g l =
-    ((c : Lists) → HaveOwnKeys c → AreCurrent c l.fn.units → l.c ≡ kept c → (run : List Answer → Seen) → IsServed (View c) l.r → IsBegun (served l.r.book) run l.fn.course
+    ((c : Lists) → HaveOwnKeys c → AreCurrent c l.fn.units → l.c ≡ as_catalogue c → (run : List Answer → Seen) → IsServed (View c) l.r → IsBegun (served l.r.book) run l.fn.course
     → (asks : List Ask) × (answers : List Answer) × Has (served l.r.book) l.course.machine l.course.packages l.course.left run asks answers
-    × Goes (spec.served spec.max_asks (site_at (names_of c) l.site) (ready_of l.r) run [] (base_of l.fn.tx.contents (g.K.Keep.told l.fn.keeper)))
-    (spec.served (spec.max_asks - l._ask) (site_at (names_of c) l.site) (ready_of l.r) run answers (base_of l.tx.contents (g.K.Keep.told l.keeper)))
-    (g.K.Keep.told l.fn.keeper) (g.K.Keep.told l.keeper))
+    × Goes (spec.served spec.max_asks (site_at (names_of c) l.site) (ready_of l.r) run [] (base_of l.fn.tx.contents (g.K.Keep.as_keeper l.fn.keeper)))
+    (spec.served (spec.max_asks - l._ask) (site_at (names_of c) l.site) (ready_of l.r) run answers (base_of l.tx.contents (g.K.Keep.as_keeper l.keeper)))
+    (g.K.Keep.as_keeper l.fn.keeper) (g.K.Keep.as_keeper l.keeper))
     × RemainsOpen l.c l.site.t (under_by l.site.changing) l.fn.opened l.fn.units l.fn.tx.contents l.opened l.units l.tx.contents
 
 -- the rows that are left
 abbrev pub invariant-rows-rows : goal.invariant-rows-rows
 invariant-rows-rows g l =
-    ((c : Lists) → HaveOwnKeys c → AreCurrent c l.fn.units → l.c ≡ kept c → AreServed (View c) l.work.before → AreServed (View c) l.work.after
-    → Goes (rows.rows_of (site_at (names_of c) l.site) (work_at l.fn.left l.work) l.fn.left.rest (doing_at l.fn.tx.contents (g.K.Keep.told l.fn.keeper) l.fn.tally))
-    (left_rows (site_at (names_of c) l.site) (work_at l.fn.left l.work) (total_of l.left) l.left.rest (doing_at l.tx.contents (g.K.Keep.told l.keeper) l.tally))
-    (g.K.Keep.told l.fn.keeper) (g.K.Keep.told l.keeper))
+    ((c : Lists) → HaveOwnKeys c → AreCurrent c l.fn.units → l.c ≡ as_catalogue c → AreServed (View c) l.work.before → AreServed (View c) l.work.after
+    → Goes (rows.rows_of (site_at (names_of c) l.site) (work_at l.fn.left l.work) l.fn.left.rest (doing_at l.fn.tx.contents (g.K.Keep.as_keeper l.fn.keeper) l.fn.tally))
+    (left_rows (site_at (names_of c) l.site) (work_at l.fn.left l.work) (total_of l.left) l.left.rest (doing_at l.tx.contents (g.K.Keep.as_keeper l.keeper) l.tally))
+    (g.K.Keep.as_keeper l.fn.keeper) (g.K.Keep.as_keeper l.keeper))
     × Row l.fn.left l.left l.tx.contents
     × ((under : UnderChange) → Spares under l.site.t l.site.changing (l.fn.left.plan.table.id ∷ []) → Remains l.c l.site.t under l.fn.units l.fn.tx.contents l.units l.tx.contents)

@@ -12,16 +12,16 @@ use Rattle.ebr_statements.proofs.run.run_sql.Goals as goal
 -- No table is under change before.
 pub returns-clause-exact : goal.returns-clause-exact
 returns-clause-exact g c = λ lists keys current is seen.
-    let old = g.K.Keep.told c.args.world.now.keeper in
-    let new = g.K.Keep.told c.statement.new.keeper in
+    let old = g.K.Keep.as_keeper c.args.world.now.keeper in
+    let new = g.K.Keep.as_keeper c.statement.new.keeper in
     subst (λ (changing : List Under). Tells (Stmt (names_of lists) 50 (place_at c.args.v.now.edition Plain c.args.t changing) c.args.s.now c.args.binds.now c.args.left c.args.room (base_of c.args.world.now.tx.contents old))
     (base_of c.statement.new.tx.contents new) old new c.statement.result) c.new-changing.ensures
     (c.statement.ensures.exact lists keys current is seen)
 
 pub returns-clause-apart : goal.returns-clause-apart
 returns-clause-apart g c = λ lists keys current is seen.
-    let old = g.K.Keep.told c.args.world.now.keeper in
-    let new = g.K.Keep.told c.statement.new.keeper in
+    let old = g.K.Keep.as_keeper c.args.world.now.keeper in
+    let new = g.K.Keep.as_keeper c.statement.new.keeper in
     told_apart (names_of lists) 50 (own_place c.args.v.now.edition c.args.t) c.args.s.now c.args.binds.now c.args.left c.args.room
     (base_of c.args.world.now.tx.contents old) (base_of c.statement.new.tx.contents new) old new c.statement.result
     (returns-clause-exact g c lists keys current is seen)

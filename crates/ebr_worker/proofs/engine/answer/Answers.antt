@@ -5,4 +5,4 @@ pub answer-answer-requires-clause-fit : goal.answer-answer-requires-clause-fit
 answer-answer-requires-clause-fit g c = fit_ask _ c.requires.fit
 
 pub returns : goal.returns
-returns g c = replies g.K.Keep.told _ _ _ _ _ c.requires.seat c.answer-answer.ensures.answers _ _ c.take_book-book.ensures.taken c.take_book-book.ensures.book
+returns g c = replies g.K.Keep.as_keeper _ _ _ _ _ c.requires.seat c.answer-answer.ensures.answers _ _ c.take_book-book.ensures.taken c.take_book-book.ensures.book

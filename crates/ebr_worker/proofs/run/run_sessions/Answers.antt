@@ -2,7 +2,7 @@ use Rattle.std.proofs.Common.{◌≡◌, ◌∷◌, length, ap, arith, refl, rul
 use Rattle.std.specs.Vec.Iter.{into_iter_items}
 use Rattle.std.proofs.lemmas.List.{with_items_is}
 use Rattle.ebr_worker.specs.Runs.{AreEnds}
-use Rattle.ebr_worker.specs.inside.Memory.{told}
+use Rattle.ebr_worker.specs.inside.Memory.{as_keeper}
 use Rattle.ebr_worker.specs.inside.Rehearsal.{AllFrom, EndsAt, IsEndAt}
 use Rattle.ebr_worker.proofs.Running.{are_ends, begun_count, end_at, end_few, end_some, ends_first, ended_scripts, next_first, next_rest, next_told, no_fault, none_told, order_first, stand_first}
 use Rattle.ebr_worker.proofs.run.run_sessions.Goals as goal
@@ -25,7 +25,7 @@ loop-worker-init g c =
       room = search (rules, arith);
       workers = subst (λ n. AllFrom (EndsAt c.args.scripts.now c.rehearse_core.new.engine) n (into_iter_items c.into_iter-worker-iterator.result)) (sym (ap length c.in_ok-ends.ensures.items))
           (subst (AllFrom (EndsAt c.args.scripts.now c.rehearse_core.new.engine) 0) (sym items) (ends_first c.args.scripts.now _ _ same.0 c.rehearse_core.ensures.ended));
-      told = none_told (IsEndAt g.S.Sink.held g.S.Sink.faults c.args.scripts.now c.rehearse_core.new.engine.history) c.in_ok-ends.ends.items c.in_ok-ends.ensures.items;
+      ended = none_told (IsEndAt g.S.Sink.held g.S.Sink.faults c.args.scripts.now c.rehearse_core.new.engine.history) c.in_ok-ends.ends.items c.in_ok-ends.ensures.items;
     }
 
 pub into_end-requires-clause-ended : goal.into_end-requires-clause-ended
@@ -46,13 +46,13 @@ loop-worker-preserved g c =
       count = omega (arith, c.loop-worker.invariant.count, ap length cut, ap length c.push_reserved.ensures.items);
       room = search (rules, arith);
       workers = next_rest (EndsAt c.args.scripts.now c.rehearse_core.new.engine) c.loop-worker.ends.items _ c.into_end.result _ _ c.in-Some.worker cut c.push_reserved.ensures.items c.loop-worker.invariant.workers;
-      told = next_told (IsEndAt g.S.Sink.held g.S.Sink.faults c.args.scripts.now c.rehearse_core.new.engine.history) c.loop-worker.ends.items _ c.into_end.result c.push_reserved.ensures.items c.loop-worker.invariant.told
-          (end_at g.S.Sink.held g.S.Sink.faults c.args.scripts.now c.rehearse_core.new.engine (length c.loop-worker.ends.items) c.in-Some.worker c.into_end.result (next_first (EndsAt c.args.scripts.now c.rehearse_core.new.engine) (length c.loop-worker.ends.items) _ _ _ cut c.loop-worker.invariant.workers) c.into_end.ensures.told c.into_end.ensures.sink);
+      ended = next_told (IsEndAt g.S.Sink.held g.S.Sink.faults c.args.scripts.now c.rehearse_core.new.engine.history) c.loop-worker.ends.items _ c.into_end.result c.push_reserved.ensures.items c.loop-worker.invariant.ended
+          (end_at g.S.Sink.held g.S.Sink.faults c.args.scripts.now c.rehearse_core.new.engine (length c.loop-worker.ends.items) c.in-Some.worker c.into_end.result (next_first (EndsAt c.args.scripts.now c.rehearse_core.new.engine) (length c.loop-worker.ends.items) _ _ _ cut c.loop-worker.invariant.workers) c.into_end.ensures.end c.into_end.ensures.sink);
     }
 
 pub returns-clause-ends : goal.returns-clause-ends
 returns-clause-ends g c =
     subst (AreEnds g.S.Sink.held g.S.Sink.faults c.args.scripts.now c.into_parts-history.result.0) (sym c.from_vec.ensures)
     (are_ends g.S.Sink.held g.S.Sink.faults c.args.scripts.now _ _ _ c.into_parts-history.ensures.history
-    (record { legal = search rules; no_fault = no_fault told c.in_ok-engine.engine c.rehearse_core.new.engine (λ k. refl) c.rehearse_core.ensures.faultless })
-    c.loop-worker.invariant.told (search (rules, arith)))
+    (record { legal = search rules; no_fault = no_fault as_keeper c.in_ok-engine.engine c.rehearse_core.new.engine (λ k. refl) c.rehearse_core.ensures.faultless })
+    c.loop-worker.invariant.ended (search (rules, arith)))

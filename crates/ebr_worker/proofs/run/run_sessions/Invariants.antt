@@ -11,5 +11,5 @@ invariant-loop-worker g l = record {
   count : length l.ends.items + length (into_iter_items l.worker-iterator) ≡ length l.scripts;
   room : length l.scripts ≤ vec_capacity l.ends;
   workers : AllFrom (EndsAt l.scripts l.engine) (length l.ends.items) (into_iter_items l.worker-iterator);
-  told : AllFrom (IsEndAt g.S.Sink.held g.S.Sink.faults l.scripts l.engine.history) 0 l.ends.items;
+  ended : AllFrom (IsEndAt g.S.Sink.held g.S.Sink.faults l.scripts l.engine.history) 0 l.ends.items;
 }

@@ -7,5 +7,5 @@ use Rattle.ebr_core.proofs.engine.Engine.answer.Goals as goal
 
 pub returns-clause-apart : goal.returns-clause-apart
 returns-clause-apart g c =
-    subst (λ v. IsApart (database_of v) c.args.s c.args.ask c.answer.result (database g.K.Keep.told c.answer.new.self)) c.self.view_is
-    (answer_apart g.K.Keep.told (state_of g.K.Keep.told c.self.inside.parts) (state_of g.K.Keep.told c.answer.new.self) c.args.s c.args.ask c.answer.result c.answer.ensures.answers)
+    subst (λ v. IsApart (database_of v) c.args.s c.args.ask c.answer.result (database g.K.Keep.as_keeper c.answer.new.self)) c.self.view_is
+    (answer_apart g.K.Keep.as_keeper (state_of g.K.Keep.as_keeper c.self.inside.parts) (state_of g.K.Keep.as_keeper c.answer.new.self) c.args.s c.args.ask c.answer.result c.answer.ensures.answers)

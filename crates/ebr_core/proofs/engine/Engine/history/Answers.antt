@@ -4,4 +4,4 @@ use Rattle.ebr_core.proofs.Answering.{legal_now}
 use Rattle.ebr_core.proofs.engine.Engine.history.Goals as goal
 
 pub returns-clause-legal : goal.returns-clause-legal
-returns-clause-legal g c = subst HasLegalHistory c.self.view_is (legal_now g.K.Keep.told c.self.inside.parts c.self.invariant)
+returns-clause-legal g c = subst HasLegalHistory c.self.view_is (legal_now g.K.Keep.as_keeper c.self.inside.parts c.self.invariant)

@@ -5,27 +5,27 @@ use Rattle.ebr_core.proofs.Answering.{has_room, is_held, leave_answers, leave_so
 use Rattle.ebr_core.proofs.parts.Parts.answer.Goals as goal
 
 pub stop-requires : goal.stop-requires
-stop-requires g c = has_room g.K.Keep.told c.args.self.now c.args.s c.requires.sound c.requires.live
+stop-requires g c = has_room g.K.Keep.as_keeper c.args.self.now c.args.s c.requires.sound c.requires.live
 
 pub returns-then-self-clause-sound : goal.returns-then-self-clause-sound
-returns-then-self-clause-sound g c = stop_sound g.K.Keep.told c.args.self.now c.args.s c.requires.sound c.requires.live c.stop.new.self c.stop.ensures.adds c.stop.ensures.current c.if-self.true
+returns-then-self-clause-sound g c = stop_sound g.K.Keep.as_keeper c.args.self.now c.args.s c.requires.sound c.requires.live c.stop.new.self c.stop.ensures.adds c.stop.ensures.current c.if-self.true
 
 pub returns-then-self-clause-answers : goal.returns-then-self-clause-answers
-returns-then-self-clause-answers g c = stop_answers g.K.Keep.told c.args.self.now c.args.s c.requires.sound c.requires.live c.stop.new.self c.stop.ensures.adds c.stop.ensures.current c.if-self.true c.args.ask c.stop.result c.stop.ensures.answer
+returns-then-self-clause-answers g c = stop_answers g.K.Keep.as_keeper c.args.self.now c.args.s c.requires.sound c.requires.live c.stop.new.self c.stop.ensures.adds c.stop.ensures.current c.if-self.true c.args.ask c.stop.result c.stop.ensures.answer
 
 pub leave-requires-clause-room : goal.leave-requires-clause-room
-leave-requires-clause-room g c = has_room g.K.Keep.told c.args.self.now c.args.s c.requires.sound c.requires.live
+leave-requires-clause-room g c = has_room g.K.Keep.as_keeper c.args.self.now c.args.s c.requires.sound c.requires.live
 
 pub leave-requires-clause-held : goal.leave-requires-clause-held
-leave-requires-clause-held g c = is_held g.K.Keep.told c.args.self.now c.args.s c.requires.sound c.requires.live c.if-self.false
+leave-requires-clause-held g c = is_held g.K.Keep.as_keeper c.args.self.now c.args.s c.requires.sound c.requires.live c.if-self.false
 
 pub returns-in-Leave-clause-sound : goal.returns-in-Leave-clause-sound
 returns-in-Leave-clause-sound g c =
-    let k = is_held g.K.Keep.told c.args.self.now c.args.s c.requires.sound c.requires.live c.if-self.false in
-    leave_sound g.K.Keep.told c.args.self.now c.args.s c.requires.sound c.requires.live c.leave.new.self c.if-self.false c.leave.ensures.adds (c.leave.ensures.reply k.database k.edition k.session k.holds k.has)
+    let k = is_held g.K.Keep.as_keeper c.args.self.now c.args.s c.requires.sound c.requires.live c.if-self.false in
+    leave_sound g.K.Keep.as_keeper c.args.self.now c.args.s c.requires.sound c.requires.live c.leave.new.self c.if-self.false c.leave.ensures.adds (c.leave.ensures.reply k.database k.edition k.session k.holds k.has)
 
 pub returns-in-Leave-clause-answers : goal.returns-in-Leave-clause-answers
 returns-in-Leave-clause-answers g c =
-    let k = is_held g.K.Keep.told c.args.self.now c.args.s c.requires.sound c.requires.live c.if-self.false in
-    subst (λ ask. AnswersAsk g.K.Keep.told (state_of g.K.Keep.told c.args.self.now) (state_of g.K.Keep.told c.leave.new.self) c.args.s ask c.leave.result) (sym c.in-Leave.is)
-    (leave_answers g.K.Keep.told c.args.self.now c.args.s c.requires.sound c.requires.live c.leave.new.self c.if-self.false c.leave.ensures.adds (c.leave.ensures.reply k.database k.edition k.session k.holds k.has) c.leave.result c.leave.ensures.answer)
+    let k = is_held g.K.Keep.as_keeper c.args.self.now c.args.s c.requires.sound c.requires.live c.if-self.false in
+    subst (λ ask. AnswersAsk g.K.Keep.as_keeper (state_of g.K.Keep.as_keeper c.args.self.now) (state_of g.K.Keep.as_keeper c.leave.new.self) c.args.s ask c.leave.result) (sym c.in-Leave.is)
+    (leave_answers g.K.Keep.as_keeper c.args.self.now c.args.s c.requires.sound c.requires.live c.leave.new.self c.if-self.false c.leave.ensures.adds (c.leave.ensures.reply k.database k.edition k.session k.holds k.has) c.leave.result c.leave.ensures.answer)

@@ -7,4 +7,4 @@ use Rattle.ebr_core.proofs.parts.Parts.leave.Goals as goal
 
 pub returns-clause-reply : goal.returns-clause-reply
 returns-clause-reply g c = λ db e x h has.
-    subst (λ now. IsReplied g.K.Keep.told c.args.self.now.current now Done (Reply db c.args.s Leave)) (sym c.add.ensures.current) (c.counted_leave.ensures db e x h has)
+    subst (λ now. IsReplied g.K.Keep.as_keeper c.args.self.now.current now Done (Reply db c.args.s Leave)) (sym c.add.ensures.current) (c.counted_leave.ensures db e x h has)

@@ -1,5 +1,5 @@
 use Rattle.std.proofs.Common.{◌≡◌, ◌-◌, map, reverse, drop, take, length, ap, sym, ◌∙◌, rules}
-use Rattle.ebr_places.specs.inside.Kept.{told, named, subprogram}
+use Rattle.ebr_places.specs.inside.Kept.{known_entry, named, subprogram}
 use Rattle.ebr_scope.proofs.Entries.{kept, still}
 use Rattle.ebr_places.proofs.Shown.{shown}
 use Rattle.ebr_places.proofs.names.Names.cut.Goals as goal
@@ -11,7 +11,7 @@ invariant_of-self c =
     let p : c.cut-2.new.self ≡ drop (length c.self.inside.places - c.args.depth) c.self.inside.places = search rules in
     let s : c.cut-3.new.self ≡ drop (length c.self.inside.subprograms - c.args.depth) c.self.inside.subprograms = search rules in
     record {
-      checks_know = k ∙ still told c.self.inside.entries.items c.args.depth c.self.invariant.checks_know t;
+      checks_know = k ∙ still known_entry c.self.inside.entries.items c.args.depth c.self.invariant.checks_know t;
       every = p ∙ still named c.self.inside.entries.items c.args.depth c.self.invariant.every t;
       callable = s ∙ still subprogram c.self.inside.entries.items c.args.depth c.self.invariant.callable t;
     }

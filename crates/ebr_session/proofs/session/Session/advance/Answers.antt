@@ -12,13 +12,13 @@ returns-in_err-clone_in-in-Some-clause-follows g c = subst Follows c.self.view_i
 
 pub ask_next-requires-clause-suits : goal.ask_next-requires-clause-suits
 ask_next-requires-clause-suits g c =
-    let old : Parts g.row.B.Denot = record { session = c.self.inside.id; script = c.self.inside.script; kept = c.self.inside.transcript; printed = c.self.inside.printed; quit = c.self.inside.quit; work = c.self.inside.work; book = c.self.inside.book } in
+    let old : Parts g.row.B.Denot = record { session = c.self.inside.id; script = c.self.inside.script; transcript = c.self.inside.transcript; printed = c.self.inside.printed; quit = c.self.inside.quit; work = c.self.inside.work; book = c.self.inside.book } in
     subst (λ (b : Option g.row.B.Denot). IfSome (last_of c.self.inside.transcript.exchanges) (λ e. Suits g.B.CodeBook.answers e.answer b)) (sym c.replace-book.ensures.value)
     (suits_last g.B.CodeBook.answers old (answered_here g.B.CodeBook.answers c.self.inside.phase c.self.inside.out old c.in-Working.is c.in-None.is c.self.invariant))
 
 pub returns-in_err-ask-in-None-clause-follows : goal.returns-in_err-ask-in-None-clause-follows
 returns-in_err-ask-in-None-clause-follows g c =
-    let old : Parts g.row.B.Denot = record { session = c.self.inside.id; script = c.self.inside.script; kept = c.self.inside.transcript; printed = c.self.inside.printed; quit = c.self.inside.quit; work = c.self.inside.work; book = c.self.inside.book } in
+    let old : Parts g.row.B.Denot = record { session = c.self.inside.id; script = c.self.inside.script; transcript = c.self.inside.transcript; printed = c.self.inside.printed; quit = c.self.inside.quit; work = c.self.inside.work; book = c.self.inside.book } in
     let e = c.in_err-ask-in-None.ensures in
     follows g.B.CodeBook.answers phase.Failed c.self.inside.out _
     (failed_moved g.B.CodeBook.answers old (answered_here g.B.CodeBook.answers c.self.inside.phase c.self.inside.out old c.in-Working.is c.in-None.is c.self.invariant)
@@ -26,10 +26,10 @@ returns-in_err-ask-in-None-clause-follows g c =
 
 pub invariant_of-self-in-None : goal.invariant_of-self-in-None
 invariant_of-self-in-None g c =
-    let old : Parts g.row.B.Denot = record { session = c.self.inside.id; script = c.self.inside.script; kept = c.self.inside.transcript; printed = c.self.inside.printed; quit = c.self.inside.quit; work = c.self.inside.work; book = c.self.inside.book } in
+    let old : Parts g.row.B.Denot = record { session = c.self.inside.id; script = c.self.inside.script; transcript = c.self.inside.transcript; printed = c.self.inside.printed; quit = c.self.inside.quit; work = c.self.inside.work; book = c.self.inside.book } in
     let h = answered_here g.B.CodeBook.answers c.self.inside.phase c.self.inside.out old c.in-Working.is c.in-None.is c.self.invariant in
     let e = c.in_ok-ask-in-None.ensures in
-    let new : Parts g.row.B.Denot = record { session = c.self.inside.id; script = c.ask_next.new.script; kept = c.ask_next.new.transcript; printed = c.ask_next.new.printed; quit = c.self.inside.quit; work = c.ask_next.new.work; book = c.replace-book.new.dest } in
+    let new : Parts g.row.B.Denot = record { session = c.self.inside.id; script = c.ask_next.new.script; transcript = c.ask_next.new.transcript; printed = c.ask_next.new.printed; quit = c.self.inside.quit; work = c.ask_next.new.work; book = c.replace-book.new.dest } in
     subst (λ o. Holds g.B.CodeBook.answers phase.Working o new) (sym (c.put.ensures ∙ ap Some (sym e.copy)))
     (waits_now g.B.CodeBook.answers old h c.ask_next.new.script c.ask_next.new.transcript c.ask_next.new.printed c.ask_next.new.work c.replace-book.new.dest c.in_ok-ask-in-None.ask e.script e.same e.room e.grown e.first e.goes)
 
@@ -38,10 +38,10 @@ returns-in_ok-clone_in-in-Some-clause-follows g c = subst Follows c.self.view_is
 
 pub returns-in_ok-ask-in-None-clause-advances : goal.returns-in_ok-ask-in-None-clause-advances
 returns-in_ok-ask-in-None-clause-advances g c =
-    let old : Parts g.row.B.Denot = record { session = c.self.inside.id; script = c.self.inside.script; kept = c.self.inside.transcript; printed = c.self.inside.printed; quit = c.self.inside.quit; work = c.self.inside.work; book = c.self.inside.book } in
+    let old : Parts g.row.B.Denot = record { session = c.self.inside.id; script = c.self.inside.script; transcript = c.self.inside.transcript; printed = c.self.inside.printed; quit = c.self.inside.quit; work = c.self.inside.work; book = c.self.inside.book } in
     let h = answered_here g.B.CodeBook.answers c.self.inside.phase c.self.inside.out old c.in-Working.is c.in-None.is c.self.invariant in
     let e = c.in_ok-ask-in-None.ensures in
-    let new : Parts g.row.B.Denot = record { session = c.self.inside.id; script = c.ask_next.new.script; kept = c.ask_next.new.transcript; printed = c.ask_next.new.printed; quit = c.self.inside.quit; work = c.ask_next.new.work; book = c.replace-book.new.dest } in
+    let new : Parts g.row.B.Denot = record { session = c.self.inside.id; script = c.ask_next.new.script; transcript = c.ask_next.new.transcript; printed = c.ask_next.new.printed; quit = c.self.inside.quit; work = c.ask_next.new.work; book = c.replace-book.new.dest } in
     subst (λ (p : Progress). MakesAsk c.in_ok-ask-in-None.ask p (progress phase.Working c.put.new.place new)) c.self.view_is
     (subst (λ d. MakesAsk c.in_ok-ask-in-None.ask (progress d c.self.inside.out old) (progress phase.Working c.put.new.place new)) (sym c.in-Working.is)
     (subst (λ o. MakesAsk c.in_ok-ask-in-None.ask (progress phase.Working o old) (progress phase.Working c.put.new.place new)) (sym c.in-None.is)
