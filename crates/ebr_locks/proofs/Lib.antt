@@ -1,3 +1,4 @@
 pub mod Moves
 pub mod Released
 pub mod Taken
+pub mod IndexLemmas

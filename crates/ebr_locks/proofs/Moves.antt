@@ -20,6 +20,20 @@ module _ (items was : List Lock) (kept at : ℕ) (l : Lock) (is : l ≡ get_or i
       let value : get_or was at l ≡ l = cc in
       rw one (there ∙ ap (λ m. m ∷ drop (suc at) was) value)
 
+  -- what is to come is as it was
+  pub tail : drop (at + 1) items ≡ drop (at + 1) was
+  tail =
+      let here : drop at items ≡ get_or items at l ∷ drop (suc at) items = drop-cons items at l within in
+      let there : drop at was ≡ get_or was at l ∷ drop (suc at) was = drop-cons was at l fits in
+      let both : get_or items at l ∷ drop (suc at) items ≡ get_or was at l ∷ drop (suc at) was = sym here ∙ same ∙ there in
+      let rest : drop (suc at) items ≡ drop (suc at) was = cc in
+      let one : at + 1 ≡ suc at = add-one at in
+      rw one rest
+
+  -- one more lock stays
+  pub grown : take (kept + 1) (set items kept l) ≡ take kept items ++ l ∷ []
+  grown = let one : kept + 1 ≡ suc kept = add-one kept in ap (λ n. take n (set items kept l)) one ∙ take-suc-set items kept l (omega arith)
+
   pub behind : drop (at + 1) (set items kept l) ≡ drop (at + 1) was
   behind =
       let here : drop at items ≡ get_or items at l ∷ drop (suc at) items = drop-cons items at l within in

@@ -1,5 +1,5 @@
 -- What a release does to the list of locks.
-use Rattle.std.proofs.Common.{◌≡◌, ℕ, zero, suc, Bool, true, false, not, cond, ◌-◌, ◌<◌, ◌≤◌, List, [], ◌∷◌, length, take, refl, ap, arith}
+use Rattle.std.proofs.Common.{◌≡◌, ℕ, zero, suc, Bool, true, false, not, cond, ◌-◌, ◌<◌, ◌≤◌, List, [], ◌∷◌, ◌++◌, length, take, sym, refl, ap, arith}
 use Rattle.std.proofs.lemmas.Bool.{or_parts, or_from}
 use Rattle.ebr_base.specs.declared.row.RowId.{RowId}
 use Rattle.ebr_base.specs.declared.row.TxId.{TxId}
@@ -39,7 +39,7 @@ module _ (tx : TxId) where
       by true is rest same = rw is rest
       by false is rest same = rw is (ap (λ ls. l ∷ ls) same)
 
-  free-released : (row : RowId) (mark : ℕ) (taken : List Lock) → is_locked row taken ≡ false → is_locked row (released tx mark taken) ≡ false
+  pub free-released : (row : RowId) (mark : ℕ) (taken : List Lock) → is_locked row taken ≡ false → is_locked row (released tx mark taken) ≡ false
   free-released row mark [] e = refl
   free-released row zero (l ∷ taken) e =
       let p = or_parts (same_row l.0 row) (is_locked row taken) e in
@@ -105,3 +105,37 @@ released-kept tx (suc mark) l taken e some =
 
 pub released-freed : (tx : TxId) (l : Lock) (taken : List Lock) → is_of tx l ≡ true → released tx 0 (l ∷ taken) ≡ released tx 0 taken
 released-freed tx l taken e = rw e refl
+
+-- where the first locks have as many as are kept, the others are freed
+pub released-split : (tx : TxId) (mark : ℕ) (xs ys : List Lock) → length (locks_of tx xs) ≡ mark → released tx mark (xs ++ ys) ≡ xs ++ released tx 0 ys
+released-split tx mark [] ys e = ap (λ n. released tx n ys) (sym e)
+released-split tx zero (x ∷ xs) ys e = by (is_of tx x) refl e (released-split tx zero xs ys)
+  where
+    by : (b : Bool) → is_of tx x ≡ b → length (cond b (x ∷ locks_of tx xs) (locks_of tx xs)) ≡ zero → (length (locks_of tx xs) ≡ zero → released tx zero (xs ++ ys) ≡ xs ++ released tx 0 ys)
+        → cond (is_of tx x) (released tx zero (xs ++ ys)) (x ∷ released tx zero (xs ++ ys)) ≡ x ∷ xs ++ released tx 0 ys
+    by true is none rest = absurd (omega (arith, none))
+    by false is none rest = rw is (ap (λ ls. x ∷ ls) (rest none))
+released-split tx (suc mark) (x ∷ xs) ys e = by (is_of tx x) refl e (released-split tx mark xs ys) (released-split tx (suc mark) xs ys)
+  where
+    by : (b : Bool) → is_of tx x ≡ b → length (cond b (x ∷ locks_of tx xs) (locks_of tx xs)) ≡ suc mark → (length (locks_of tx xs) ≡ mark → released tx mark (xs ++ ys) ≡ xs ++ released tx 0 ys)
+        → (length (locks_of tx xs) ≡ suc mark → released tx (suc mark) (xs ++ ys) ≡ xs ++ released tx 0 ys)
+        → cond (is_of tx x) (x ∷ released tx mark (xs ++ ys)) (x ∷ released tx (suc mark) (xs ++ ys)) ≡ x ∷ xs ++ released tx 0 ys
+    by true is some rest same = rw is (ap (λ ls. x ∷ ls) (rest (omega (arith, some))))
+    by false is some rest same = rw is (ap (λ ls. x ∷ ls) (same some))
+
+-- where there are no more than are kept, all stay
+pub released-all : (tx : TxId) (mark : ℕ) (xs : List Lock) → length (locks_of tx xs) ≤ mark → released tx mark xs ≡ xs
+released-all tx mark [] le = refl
+released-all tx zero (x ∷ xs) le = by (is_of tx x) refl le (released-all tx zero xs)
+  where
+    by : (b : Bool) → is_of tx x ≡ b → length (cond b (x ∷ locks_of tx xs) (locks_of tx xs)) ≤ zero → (length (locks_of tx xs) ≤ zero → released tx zero xs ≡ xs)
+        → cond (is_of tx x) (released tx zero xs) (x ∷ released tx zero xs) ≡ x ∷ xs
+    by true is none rest = absurd (omega (arith, none))
+    by false is none rest = rw is (ap (λ ls. x ∷ ls) (rest none))
+released-all tx (suc mark) (x ∷ xs) le = by (is_of tx x) refl le (released-all tx mark xs) (released-all tx (suc mark) xs)
+  where
+    by : (b : Bool) → is_of tx x ≡ b → length (cond b (x ∷ locks_of tx xs) (locks_of tx xs)) ≤ suc mark → (length (locks_of tx xs) ≤ mark → released tx mark xs ≡ xs)
+        → (length (locks_of tx xs) ≤ suc mark → released tx (suc mark) xs ≡ xs)
+        → cond (is_of tx x) (x ∷ released tx mark xs) (x ∷ released tx (suc mark) xs) ≡ x ∷ xs
+    by true is some rest same = rw is (ap (λ ls. x ∷ ls) (rest (omega (arith, some))))
+    by false is some rest same = rw is (ap (λ ls. x ∷ ls) (same some))

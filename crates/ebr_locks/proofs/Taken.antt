@@ -51,7 +51,7 @@ holder-push row tx (l ∷ taken) e =
     let here : same_row l.0 row ≡ false = p.0 in
     rw here (holder-push row tx taken p.1)
 
-once-push : (row : RowId) (tx : TxId) (taken : List Lock) → is_locked row taken ≡ false → IsLockedOnce taken → IsLockedOnce (taken ++ (row, tx) ∷ [])
+pub once-push : (row : RowId) (tx : TxId) (taken : List Lock) → is_locked row taken ≡ false → IsLockedOnce taken → IsLockedOnce (taken ++ (row, tx) ∷ [])
 once-push row tx [] e once = (refl, tt)
 once-push row tx (l ∷ taken) e once =
     let p = or_parts (same_row l.0 row) (is_locked row taken) e in (

@@ -12,16 +12,15 @@ use Rattle.ebr_locks.specs.declared.locks.Held.{Held}
 abbrev pub Lock : Type 0
 Lock = RowId × TxId
 
--- The locks in the order in which they were taken, and the room that reserves made.
+-- The room that a reserve made: a place for one lock, and for so many locks at all.
+pub record Room : Type 0 where
+  pub place : Option Lock
+  pub free : ℕ
+
+-- the locks in the order in which they were taken, and the room for one more
 pub record LockTable : Type 0 where
   pub taken : List Lock
-  pub room : ℕ
-
--- A place is there for a lock of this row by this transaction. A reserve gives it to its own row and transaction, and a
--- take that adds the lock uses it up. That it lasts over anything else isn't said: a later reserve, take or release may
--- leave less room than there was. This is the one word that speaks of room.
-unfoldable pub HasRoom : LockTable → RowId → TxId → Type 0
-HasRoom s row tx = length s.taken < s.room
+  pub room : Room
 
 abbrev pub same_row : RowId → RowId → Bool
 same_row a b = a.table.0 == b.table.0 && a.row.0 == b.row.0
@@ -32,6 +31,12 @@ same_tx a b = a.session.0 == b.session.0 && a.depth == b.depth
 -- the transaction that holds a row
 abbrev pub holder_of : RowId → List Lock → Option TxId
 holder_of row taken = option_map (λ l. l.1) (find (λ l. same_row l.0 row) taken)
+
+-- Where nobody holds the row, a place is there for a lock of this row by this transaction. A reserve gives it to its own row
+-- and transaction, and a take that adds the lock uses it up. That it lasts over anything else isn't said: a later reserve,
+-- take or release may leave less room than there was. This is the one word that speaks of room.
+unfoldable pub HasRoom : LockTable → RowId → TxId → Type 0
+HasRoom s row tx = holder_of row s.taken ≡ None → (s.room.place ≡ Some (row, tx)) × (0 < s.room.free) × (length s.taken < MAX_COUNT)
 
 abbrev pub is_of : TxId → Lock → Bool
 is_of tx l = same_tx l.1 tx
