@@ -1,5 +1,5 @@
 -- Keys of rows, and of the rows that changes name.
-use Rattle.std.proofs.Common.{◌≡◌, ◌≢◌, ℕ, Bool, true, false, cond, ◌||◌, List, [], ◌∷◌, ◌++◌, Option, Some, None, option_map, get_or, refl, ap, ◌∙◌, subst, eqb}
+use Rattle.std.proofs.Common.{◌≡◌, ◌≢◌, ℕ, Bool, true, false, cond, ◌&&◌, ◌||◌, List, [], ◌∷◌, ◌++◌, Option, Some, None, option_map, get_or, refl, ap, ◌∙◌, subst, eqb}
 use Rattle.std.specs.Prelude.{All, filter, unwrap_or, find}
 use Rattle.std.specs.List.{last_or, AllByRecursion}
 use Rattle.std.proofs.lemmas.Option.{same_Some}
@@ -12,8 +12,7 @@ use Rattle.ebr_base.specs.declared.row.RowId.{RowId}
 use Rattle.ebr_base.specs.declared.row.Change.{Change}
 use Rattle.ebr_base.specs.declared.value.Value.{Value}
 use Rattle.ebr_versions.specs.declared.table.Table.{Table}
-use Rattle.ebr_versions.specs.Data.{is_of, is_in, is_row, is_table, last_change, changes_in, values_by}
-use Rattle.ebr_versions.specs.inside.Keys.{HaveOtherKeys, HasOtherKey}
+use Rattle.ebr_versions.specs.Data.{is_of, is_row, is_table, last_change, changes_in, values_by}
 use Rattle.ebr_versions.specs.Keys.{key_at, key_of, row_in, is_added, key_places, KeysDiffer}
 use Rattle.ebr_versions.specs.Store.{OfAdded, IsSound}
 
@@ -25,8 +24,8 @@ is_row-true a b e =
     let r : a.row.0 ≡ b.row.0 = eqb-true a.row.0 b.row.0 parts.1 in
     ap (λ (n : ℕ). let x : RowId = record { table = record { 0 = n }; row = a.row } in x) t ∙ ap (λ (n : ℕ). let x : RowId = record { table = b.table; row = record { 0 = n } } in x) r
 
-is_table-same : (t : TableId) → is_table t t ≡ true
-is_table-same t = eq-eqb t.0 t.0 refl
+pub is_row-itself : (row : RowId) → is_row row row ≡ true
+is_row-itself row = ap (λ b. b && eqb row.row.0 row.row.0) (eq-eqb row.table.0 row.table.0 refl) ∙ eq-eqb row.row.0 row.row.0 refl
 
 -- each of the changes has the property, so the last one of a row has it, and is of the row
 module _ (P : Change → Type 0) (row : RowId) where
@@ -65,16 +64,6 @@ pub has_change : (places : List ℕ) (key : List Value) (o : Option Change) → 
 has_change places key None e = cc
 has_change places key (Some c) e = (c, refl)
 
--- where no row to which a change gives the key has it, no row has it
-pub no_row_has : (commits : List (List Change)) (places : List ℕ) (t : TableId) (key : List Value) → All (HaveOtherKeys commits places t key) commits → (r : RowNo) → key_at commits places (row_in t r) ≢ Some key
-no_row_has commits places t key all r e =
-    let last = has_change places key (last_change (row_in t r) (changes_in commits)) e in
-    let facts = last_change-of (HasOtherKey commits places t key) (row_in t r) (changes_in commits) last.0 (all_changes (HasOtherKey commits places t key) commits all) last.1 in
-    let same : last.0.row ≡ row_in t r = is_row-true last.0.row (row_in t r) facts.1 in
-    let inside : is_in t last.0 ≡ true = ap (λ (row : RowId). is_table row.table t) same ∙ is_table-same t in
-    let gives : option_map (key_of places) last.0.values ≡ Some key = subst (λ (o : Option Change). option_map (key_of places) (values_by o) ≡ Some key) last.1 e in
-    facts.0 inside gives (ap (key_at commits places) same ∙ e)
-
 -- a table that has a row with a key was added
 added_from_key : (commits : List (List Change)) (tables : List Table) (places : List ℕ) (t : TableId) (r : RowNo) (key : List Value) → All (OfAdded tables) commits → key_at commits places (row_in t r) ≡ Some key → is_added tables t ≡ true
 added_from_key commits tables places t r key all e =
@@ -110,7 +99,7 @@ pub key_places-append : (t : TableId) (xs ys : List Table) → is_added xs t ≡
 key_places-append t xs ys e = ap (λ (o : Option Table). unwrap_or (option_map (λ (x : Table). x.key) o) []) (find-append t xs ys e)
 
 -- keys differ with another table too, since no row is in that one
-KeysDiffer-append : (commits : List (List Change)) (xs ys : List Table) → All (OfAdded xs) commits → KeysDiffer commits xs → KeysDiffer commits (xs ++ ys)
+pub KeysDiffer-append : (commits : List (List Change)) (xs ys : List Table) → All (OfAdded xs) commits → KeysDiffer commits xs → KeysDiffer commits (xs ++ ys)
 KeysDiffer-append commits xs ys all keys t a b key some at_a at_b =
     let old = added_from_key commits xs (key_places (xs ++ ys) t) t a key all at_a in
     let same = key_places-append t xs ys old in

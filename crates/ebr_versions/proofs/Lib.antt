@@ -1,4 +1,12 @@
 pub mod DataLemmas
+pub mod LawLemmas
 pub mod NumberLemmas
 pub mod KeyLemmas
-pub mod LawLemmas
+pub mod Placing
+pub mod LastChanges
+pub mod Numbers
+pub mod Changed
+pub mod Indexing
+pub mod Givers
+pub mod TableLemmas
+pub mod PrintLemmas

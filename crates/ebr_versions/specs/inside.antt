@@ -1,1 +1,5 @@
 pub mod Keys
+pub mod Print
+pub mod Index
+pub mod Judged
+pub mod Tables
