@@ -35,8 +35,8 @@ not_full : (full : Bool) → limit_refusal full ≡ None → full ≡ false
 not_full true e = cc
 not_full false e = refl
 
-below : (n : ℕ) → nat_le 100000 n ≡ false → n < 100000
-below n e = ⊎_elim (λ (h : (nat_le 100000 n ≡ true) × (100000 ≤ n)). absurd (both_ways (nat_le 100000 n) e h.0)) (λ (h : (nat_le 100000 n ≡ false) × (n < 100000)). h.1) (leb_tells 100000 n)
+below : (n : ℕ) → nat_le 200000 n ≡ false → n < 200000
+below n e = ⊎_elim (λ (h : (nat_le 200000 n ≡ true) × (200000 ≤ n)). absurd (both_ways (nat_le 200000 n) e h.0)) (λ (h : (nat_le 200000 n ≡ false) × (n < 200000)). h.1) (leb_tells 200000 n)
 
 at_most : (n : ℕ) → nat_lt max_record n ≡ false → n ≤ max_record
 at_most n e = ⊎_elim (λ (h : max_record < n). absurd (both_ways (nat_lt max_record n) e (lt-ltb max_record n h))) (λ (h : n ≤ max_record). h) (cases_lt max_record n)

@@ -1,4 +1,6 @@
 pub mod LiveLemmas
+pub mod KeyTests
+pub mod Counting
 pub mod SameValues
 pub mod OtherRows
 pub mod NextRows
@@ -9,3 +11,4 @@ pub mod MayChange
 pub mod Allowed
 pub mod Stays
 pub mod Answered
+pub mod MarkLemmas

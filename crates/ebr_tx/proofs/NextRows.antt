@@ -1,17 +1,13 @@
 -- The rows of a table, from one to the next.
-use Rattle.std.proofs.Common.{◌≡◌, ℕ, ◌+◌, ◌<◌, ◌≤◌, ◌⊎◌, inl, inr, ⊎_elim, Bool, true, false, cond, ◌&&◌, List, [], ◌∷◌, Option, Some, None, refl, sym, ap, ◌∙◌, arith, min, get_or}
+use Rattle.std.proofs.Common.{◌≡◌, ℕ, ◌+◌, ◌<◌, ◌≤◌, ◌⊎◌, inl, inr, ⊎_elim, Bool, true, false, cond, ◌&&◌, List, [], ◌∷◌, Option, Some, None, refl, sym, ap, ◌∙◌, arith, min}
 use Rattle.std.specs.Prelude.{filter, option_map, nat_lt}
-use Rattle.std.specs.List.{AllByRecursion, list_any}
-use Rattle.std.proofs.lemmas.List.Folds.{list_any_none}
+use Rattle.std.specs.List.{AllByRecursion}
 use Rattle.std.proofs.lemmas.Bool.{lt-ltb, ltb-true, cases_lt}
 use Rattle.std.proofs.lemmas.Option.{same_Some}
 use Rattle.std.proofs.lemmas.List.Elements.{recursion_from_All, All-weaker}
-use Rattle.ebr_base.specs.declared.numbers.TableId.{TableId}
 use Rattle.ebr_base.specs.declared.numbers.RowNo.{RowNo}
-use Rattle.ebr_base.specs.declared.row.Change.{Change}
-use Rattle.ebr_versions.specs.Data.{lesser, least, row_numbers, changes_in, row_no, next_row}
-use Rattle.ebr_versions.proofs.NumberLemmas.{least_above, least_none, next_row_is_next, no_row_is_after}
-use Rattle.ebr_tx.specs.inside.Keys.{FailUpTo}
+use Rattle.ebr_versions.specs.Data.{lesser, least, row_no}
+use Rattle.ebr_versions.proofs.NumberLemmas.{least_above, least_none}
 
 pub some_row : (o : Option ℕ) (r : RowNo) → Some r ≡ option_map row_no o → o ≡ Some r.0
 some_row None r e = cc
@@ -143,23 +139,3 @@ next_fails after m q ns e h =
             both true false = refl
             both false true = refl
             both false false = refl
-
--- where the first number fails, all do up to it
-pub fail_at_first : (p : ℕ → Bool) (ns : List ℕ) → p 0 ≡ false → FailUpTo p ns 0
-fail_at_first p ns fails k d h low = let same : 0 ≡ get_or ns k d = omega arith in ap p (sym same) ∙ fails
-
--- a row that fails is passed over
-pub fail_more : (p : ℕ → Bool) (commits : List (List Change)) (t : TableId) (last next : RowNo) → Some next ≡ next_row commits t last → p next.0 ≡ false
-    → FailUpTo p (row_numbers t (changes_in commits)) last.0 → FailUpTo p (row_numbers t (changes_in commits)) next.0
-fail_more p commits t last next e fails before k d h low =
-    let is = next_row_is_next commits t last next (sym e) in
-    let n : ℕ = get_or (row_numbers t (changes_in commits)) k d in
-    ⊎_elim
-    (λ (i : last.0 < n). let high : next.0 ≤ n = is.2 k d h i in let same : next.0 ≡ n = omega arith in ap p (sym same) ∙ fails)
-    (λ (i : n ≤ last.0). before k d h i) (cases_lt last.0 n)
-
--- where no row is left, none passes
-pub fail_all : (p : ℕ → Bool) (commits : List (List Change)) (t : TableId) (last : RowNo) → None ≡ next_row commits t last
-    → FailUpTo p (row_numbers t (changes_in commits)) last.0 → list_any p (row_numbers t (changes_in commits)) ≡ false
-fail_all p commits t last e before =
-    list_any_none p (row_numbers t (changes_in commits)) (λ k d h. before k d h (no_row_is_after commits t last (sym e) k d h))

@@ -61,7 +61,7 @@ pub last_among : (p : ℕ → Bool) (table : TableId) (n : ℕ) (changes : List 
 last_among p table n changes c passes e = among_numbers p table n changes passes (changes_row_is (row_at table n) changes ∙ ap is_some e)
 
 -- a row that has values is one that some commit changed
-valued : (places : List ℕ) (key : List Value) (o : Option Change) → has_key places key (values_by o) ≡ true → (c : Change) × (o ≡ Some c)
+pub valued : (places : List ℕ) (key : List Value) (o : Option Change) → has_key places key (values_by o) ≡ true → (c : Change) × (o ≡ Some c)
 valued places key None e = absurd (true≢false (sym e))
 valued places key (Some c) e = (c, refl)
 
@@ -292,16 +292,22 @@ pub if_not_own : (commits : List (List Change)) (own : List Change) (table : Tab
 if_not_own commits own table this places key base a r is fails rest =
     rest ∙ ap (λ b. b || committed_has commits own table this places key base) (sym fails ∙ is) ∙ sym (another_is commits own table this places key base)
 
--- a row that had the key after the first n commits is among the table's rows
-pub at_among : (commits : List (List Change)) (n : ℕ) (own : List Change) (table : TableId) (this : Option RowNo) (places : List ℕ) (key : List Value) (r : RowNo)
-    → has_untouched own table this places key (At commits n) r.0 ≡ true → committed_has commits own table this places key (At commits n) ≡ true
-at_among commits n own table this places key r e =
-    let p = has_untouched own table this places key (At commits n) in
-    let outer = and_parts (is_another this r.0) (not (changes_row (row_at table r.0) own) && has_key places key (At commits n (row_at table r.0))) e in
-    let inner = and_parts (not (changes_row (row_at table r.0) own)) (has_key places key (At commits n (row_at table r.0))) outer.1 in
-    let early = committed_among (take n commits) places key p table r.0 e inner.1 in
-    ap (λ cs. list_any p (row_numbers table (changes_in cs))) (sym (take-append-drop n commits))
-    ∙ ap (λ cs. list_any p (row_numbers table cs)) (flat_map-append (λ (cs : List Change). cs) (take n commits) (drop n commits))
-    ∙ ap (list_any p) (row_numbers-append table (changes_in (take n commits)) (changes_in (drop n commits)))
-    ∙ list_any-append p (row_numbers table (changes_in (take n commits))) (row_numbers table (changes_in (drop n commits)))
-    ∙ or_left (list_any p (row_numbers table (changes_in (take n commits)))) (list_any p (row_numbers table (changes_in (drop n commits)))) early
+-- rows that had the key after the first n commits, among the rows of all commits
+pub committed_then : (commits : List (List Change)) (n : ℕ) (own : List Change) (table : TableId) (this : Option RowNo) (places : List ℕ) (key : List Value)
+    → committed_has (take n commits) own table this places key (Latest (take n commits)) ≡ committed_has commits own table this places key (At commits n)
+committed_then commits n own table this places key = same_bool (committed_has (take n commits) own table this places key (Latest (take n commits))) (committed_has commits own table this places key (At commits n)) to from
+  where
+    to : list_any (has_untouched own table this places key (At commits n)) (row_numbers table (changes_in (take n commits))) ≡ true → committed_has commits own table this places key (At commits n) ≡ true
+    to early =
+        ap (λ cs. list_any (has_untouched own table this places key (At commits n)) (row_numbers table (changes_in cs))) (sym (take-append-drop n commits))
+        ∙ ap (λ cs. list_any (has_untouched own table this places key (At commits n)) (row_numbers table cs)) (flat_map-append (λ (cs : List Change). cs) (take n commits) (drop n commits))
+        ∙ ap (list_any (has_untouched own table this places key (At commits n))) (row_numbers-append table (changes_in (take n commits)) (changes_in (drop n commits)))
+        ∙ list_any-append (has_untouched own table this places key (At commits n)) (row_numbers table (changes_in (take n commits))) (row_numbers table (changes_in (drop n commits)))
+        ∙ or_left (list_any (has_untouched own table this places key (At commits n)) (row_numbers table (changes_in (take n commits)))) (list_any (has_untouched own table this places key (At commits n)) (row_numbers table (changes_in (drop n commits)))) early
+
+    from : committed_has commits own table this places key (At commits n) ≡ true → list_any (has_untouched own table this places key (At commits n)) (row_numbers table (changes_in (take n commits))) ≡ true
+    from e =
+        let one = any_one (has_untouched own table this places key (At commits n)) (row_numbers table (changes_in commits)) e in
+        let outer = and_parts (is_another this one.0) (not (changes_row (row_at table one.0) own) && has_key places key (At commits n (row_at table one.0))) one.1 in
+        let inner = and_parts (not (changes_row (row_at table one.0) own)) (has_key places key (At commits n (row_at table one.0))) outer.1 in
+        committed_among (take n commits) places key (has_untouched own table this places key (At commits n)) table one.0 one.1 inner.1

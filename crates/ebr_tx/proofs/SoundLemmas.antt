@@ -117,13 +117,13 @@ module _ (t : TxId) (f : Transaction → Transaction) (keeps : (x : Transaction)
         (subst (OfAdded tables) (sym cut) (All-take (λ (c : Change). is_added tables c.row.table ≡ true) n x.changes (sound.added t x found)))
         (shorter (f x).changes cut) (subst (λ cs. record_length cs ≤ max_record) (sym cut) (record-take n x.changes (sound.short t x found))) begun
       where
-        shorter : (cs : List Change) → cs ≡ take n x.changes → length cs ≤ 100000
+        shorter : (cs : List Change) → cs ≡ take n x.changes → length cs ≤ 200000
         shorter cs e = rw e (at_most n x.changes (sound.few t x found))
           where
-            at_most : (m : ℕ) (xs : List Change) → length xs ≤ 100000 → length (take m xs) ≤ 100000
+            at_most : (m : ℕ) (xs : List Change) → length xs ≤ 200000 → length (take m xs) ≤ 200000
             at_most zero xs h = omega arith
             at_most (suc m) [] h = omega arith
-            at_most (suc m) (c ∷ cs) h = let rest : length cs ≤ 100000 = omega arith in let less : length (take m cs) ≤ length cs = fewer m cs in omega arith
+            at_most (suc m) (c ∷ cs) h = let rest : length cs ≤ 200000 = omega arith in let less : length (take m cs) ≤ length cs = fewer m cs in omega arith
               where
                 fewer : (k : ℕ) (ys : List Change) → length (take k ys) ≤ length ys
                 fewer zero ys = omega arith

@@ -1,5 +1,5 @@
 -- What stays where one transaction is changed: the names, and of that one what the change keeps.
-use Rattle.std.proofs.Common.{◌≡◌, ℕ, zero, suc, ◌<◌, ◌≤◌, ⊎_elim, true, false, not, ◌==◌, List, [], ◌∷◌, ◌++◌, None, refl, sym, ap, subst, ◌∙◌, arith}
+use Rattle.std.proofs.Common.{◌≡◌, ℕ, zero, suc, ◌+◌, add-one, ◌<◌, ◌≤◌, ⊎_elim, true, false, not, ◌==◌, List, [], ◌∷◌, ◌++◌, None, refl, sym, ap, subst, ◌∙◌, arith}
 use Rattle.std.specs.Prelude.{All, filter, find, unwrap_or}
 use Rattle.std.specs.List.{list_any}
 use Rattle.std.proofs.lemmas.Bool.{and_from, or_left, or_right, eq-eqb, cases_lt}
@@ -39,6 +39,9 @@ first-sessions (suc n) s low high =
 
     last : suc n ≤ s.0 → suc n ≡ s.0
     last h = omega arith
+
+pub first-more : (n : ℕ) → first_transactions n ++ not_begun (named_at (record { 0 = n + 1 }) 0) ∷ [] ≡ first_transactions (n + 1)
+first-more n = let one : n + 1 ≡ suc n = add-one n in rw one refl
 
 pub first-begun : (n : ℕ) → All (λ (x : Transaction). x.begun ≡ None) (first_transactions n)
 first-begun zero = All-nil (λ (x : Transaction). x.begun ≡ None)

@@ -14,7 +14,7 @@ use Rattle.ebr_base.specs.declared.table.TableDef.{TableDef}
 use Rattle.ebr_base.specs.declared.value.Value.{Value}
 use Rattle.ebr_versions.specs.Data.{changes_in, changes_row, greatest_number_in}
 use Rattle.ebr_versions.specs.Keys.{key_of, key_places, is_added, KeysDiffer}
-use Rattle.ebr_versions.specs.Store.{Store, HasRoom, OfAdded}
+use Rattle.ebr_versions.specs.Store.{Store, Room, HasRoom, OfAdded}
 use Rattle.ebr_locks.specs.Locks.{Lock, after_take, holder_of, locks_of, released}
 use Rattle.ebr_tx.specs.declared.savepoints.Savepoint.{Savepoint}
 use Rattle.ebr_tx.specs.declared.savepoints.TxMark.{TxMark}
@@ -27,7 +27,7 @@ use Rattle.ebr_tx.specs.Limits.{is_full, limit_refusal, max_changes, max_record,
 -- What a `Transactions` holds: the data, and the room for a commit.
 pub record State : Type 0 where
   pub contents : Data
-  pub room : ℕ
+  pub room : Room
 
 -- the code by which something refuses, or else the value
 abbrev pub unless_refused : {T : Type 0} → Option Code → T → Result T Code

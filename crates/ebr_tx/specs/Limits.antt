@@ -1,4 +1,4 @@
--- How much a transaction may change (own): 100,000 changes, 67,108,864 bytes of its commit's record in the journal, and row
+-- How much a transaction may change (own): 200,000 changes, 134,217,728 bytes of its commit's record in the journal, and row
 -- numbers up to the greatest i64.
 use Rattle.std.specs.Prelude.{ℕ, ◌+◌, Bool, ◌||◌, nat_lt, nat_le, if◌then◌else◌, List, [], ◌∷◌, ◌++◌, length, sum_by, Option, Some, None}
 use Rattle.ebr_base.specs.declared.code.Code.{Code}
@@ -8,10 +8,10 @@ use Rattle.ebr_base.specs.declared.value.Value.{Value}
 use Rattle.ebr_base.specs.declared.value.Value.TheVariants.{Null, Num, Text, Bool as Boolean}
 
 abbrev pub max_changes : ℕ
-max_changes = 100000
+max_changes = 200000
 
 abbrev pub max_record : ℕ
-max_record = 67108864
+max_record = 134217728
 
 abbrev pub max_row : ℕ
 max_row = 9223372036854775807

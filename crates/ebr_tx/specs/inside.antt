@@ -1,2 +1,4 @@
 pub mod Keys
 pub mod Sound
+pub mod Filed
+pub mod Marked

@@ -1,18 +1,21 @@
 //! The test of keys.
 
-ghost use Rattle.std.specs.Prelude.{◌≡◌, ◌<◌, ◌++◌, length, IfOk, IfSome, Some};
+ghost use Rattle.std.specs.Prelude.{◌≡◌, ◌<◌, ◌++◌, length, IfOk, IfSome, IfNone, Some, All};
 ghost use Rattle.std.specs.List.{list_any};
 ghost use Rattle.std.specs.Option.{option_copied};
-ghost use Rattle.ebr_versions.specs.Data.{last_change, changes_in, row_numbers, values_by, next_row, Latest, At};
+ghost use Rattle.ebr_versions.specs.Data.{last_change, changes_in, row_numbers, values_by, Latest, At};
 ghost use Rattle.ebr_versions.specs.Keys.{key_of, key_places, value_at};
+ghost use Rattle.ebr_versions.specs.inside.Print.{key_number};
 ghost use Rattle.ebr_tx.specs.Data.{some_other};
 ghost use Rattle.ebr_tx.specs.Conflicts.{has_key, gives_key, gives_key_by, another_has, is_another};
 ghost use Rattle.ebr_tx.specs.Reads.{over, committed, seen_by, numbers_by};
-ghost use Rattle.ebr_tx.specs.inside.Keys.{own_has, committed_has, has_untouched};
+ghost use Rattle.ebr_tx.specs.inside.Keys.{own_has, gives_at_last, committed_has};
+ghost use Rattle.ebr_tx.specs.inside.Filed.{transactions_of, passes_at, FindsKey, FindsKeyBy, TakesFree, IsLastGiver, NoneGives};
 
 use crate::transaction::Live;
 use ebr_base::{Change, CloneIn, List, NoMemory, RowId, RowNo, TableId, TxId, Value};
-use ebr_versions::{Versions, changes_row, is_key_of, last_change};
+use ebr_changes::Changes;
+use ebr_versions::{Versions, is_key_of, key_print};
 use std::alloc::Global;
 
 /// The values at the places of a key.
@@ -63,25 +66,61 @@ fn gives_key(c: &Change, table: TableId, places: &[u16], key: &[Value]) -> bool
     c.row.table == table && has_key(c.values.as_ref(), places, key)
 }
 
-fn some_gives_key(changes: &[Change], table: TableId, places: &[u16], key: &[Value]) -> bool
+/// Whether the change at a place gives a row of the table the key.
+fn gives_key_at(own: &Changes, place: usize, table: TableId, places: &[u16], key: &[Value]) -> bool
     requires { length places.now ≡ length key.now }
-    ensures { result ≡ list_any (gives_key table places.now key.now) changes.now }
+    ensures { result ≡ passes_at (gives_key table places.now key.now) own.now.changes place }
 {
-    for c in changes {
-        if gives_key(c, table, places, key) {
-            return true;
-        }
+    match own.change(place) {
+        Some(c) => gives_key(c, table, places, key),
+        None => false,
     }
-    false
+}
+
+/// The place of the last change that gives a row of the table the key. It goes through those that are filed under the
+/// key's number, from the last one on.
+fn last_giver(
+    own: &Changes,
+    table: TableId,
+    places: &[u16],
+    key: &[Value],
+    print: u64,
+) -> Option<usize>
+    requires as_many { length places.now ≡ length key.now }
+    requires print { print ≡ key_number key.now }
+    requires filed { FindsKey table places.now key.now own.now.changes own.now.entries }
+    ensures some { IfSome result (IsLastGiver table places.now key.now own.now.changes) }
+    ensures none { IfNone result (NoneGives table places.now key.now own.now.changes) }
+{
+    let mut end = own.len();
+    while let Some(place) = own.last_filed(table, print, end) {
+        if gives_key_at(own, place, table, places, key) {
+            return Some(place);
+        }
+        end = place;
+    }
+    None
+}
+
+/// Whether one of the changes gives a row of the table the key.
+fn some_gives_key(own: &Changes, table: TableId, places: &[u16], key: &[Value], print: u64) -> bool
+    requires as_many { length places.now ≡ length key.now }
+    requires print { print ≡ key_number key.now }
+    requires filed { FindsKey table places.now key.now own.now.changes own.now.entries }
+    ensures { result ≡ list_any (gives_key table places.now key.now) own.now.changes }
+{
+    last_giver(own, table, places, key, print).is_some()
 }
 
 /// Whether a change of another transaction gives a row of the table the key.
 pub fn is_in_use(live: &[Live], t: TxId, table: TableId, places: &[u16], key: &[Value]) -> bool
-    requires { length places.now ≡ length key.now }
-    ensures { result ≡ some_other t (gives_key_by table places.now key.now) live.now }
+    requires as_many { length places.now ≡ length key.now }
+    requires filed { All (FindsKeyBy table places.now key.now) live.now }
+    ensures { result ≡ some_other t (gives_key_by table places.now key.now) (transactions_of live.now) }
 {
+    let print = key_print(key);
     for x in live {
-        if x.id() != t && some_gives_key(x.changes(), table, places, key) {
+        if x.id() != t && some_gives_key(x.changes(), table, places, key, print) {
             return true;
         }
     }
@@ -98,43 +137,63 @@ fn is_another(this: Option<RowNo>, row: RowNo) -> bool
     }
 }
 
-/// Whether another row of the table than this one has the key by the last of these changes of it.
-pub fn own_has(
-    own: &[Change],
+/// Whether another row of the table than this one has the key by the last of these changes of it. The last change that
+/// gives the key decides: when it was made the key was free, and a row that had got it later would have a later change.
+fn own_has(
+    own: &Changes,
+    table: TableId,
+    this: Option<RowNo>,
+    places: &[u16],
+    key: &[Value],
+) -> bool
+    requires as_many { length places.now ≡ length key.now }
+    requires filed { FindsKey table places.now key.now own.now.changes own.now.entries }
+    requires free { TakesFree table places.now key.now own.now.changes }
+    ensures { result ≡ own_has own.now.changes table this places.now key.now }
+{
+    match last_giver(own, table, places, key, key_print(key)) {
+        Some(place) => has_now_at(own, place, table, this, places, key),
+        None => false,
+    }
+}
+
+/// Whether the change at a place is of another row than this one, and the last change of that row gives it the key.
+fn has_now_at(
+    own: &Changes,
+    place: usize,
     table: TableId,
     this: Option<RowNo>,
     places: &[u16],
     key: &[Value],
 ) -> bool
     requires { length places.now ≡ length key.now }
-    ensures { result ≡ own_has own.now table this places.now key.now }
+    ensures { result ≡ passes_at (gives_at_last own.now.changes table this places.now key.now) own.now.changes place }
 {
-    for c in own {
-        if is_another(this, c.row.row)
-            && gives_key(c, table, places, key)
-            && has_now(own, c.row, places, key)
-        {
-            return true;
+    match own.change(place) {
+        Some(c) => {
+            is_another(this, c.row.row)
+                && gives_key(c, table, places, key)
+                && has_now(own, c.row, places, key)
         }
+        None => false,
     }
-    false
 }
 
 /// Whether the last of these changes of a row gives it the key.
-fn has_now(own: &[Change], row: RowId, places: &[u16], key: &[Value]) -> bool
+fn has_now(own: &Changes, row: RowId, places: &[u16], key: &[Value]) -> bool
     requires { length places.now ≡ length key.now }
-    ensures { result ≡ has_key places.now key.now (values_by (last_change row own.now)) }
+    ensures { result ≡ has_key places.now key.now (values_by (last_change row own.now.changes)) }
 {
-    match last_change(own, row) {
+    match own.last(row) {
         Some(c) => has_key(c.values.as_ref(), places, key),
         None => false,
     }
 }
 
 /// Whether another row than this one, which these changes leave alone, has the key by its last committed values.
-pub fn last_has(
+fn last_has(
     versions: &Versions,
-    own: &[Change],
+    own: &Changes,
     table: TableId,
     this: Option<RowNo>,
     places: &[u16],
@@ -143,10 +202,10 @@ pub fn last_has(
     requires some { 0 < length key.now }
     requires as_many { length places.now ≡ length key.now }
     requires places { key_places versions.now.tables table ≡ places.now }
-    ensures { result ≡ committed_has versions.now.commits own.now table this places.now key.now (Latest versions.now.commits) }
+    ensures { result ≡ committed_has versions.now.commits own.now.changes table this places.now key.now (Latest versions.now.commits) }
 {
     match versions.find_key(table, key) {
-        Some(row) => is_another(this, row) && !changes_row(own, RowId { table, row }),
+        Some(row) => is_another(this, row) && !own.changes_row(RowId { table, row }),
         None => false,
     }
 }
@@ -155,7 +214,7 @@ pub fn last_has(
 fn had_at(
     versions: &Versions,
     n: u32,
-    own: &[Change],
+    own: &Changes,
     table: TableId,
     this: Option<RowNo>,
     places: &[u16],
@@ -164,78 +223,19 @@ fn had_at(
     requires some { 0 < length key.now }
     requires as_many { length places.now ≡ length key.now }
     requires places { key_places versions.now.tables table ≡ places.now }
-    ensures { result ≡ committed_has versions.now.commits own.now table this places.now key.now (At versions.now.commits n) }
+    ensures { result ≡ committed_has versions.now.commits own.now.changes table this places.now key.now (At versions.now.commits n) }
 {
-    // Where nothing was committed since, the last values are those.
-    if n == versions.count() {
-        return last_has(versions, own, table, this, places, key);
+    match versions.find_key_at(n, table, key) {
+        Some(row) => is_another(this, row) && !own.changes_row(RowId { table, row }),
+        None => false,
     }
-    had_before(versions, n, own, table, this, places, key)
-}
-
-/// The same where commits may have come since. It goes from one row of the table to the next.
-fn had_before(
-    versions: &Versions,
-    n: u32,
-    own: &[Change],
-    table: TableId,
-    this: Option<RowNo>,
-    places: &[u16],
-    key: &[Value],
-) -> bool
-    requires { length places.now ≡ length key.now }
-    ensures { result ≡ committed_has versions.now.commits own.now table this places.now key.now (At versions.now.commits n) }
-{
-    let first = RowId {
-        table,
-        row: RowNo(0),
-    };
-    if had_untouched(versions, n, own, this, first, places, key) {
-        return true;
-    }
-    let mut last = RowNo(0);
-    while let Some(next) = committed_row(versions, table, last) {
-        let row = RowId { table, row: next };
-        if had_untouched(versions, n, own, this, row, places, key) {
-            return true;
-        }
-        last = next;
-    }
-    false
-}
-
-/// The next row of a table that a commit has.
-fn committed_row(versions: &Versions, table: TableId, after: RowNo) -> Option<RowNo>
-    ensures next { result ≡ next_row versions.now.commits table after }
-    ensures above { IfSome result (λ n. after.0 < n.0) }
-{
-    match versions.next_row(table, after) {
-        Some(row) => Some(row),
-        None => None,
-    }
-}
-
-/// Whether a row is another one than this, these changes leave it alone, and it had the key after the first `n` commits.
-fn had_untouched(
-    versions: &Versions,
-    n: u32,
-    own: &[Change],
-    this: Option<RowNo>,
-    row: RowId,
-    places: &[u16],
-    key: &[Value],
-) -> bool
-    requires { length places.now ≡ length key.now }
-    ensures { result ≡ has_untouched own.now row.table this places.now key.now (At versions.now.commits n) row.row.0 }
-{
-    is_another(this, row.row) && !changes_row(own, row) && has_key(versions.at(n, row), places, key)
 }
 
 /// Whether another row than this one has the key: each row by the last of these changes of it, or else by its last
 /// committed values.
 pub fn is_taken(
     versions: &Versions,
-    own: &[Change],
+    own: &Changes,
     table: TableId,
     this: Option<RowNo>,
     places: &[u16],
@@ -244,7 +244,9 @@ pub fn is_taken(
     requires some { 0 < length key.now }
     requires as_many { length places.now ≡ length key.now }
     requires places { key_places versions.now.tables table ≡ places.now }
-    ensures { result ≡ another_has table this places.now key.now (λ r. over (last_change r own.now) (Latest versions.now.commits r)) (row_numbers table (changes_in versions.now.commits ++ own.now)) }
+    requires filed { FindsKey table places.now key.now own.now.changes own.now.entries }
+    requires free { TakesFree table places.now key.now own.now.changes }
+    ensures { result ≡ another_has table this places.now key.now (λ r. over (last_change r own.now.changes) (Latest versions.now.commits r)) (row_numbers table (changes_in versions.now.commits ++ own.now.changes)) }
 {
     own_has(own, table, this, places, key) || last_has(versions, own, table, this, places, key)
 }
@@ -261,7 +263,9 @@ pub fn is_seen(
     requires some { 0 < length key.now }
     requires as_many { length places.now ≡ length key.now }
     requires places { key_places versions.now.tables table ≡ places.now }
-    ensures { result ≡ another_has table this places.now key.now (seen_by versions.now.commits x.now) (numbers_by versions.now.commits x.now table) }
+    requires filed { FindsKey table places.now key.now x.now.transaction.changes x.now.entries }
+    requires free { TakesFree table places.now key.now x.now.transaction.changes }
+    ensures { result ≡ another_has table this places.now key.now (seen_by versions.now.commits x.now.transaction) (numbers_by versions.now.commits x.now.transaction table) }
 {
     own_has(x.changes(), table, this, places, key)
         || began_with(versions, x, table, this, places, key)
@@ -280,7 +284,7 @@ fn began_with(
     requires some { 0 < length key.now }
     requires as_many { length places.now ≡ length key.now }
     requires places { key_places versions.now.tables table ≡ places.now }
-    ensures { result ≡ committed_has versions.now.commits x.now.changes table this places.now key.now (committed versions.now.commits x.now.begun) }
+    ensures { result ≡ committed_has versions.now.commits x.now.transaction.changes table this places.now key.now (committed versions.now.commits x.now.transaction.begun) }
 {
     match x.begun() {
         Some(n) => had_at(versions, n, x.changes(), table, this, places, key),

@@ -1,28 +1,21 @@
 //! How much a transaction may change.
 
-ghost use Rattle.std.specs.Prelude.{◌≡◌, ◌+◌, min, sum_by, nat_lt, length};
-ghost use Rattle.ebr_tx.specs.Limits.{is_full, limit_refusal, max_record, value_length, values_length, change_length};
+ghost use Rattle.std.specs.Prelude.{◌≡◌, ◌≤◌, ◌+◌, min, sum_by, nat_lt, length};
+ghost use Rattle.ebr_tx.specs.Limits.{limit_refusal, max_record, value_length, values_length, change_length};
 
 use ebr_base::{Change, Code, Value};
 
 /// The most changes that a transaction makes.
-pub const MAX_CHANGES: usize = 100_000;
+pub const MAX_CHANGES: usize = 200_000;
 
 /// The most bytes of a commit's record.
-const MAX_RECORD: u64 = 67_108_864;
+const MAX_RECORD: u64 = 134_217_728;
 
 /// The greatest number of a row.
 pub const MAX_ROW: u64 = 9_223_372_036_854_775_807;
 
 /// Where a length isn't counted further, since it is too long already.
 const TOO_LONG: u64 = MAX_RECORD + 1;
-
-/// Whether one more change is too many for a transaction, or makes the record of its commit too long.
-pub fn is_full(changes: &[Change], c: &Change) -> bool
-    ensures { result ≡ is_full changes.now c.now }
-{
-    changes.len() >= MAX_CHANGES || is_too_long(changes, c)
-}
 
 /// EBR-0040 where a limit is reached.
 pub fn limit_refusal(full: bool) -> Option<Code>
@@ -31,15 +24,17 @@ pub fn limit_refusal(full: bool) -> Option<Code>
     if full { Some(Code::Ebr(40)) } else { None }
 }
 
-fn is_too_long(changes: &[Change], c: &Change) -> bool
-    ensures { result ≡ nat_lt max_record (5 + (sum_by change_length changes.now + change_length c.now)) }
+/// Whether one more change makes the record of a commit too long, whose changes have so many bytes by now.
+pub fn is_too_long(length: u64, c: &Change) -> bool
+    requires { length ≤ max_record }
+    ensures { result ≡ nat_lt max_record (5 + (length + change_length c.now)) }
 {
-    5 + changes_length(changes) + change_length(c) > MAX_RECORD
+    5 + length + change_length(c) > MAX_RECORD
 }
 
 /// The bytes of changes in a record, counted up to `TOO_LONG`.
-fn changes_length(changes: &[Change]) -> u64
-    ensures { result ≡ min 67108865 (sum_by change_length changes.now) }
+pub fn changes_length(changes: &[Change]) -> u64
+    ensures { result ≡ min 134217729 (sum_by change_length changes.now) }
 {
     let mut length = 0;
     for c in changes {
@@ -49,8 +44,8 @@ fn changes_length(changes: &[Change]) -> u64
 }
 
 /// The bytes of a change in a record, with its values counted up to `TOO_LONG`.
-fn change_length(c: &Change) -> u64
-    ensures { result ≡ 13 + min 67108867 (values_length c.now.values) }
+pub fn change_length(c: &Change) -> u64
+    ensures { result ≡ 13 + min 134217731 (values_length c.now.values) }
 {
     match &c.values {
         Some(values) => 15 + values_length(values.as_slice()),
@@ -60,7 +55,7 @@ fn change_length(c: &Change) -> u64
 
 /// The bytes of values in a record, counted up to `TOO_LONG`.
 fn values_length(values: &[Value]) -> u64
-    ensures { result ≡ min 67108865 (sum_by value_length values.now) }
+    ensures { result ≡ min 134217729 (sum_by value_length values.now) }
 {
     let mut length = 0;
     for value in values {
@@ -71,7 +66,7 @@ fn values_length(values: &[Value]) -> u64
 
 /// The bytes of a value in a record, counted up to `TOO_LONG`.
 fn value_length(value: &Value) -> u64
-    ensures { result ≡ min 67108865 (value_length value.now) }
+    ensures { result ≡ min 134217729 (value_length value.now) }
 {
     match value {
         Value::Null => 1,
@@ -82,7 +77,7 @@ fn value_length(value: &Value) -> u64
 }
 
 fn text_length(bytes: &[u8]) -> u64
-    ensures { result ≡ min 67108865 (5 + length bytes.now) }
+    ensures { result ≡ min 134217729 (5 + length bytes.now) }
 {
     ((bytes.len() as u64).min(TOO_LONG) + 5).min(TOO_LONG)
 }

@@ -14,7 +14,7 @@ ghost use Rattle.ebr_tx.specs.Calls.{unless_refused, first_data, after_begin, af
 ghost use Rattle.ebr_tx.specs.inside.Sound.{MayAdd};
 
 use crate::keys::{has_key, is_in_use, is_seen, is_taken, key_of};
-use crate::limits::{MAX_ROW, is_full, limit_refusal};
+use crate::limits::{MAX_ROW, limit_refusal};
 use crate::live;
 use crate::reads::{is_late, next_seen, seen};
 use crate::savepoints::{Savepoint, TxMark};
@@ -24,7 +24,7 @@ use ebr_base::{
     Value,
 };
 use ebr_locks::Locks;
-use ebr_versions::{Versions, changes_row};
+use ebr_versions::Versions;
 use std::alloc::Global;
 use std::marker::Model;
 
@@ -43,13 +43,13 @@ pub struct Transactions {
 
 impl Model for Transactions {
     ghost use Rattle.ebr_tx.specs.Calls.{State, data_of};
-    ghost use Rattle.ebr_tx.specs.inside.Sound.{IsSound};
+    ghost use Rattle.ebr_tx.specs.inside.Filed.{IsKept, transactions_of};
 
     ghost Value = { State };
 
-    ghost view = { λ t. record { contents = data_of t.versions t.live.items t.locks.taken; room = t.versions.room } };
+    ghost view = { λ t. record { contents = data_of t.versions (transactions_of t.live.items) t.locks.taken; room = t.versions.room } };
 
-    ghost invariant = { λ t. IsSound t.versions.commits t.versions.tables t.live.items };
+    ghost invariant = { λ t. IsKept t.versions.commits t.versions.tables t.live.items };
 }
 
 impl Transactions {
@@ -96,7 +96,8 @@ impl Transactions {
         live::own(self.live.as_slice(), t).begun().is_some()
     }
 
-    /// Begins the transaction at the commits that there are; it does nothing where it has begun. It takes no memory.
+    /// Begins the transaction at the commits that there are, where it hasn't begun. The room of a commit that was prepared and
+    /// not settled is given back, so that no statement steps over its changes. It takes no memory.
     pub fn begin(&mut self, t: TxId)
         requires { IsLive self.old.contents t }
         ensures contents { self.new.contents ≡ after_begin self.old.contents t }
@@ -104,6 +105,7 @@ impl Transactions {
         ensures begun { is_some (own self.new.contents t).begun ≡ true }
     {
         let count = self.versions.count();
+        self.versions.give_back();
         live::begin(&mut self.live, t, count);
     }
 
@@ -145,7 +147,7 @@ impl Transactions {
     ///
     /// Refused, in this order: ORA-00054 where another live transaction holds the row; ORA-08177 where a commit after the
     /// beginning changed it; where its key changes, by the test of keys ORA-00054, ORA-00001, ORA-08177; EBR-0040 where the
-    /// transaction has 100,000 changes or the record of its commit would be too long. An `Err` changes nothing.
+    /// transaction has 200,000 changes or the record of its commit would be too long. An `Err` changes nothing.
     pub fn change(&mut self, t: TxId, c: Change, def: &TableDef) -> Result<(), Stop>
         requires live { IsLive self.old.contents t }
         requires begun { is_some (own self.old.contents t).begun ≡ true }
@@ -192,8 +194,7 @@ impl Transactions {
         if let Some(code) = self.key_refusal(t, c, def)? {
             return Ok(Some(code));
         }
-        let changes = live::own(self.live.as_slice(), t).changes();
-        Ok(limit_refusal(is_full(changes, c)))
+        Ok(limit_refusal(live::own(self.live.as_slice(), t).is_full(c)))
     }
 
     /// The test of keys for a change.
@@ -288,6 +289,7 @@ impl Transactions {
 
     /// Whether a change of another live transaction gives a row of the table that key.
     fn key_is_in_use(&self, t: TxId, table: TableId, places: &[u16], key: &[Value]) -> bool
+        requires some { 0 < length key.now }
         requires as_many { length places.now ≡ length key.now }
         requires places { key_places self.now.contents.tables table ≡ places.now }
         ensures { result ≡ KeyInUse self.now.contents t table key.now }
@@ -342,7 +344,8 @@ impl Transactions {
         ensures stacks { names_of self.new.contents.live ≡ names_of self.old.contents.live }
         ensures begun { (own self.new.contents t).begun ≡ (own self.old.contents t).begun }
     {
-        live::push(&mut self.live, t, c)?;
+        let entry = self.versions.entry(&c);
+        live::push(&mut self.live, t, c, entry.print)?;
         Ok(())
     }
 
@@ -350,7 +353,7 @@ impl Transactions {
     /// transaction's changes. The transaction has begun.
     ///
     /// Refused, in this order: by the test of keys ORA-00054, ORA-00001, ORA-08177; EBR-0040 where that number would pass
-    /// 9,223,372,036,854,775,807, where the transaction has 100,000 changes, or where the record of its commit would be too
+    /// 9,223,372,036,854,775,807, where the transaction has 200,000 changes, or where the record of its commit would be too
     /// long. An `Err` changes nothing.
     pub fn insert(&mut self, t: TxId, values: List<Value>, def: &TableDef) -> Result<RowNo, Stop>
         requires live { IsLive self.old.contents t }
@@ -410,7 +413,7 @@ impl Transactions {
             row,
             values: Some(values),
         };
-        if is_full(live::own(self.live.as_slice(), t).changes(), &c) {
+        if live::own(self.live.as_slice(), t).is_full(&c) {
             return Err(Stop::Raised(Code::Ebr(40)));
         }
         Ok(c)
@@ -439,7 +442,10 @@ impl Transactions {
         if let Some(code) = self.test(t, row) {
             return Err(Stop::Raised(code));
         }
-        if changes_row(live::own(self.live.as_slice(), t).changes(), row) {
+        if live::own(self.live.as_slice(), t)
+            .changes()
+            .changes_row(row)
+        {
             return Ok(());
         }
         self.locks.reserve(row, t)?;
@@ -532,7 +538,8 @@ impl Transactions {
     {
         // With the count comes that no two rows of a table share a key.
         let _ = self.versions.count();
-        let changes = live::copies(self.alloc, live::own(self.live.as_slice(), t).changes())?;
+        let own = live::own(self.live.as_slice(), t).changes();
+        let changes = live::copies(self.alloc, own.as_slice())?;
         self.versions.reserve(&changes)?;
         Ok(changes)
     }

@@ -1,5 +1,5 @@
 -- The two parts of "another row has the key": rows that a transaction changed, and committed ones that it left alone.
-use Rattle.std.specs.Prelude.{ℕ, ◌≤◌, ◌≡◌, Bool, false, not, ◌&&◌, List, Option, All}
+use Rattle.std.specs.Prelude.{ℕ, Bool, not, ◌&&◌, List, Option}
 use Rattle.std.specs.List.{list_any}
 use Rattle.ebr_base.specs.declared.numbers.RowNo.{RowNo}
 use Rattle.ebr_base.specs.declared.numbers.TableId.{TableId}
@@ -27,7 +27,3 @@ has_untouched own table this places key values n =
 -- another row than this one, which these changes leave alone, has the key by those values
 abbrev pub committed_has : List (List Change) → List Change → TableId → Option RowNo → List ℕ → List Value → (RowId → Option (List Value)) → Bool
 committed_has commits own table this places key values = list_any (has_untouched own table this places key values) (row_numbers table (changes_in commits))
-
--- none of these numbers up to that one passes
-abbrev pub FailUpTo : (ℕ → Bool) → List ℕ → ℕ → Type 0
-FailUpTo p numbers last = All (λ n. n ≤ last → p n ≡ false) numbers

@@ -5,4 +5,4 @@ use Rattle.ebr_tx.proofs.limits.changes_length.Given as goal
 
 -- the bytes so far
 abbrev pub invariant-loop-c : goal.invariant-loop-c
-invariant-loop-c l = l.length ≡ min 67108865 (sum_by change_length (take l.c-index l.changes))
+invariant-loop-c l = l.length ≡ min 134217729 (sum_by change_length (take l.c-index l.changes))

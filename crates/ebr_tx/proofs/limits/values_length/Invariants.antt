@@ -5,4 +5,4 @@ use Rattle.ebr_tx.proofs.limits.values_length.Given as goal
 
 -- the bytes so far
 abbrev pub invariant-loop-value : goal.invariant-loop-value
-invariant-loop-value l = l.length ≡ min 67108865 (sum_by value_length (take l.value-index l.values))
+invariant-loop-value l = l.length ≡ min 134217729 (sum_by value_length (take l.value-index l.values))

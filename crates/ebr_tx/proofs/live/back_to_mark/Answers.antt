@@ -1,12 +1,15 @@
-use Rattle.std.proofs.Common.{ap, ◌∙◌}
+use Rattle.std.proofs.Common.{sym, ap, subst, refl, ◌∙◌}
 use Rattle.std.specs.List.{position_or_len}
-use Rattle.ebr_tx.specs.Data.{is_named}
 use Rattle.ebr_tx.specs.Calls.{marked}
-use Rattle.ebr_tx.proofs.LiveLemmas.{put-changed}
+use Rattle.ebr_tx.specs.inside.Filed.{FiledTransaction, is_live, IsFiledBy}
+use Rattle.ebr_tx.proofs.LiveLemmas.{cut_filed, put, stays_filed}
 use Rattle.ebr_tx.proofs.live.back_to_mark.Goals as goal
 
-pub returns : goal.returns
-returns c =
-    put-changed c.args.t (marked c.args.mark) c.args.live.now.items c.place_of-at.result c.back_to_mark.new.self c.index_mut.result.now
-    (c.place_of-at.ensures.place ∙ ap (position_or_len (is_named c.args.t)) c.as_slice.ensures.value)
-    (c.back_to_mark.ensures ∙ ap (marked c.args.mark) c.index_mut.ensures.value)
+pub returns-clause-changed : goal.returns-clause-changed
+returns-clause-changed c =
+    put c.args.t (marked c.args.mark) c.args.live.now.items c.place_of-at.result c.index_mut.result.now c.back_to_mark.new.self
+    (c.place_of-at.ensures.place ∙ ap (position_or_len (is_live c.args.t)) c.as_slice.ensures.value) c.index_mut.ensures.value (ap (λ (x : FiledTransaction). x.transaction) c.back_to_mark.ensures)
+
+pub returns-clause-filed : goal.returns-clause-filed
+returns-clause-filed c = λ tables all. stays_filed tables c.args.live.now.items c.as_slice.result.now c.place_of-at.result c.index_mut.result.now c.back_to_mark.new.self
+    c.place_of-at.ensures.within c.as_slice.ensures.value c.index_mut.ensures.value (λ f. subst (IsFiledBy tables) (sym c.back_to_mark.ensures) (cut_filed tables c.index_mut.result.now (marked c.args.mark c.index_mut.result.now.transaction) c.args.mark.changes refl f)) all

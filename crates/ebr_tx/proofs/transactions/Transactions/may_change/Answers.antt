@@ -16,7 +16,7 @@ returns-clause-may c =
     c.change_refusal.result
     (λ o is none.
     may_change c.args.self.now.contents c.args.t c.requires.live
-    (subst (λ (s : State). IsSound s.contents.commits s.contents.tables s.contents.live) c.self.view_is c.self.invariant)
+    (subst (λ (s : State). IsSound s.contents.commits s.contents.tables s.contents.live) c.self.view_is c.self.invariant.sound)
     (subst (λ (s : State). KeysDiffer s.contents.commits s.contents.tables) c.self.view_is c.count.ensures.sound.keys)
     c.args.c.now c.requires.begun (subst (λ (t : TableId). is_added c.args.self.now.contents.tables t ≡ true) (sym c.requires.table) c.requires.known.added) (sym is ∙ none))
     c.change_refusal.ensures

@@ -14,6 +14,6 @@ returns-clause-may c =
     (λ (x : Change). MayAdd c.args.self.now.contents.commits c.args.self.now.contents.tables c.args.self.now.contents.live c.args.t (own c.args.self.now.contents c.args.t) x)
     c.insertion.result (insert_refusal c.args.self.now.contents c.args.t c.args.def.now.id c.args.values) (insertion c.args.self.now.contents c.args.def.now.id c.args.values) c.insertion.ensures
     (may_insert c.args.self.now.contents c.args.t c.requires.live
-    (subst (λ (s : State). IsSound s.contents.commits s.contents.tables s.contents.live) c.self.view_is c.self.invariant)
+    (subst (λ (s : State). IsSound s.contents.commits s.contents.tables s.contents.live) c.self.view_is c.self.invariant.sound)
     (subst (λ (s : State). KeysDiffer s.contents.commits s.contents.tables) c.self.view_is c.count.ensures.sound.keys)
     c.args.def.now.id c.args.values c.requires.begun c.requires.known.added)
