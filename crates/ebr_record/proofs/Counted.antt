@@ -9,7 +9,7 @@ use Rattle.ebr_base.specs.declared.row.Change.{Change}
 use Rattle.ebr_base.specs.declared.table.Column.{Column}
 use Rattle.ebr_base.specs.declared.value.Value.{Value}
 use Rattle.ebr_base.specs.declared.value.Value.TheVariants as value
-use Rattle.ebr_tx.specs.Limits.{max_record, value_length, values_length, change_length, record_length}
+use Rattle.ebr_tx.specs.Limits.{value_length, values_length, change_length, record_length}
 use Rattle.ebr_record.specs.declared.record.Record.{Record}
 use Rattle.ebr_record.specs.declared.record.Record.TheVariants as made
 use Rattle.ebr_record.specs.Payload.{value_bytes, values_bytes, change_bytes, column_bytes, max_payload, name_bytes, payload}
@@ -80,7 +80,7 @@ module _ (r : Record) (short : length (payload r) ≤ max_payload) where
         let lent_whole : sum_by change_length lent ≡ sum_by change_length changes = ap (sum_by change_length) same in
         omega (arith, whole, lent_whole)
 
-    pub commit_short : sum_by change_length lent ≤ max_record
+    pub commit_short : sum_by change_length lent ≤ max_payload
     commit_short = omega (arith, commit_whole, short)
 
   module _ (name : List ℕ) (columns lent : List Column) (key : List ℕ) (is : r ≡ made.Table name columns key) (same : lent ≡ columns) where
@@ -91,5 +91,5 @@ module _ (r : Record) (short : length (payload r) ≤ max_payload) where
         let lent_whole : columns_counted lent ≡ columns_counted columns = ap columns_counted same in
         omega (arith, whole, lent_whole)
 
-    pub columns_short : columns_counted lent ≤ max_record
+    pub columns_short : columns_counted lent ≤ max_payload
     columns_short = omega (arith, table_whole, short)

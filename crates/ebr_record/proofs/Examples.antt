@@ -66,7 +66,7 @@ a_column = refl
 table_gone : payload (made.TableGone (record { 0 = 3 })) ≡ 9 ∷ 0 ∷ 0 ∷ 0 ∷ 3 ∷ []
 table_gone = refl
 
--- the journal of one CREATE EDITION has 15 bytes
-journal_of_one : used_by (made.Edition (codes "V2") first ∷ []) ≡ 15
+-- the journal of one CREATE EDITION has 26 bytes
+journal_of_one : used_by (made.Edition (codes "V2") first ∷ []) ≡ 26
 unfolding first
 journal_of_one = refl

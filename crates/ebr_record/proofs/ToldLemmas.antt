@@ -113,4 +113,4 @@ module _ (s : ListState) (r : Record) where
   elapses (Err (Full len)) = record { moment = refl; same = λ t l. (λ left. left, λ left. left) }
 
 pub at_rest : (s : ListState) → used_by s.records ≤ max_journal → IsAtRest (as_keeper s)
-at_rest s within = record { used = refl; within = within; leaves = λ going tells. just_kept s.records }
+at_rest s within = record { used = refl; within = omega (arith, within); leaves = λ going tells. just_kept s.records }

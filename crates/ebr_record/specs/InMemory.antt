@@ -1,6 +1,7 @@
 -- A keeper in memory.
 use Rattle.std.specs.Prelude.{◌≡◌, ℕ, ◌+◌, ◌==◌, nat_lt, ◌≤◌, Bool, true, false, if◌then◌else◌, List, [], ◌∷◌, ◌++◌, length, take, Some, Result, Ok, Err}
 use Rattle.std.specs.List.{list_any}
+use native.Mathlib.Nat.{le_trans}
 use Rattle.ebr_faults.specs.Faults.{one_more}
 use Rattle.ebr_record.specs.declared.keep.JournalFault.{JournalFault}
 use Rattle.ebr_record.specs.declared.keep.JournalFault.TheVariants.{DiskFault, Stopped, Full, NoMemory}
@@ -45,6 +46,10 @@ after_call s r (Err fault) = record s { calls = one_more s.calls }
 -- a stop at the n-th moment leaves the first n records, so since a moment one of the lists from there on
 abbrev pub LeftSince : List Record → ℕ → List Record → Type 0
 LeftSince records t l = (n : ℕ) × (t ≤ n) × (n ≤ length records) × (l ≡ take n records)
+
+-- what is left since a later moment is left since an earlier one
+pub left_since_earlier : (records : List Record) (t u : ℕ) (l : List Record) → t ≤ u → LeftSince records u l → LeftSince records t l
+left_since_earlier records t u l earlier left = (left.0, le_trans earlier left.1, left.2, left.3)
 
 -- what it tells as a keeper: all of it
 abbrev pub as_keeper : ListState → Keeper

@@ -70,7 +70,7 @@ payload (made.TableGone t) = 9 ∷ to_be_bytes w32 t.0
 
 -- the most bytes of a payload (own)
 abbrev pub max_payload : ℕ
-max_payload = 67108864
+max_payload = 134217728
 
 -- no BOOLEAN
 abbrev pub IsStored : Value → Type 0

@@ -1,8 +1,8 @@
 //! How long a record is.
 
 ghost use Rattle.std.specs.Prelude.{◌≡◌, ◌≤◌, length, sum_by};
-ghost use Rattle.ebr_tx.specs.Limits.{max_record, value_length, change_length};
-ghost use Rattle.ebr_record.specs.Payload.{HasPayload, column_bytes, name_bytes, payload, type_bytes};
+ghost use Rattle.ebr_tx.specs.Limits.{value_length, change_length};
+ghost use Rattle.ebr_record.specs.Payload.{HasPayload, column_bytes, max_payload, name_bytes, payload, type_bytes};
 
 use crate::record::Record;
 use ebr_base::{Change, ColType, Column, Name, Value};
@@ -29,7 +29,7 @@ pub fn length(r: &Record) -> u64
 
 /// The bytes of changes.
 fn changes_length(changes: &[Change]) -> u64
-    requires { sum_by change_length changes.now ≤ max_record }
+    requires { sum_by change_length changes.now ≤ max_payload }
     ensures { result ≡ sum_by change_length changes.now }
 {
     let mut length = 0;
@@ -41,7 +41,7 @@ fn changes_length(changes: &[Change]) -> u64
 
 /// The bytes of a change.
 fn change_length(c: &Change) -> u64
-    requires { change_length c.now ≤ max_record }
+    requires { change_length c.now ≤ max_payload }
     ensures { result ≡ change_length c.now }
 {
     match &c.values {
@@ -52,7 +52,7 @@ fn change_length(c: &Change) -> u64
 
 /// The bytes of values.
 fn values_length(values: &[Value]) -> u64
-    requires { sum_by value_length values.now ≤ max_record }
+    requires { sum_by value_length values.now ≤ max_payload }
     ensures { result ≡ sum_by value_length values.now }
 {
     let mut length = 0;
@@ -64,7 +64,7 @@ fn values_length(values: &[Value]) -> u64
 
 /// The bytes of a value.
 fn value_length(value: &Value) -> u64
-    requires { value_length value.now ≤ max_record }
+    requires { value_length value.now ≤ max_payload }
     ensures { result ≡ value_length value.now }
 {
     match value {
@@ -77,7 +77,7 @@ fn value_length(value: &Value) -> u64
 
 /// The bytes of columns.
 fn columns_length(columns: &[Column]) -> u64
-    requires { sum_by (λ c. length (column_bytes c)) columns.now ≤ max_record }
+    requires { sum_by (λ c. length (column_bytes c)) columns.now ≤ max_payload }
     ensures { result ≡ sum_by (λ c. length (column_bytes c)) columns.now }
 {
     let mut length = 0;

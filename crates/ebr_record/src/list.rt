@@ -11,7 +11,7 @@ use std::alloc::Global;
 use std::marker::Model;
 
 /// The most bytes of a journal.
-const MAX_JOURNAL: u64 = 268_435_456;
+const MAX_JOURNAL: u64 = 536_870_912;
 
 /// Keeps records in a list, which it tells, and fails at the calls that it was made with.
 #[derive(Drop)]
@@ -48,7 +48,7 @@ impl ListKeep {
         Ok(ListKeep {
             alloc,
             records: List::new(alloc),
-            used: 2,
+            used: 9,
             failing,
             calls: 0,
             faults: 0,
@@ -67,9 +67,11 @@ impl ListKeep {
 impl Keep for ListKeep {
     ghost use Rattle.ebr_record.specs.Payload.{HasPayload};
     ghost use Rattle.ebr_record.specs.Keeper.{max_journal, used_by};
-    ghost use Rattle.ebr_record.specs.InMemory.{AnswersTo, after_call, as_keeper};
+    ghost use Rattle.ebr_record.specs.InMemory.{AnswersTo, after_call, as_keeper, left_since_earlier};
 
     ghost as_keeper = { as_keeper };
+
+    ghost leaves_less = { λ k. left_since_earlier k.records };
 
     fn is_stopped(&self) -> bool {
         self.stopped
@@ -87,7 +89,7 @@ impl Keep for ListKeep {
         if self.stopped {
             return Err(JournalFault::Stopped);
         }
-        let len = self.used + 5 + length(r);
+        let len = self.used + 9 + length(r);
         if len > MAX_JOURNAL {
             return Err(JournalFault::Full { len });
         }

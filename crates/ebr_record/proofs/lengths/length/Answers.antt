@@ -1,6 +1,6 @@
 use Rattle.std.proofs.Common.{◌≡◌, ◌+◌, ◌*◌, ◌≤◌, arith, length, sum_by}
-use Rattle.ebr_tx.specs.Limits.{max_record, change_length}
-use Rattle.ebr_record.specs.Payload.{name_bytes, payload}
+use Rattle.ebr_tx.specs.Limits.{change_length}
+use Rattle.ebr_record.specs.Payload.{max_payload, name_bytes, payload}
 use Rattle.ebr_record.proofs.Counted.{columns_counted, columns_short, commit_short, commit_whole, table_whole}
 use Rattle.ebr_record.proofs.lengths.length.Goals as goal
 
@@ -9,7 +9,7 @@ changes_length-requires c = commit_short _ c.requires.short _ _ c.in-Commit.is c
 
 pub overflow_add-result : goal.overflow_add-result
 overflow_add-result c =
-    let few : sum_by change_length c.as_slice.result.now ≤ max_record = commit_short _ c.requires.short _ _ c.in-Commit.is c.as_slice.ensures in
+    let few : sum_by change_length c.as_slice.result.now ≤ max_payload = commit_short _ c.requires.short _ _ c.in-Commit.is c.as_slice.ensures in
     omega (arith, few, c.changes_length.ensures)
 
 pub returns-in-Commit : goal.returns-in-Commit
@@ -22,7 +22,7 @@ columns_length-requires c = columns_short _ c.requires.short _ _ _ _ c.in-Table.
 
 pub overflow_add-result-in-Table : goal.overflow_add-result-in-Table
 overflow_add-result-in-Table c =
-    let few : columns_counted c.as_slice-in-Table.result.now ≤ max_record = columns_short _ c.requires.short _ _ _ _ c.in-Table.is c.as_slice-in-Table.ensures in
+    let few : columns_counted c.as_slice-in-Table.result.now ≤ max_payload = columns_short _ c.requires.short _ _ _ _ c.in-Table.is c.as_slice-in-Table.ensures in
     omega (arith, few, c.name_length-in-Table.ensures.short, c.columns_length.ensures)
 
 pub overflow_add-result-in-Table-2 : goal.overflow_add-result-in-Table-2
