@@ -29,12 +29,12 @@ abbrev with_live : List Transaction → Data
 with_live live = record { commits = []; tables = []; live = live; locks = [] }
 
 abbrev at : List Transaction → Base
-at live = record { data_now = with_live live; used = 2 }
+at live = record { data_now = with_live live; used = 9 }
 
 -- COMMIT: the record is made, and the transaction has ended
 committed : commit own (at (inserted ∷ []))
     ≡ record {
-      state = record { data_now = record { commits = (change ∷ []) ∷ []; tables = []; live = not_begun own ∷ []; locks = [] }; used = 36 };
+      state = record { data_now = record { commits = (change ∷ []) ∷ []; tables = []; live = not_begun own ∷ []; locks = [] }; used = 47 };
       made = Commit (change ∷ []) ∷ [];
       asked = [];
       value = done;

@@ -1,5 +1,7 @@
 -- A whole that has come so far: what a loop and a chain of calls keep.
 use Rattle.std.proofs.Common.{◌≡◌, List, [], ◌++◌, Result, Ok, Err, refl, sym, ap, subst, ◌∙◌, append_assoc}
+use Rattle.std.specs.Prelude.{IsErrAnd}
+use Rattle.std.proofs.lemmas.Result.{err_from_is_err_and}
 use Rattle.ebr_base.specs.declared.code.Code.{Code}
 use Rattle.ebr_record.specs.declared.record.Record.{Record}
 use Rattle.ebr_record.specs.Keeper.{Keeper}
@@ -36,6 +38,14 @@ module _ {S A : Type 0} where
   after_after m m' q q' o =
       let outcome : List Record → List Question → Outcome S A = λ l r. record { state = o.state; made = l; asked = r; value = o.value } in
       ap (λ l. outcome l (q ++ (q' ++ o.asked))) (sym (append_assoc m m' o.made)) ∙ ap (λ r. outcome ((m ++ m') ++ o.made) r) (sym (append_assoc q q' o.asked))
+
+-- the exit of a `?` where there was no memory, before anything was kept
+module _ {S A : Type 0} (s : S) (k : Keeper) where
+  pub wants_memory : (o : Outcome S (Result A Code)) (r : Result A Failure) → IsErrAnd r (λ e. e ≡ Halted NoMemory) → Shows o s k k r
+  wants_memory o r h = let p = err_from_is_err_and r h in subst (Shows o s k k) (sym (p.1 ∙ ap (λ e. Err e) p.2)) (stays k o.made)
+
+  pub told_wanting : (o : Outcome S A) (r : Result A Halt) → IsErrAnd r (λ why. why ≡ NoMemory) → Tells o s k k r
+  told_wanting o r h = let p = err_from_is_err_and r h in subst (Tells o s k k) (sym (p.1 ∙ ap (λ why. Err why) p.2)) (stays k o.made)
 
 module _ {S T A B : Type 0} where
   pub steps : (whole : Outcome T B) (o : Outcome S A) (k : A → S → Outcome T B) (old mid now : Keeper) (s : S) (v : A) → Goes whole (and_then o k) old mid → Said o s mid now v → Goes whole (k v s) old now

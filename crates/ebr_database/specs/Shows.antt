@@ -1,5 +1,5 @@
 -- What a call does, beside what is defined.
-use Rattle.std.specs.Prelude.{◌≡◌, ℕ, ◌≤◌, ◌+◌, ◌⊎◌, true, IsTrue, List, ◌++◌, sum_by, Option, Some, None, Result, Ok, Err}
+use Rattle.std.specs.Prelude.{◌≡◌, ℕ, ◌≤◌, ◌+◌, ◌⊎◌, true, IsTrue, List, [], ◌∷◌, ◌++◌, sum_by, Option, Some, None, IfSome, Result, Ok, Err}
 use Rattle.ebr_base.specs.declared.code.Code.{Code}
 use Rattle.ebr_base.specs.declared.code.Stop.{Stop}
 use Rattle.ebr_base.specs.declared.code.Stop.TheVariants as stop
@@ -35,6 +35,10 @@ Between (Some records) made l = (x y : List Record) × (l ≡ records ++ x) × (
 abbrev pub Holds : Keeper → Keeper → List Record → Type 0
 Holds old new made = (t : ℕ) (l : List Record) → t ≤ old.moment → new.may_leave t l → old.may_leave t l ⊎ Between old.records made l
 
+-- a stop now leaves the kept list and nothing else, where both are told
+abbrev pub JustKept : Keeper → Type 0
+JustKept k = IsTrue k.tells → IfSome k.records (λ records. (l : List Record) → k.may_leave k.moment l → l ≡ records)
+
 -- These records were kept.
 pub record Grew (old new : Keeper) (made : List Record) : Type 0 where
   pub records : new.records ≡ with_records old.records made
@@ -44,6 +48,12 @@ pub record Grew (old new : Keeper) (made : List Record) : Type 0 where
   pub moment : old.moment ≤ new.moment
   pub tells : new.tells ≡ old.tells
   pub holds : IsTrue old.tells → Holds old new made
+  pub rest : JustKept old → JustKept new
+
+-- the kept list, or with it the next one of the records that were left
+abbrev pub OneMore : Option (List Record) → List Record → List Record → Type 0
+OneMore None left l = Unit {0}
+OneMore (Some records) left l = (l ≡ records) ⊎ ((r : Record) × (more : List Record) × (left ≡ r ∷ more) × (l ≡ records ++ r ∷ []))
 
 -- why the engine gives up: the disk's count rose; the keeper had found a fault or no memory before; want of memory is free
 abbrev pub Cause : Halt → Keeper → Keeper → Type 0
@@ -51,11 +61,19 @@ Cause DiskFault old new = Rises old.faults new.faults
 Cause Stopped old new = old.stopped ≡ true
 Cause NoMemory old new = Unit {0}
 
--- The engine gave up while these records were to be kept: at most the first of them are there after a stop, where the keeper tells.
+-- The engine gave up while these records were to be kept. The first of them were kept, and at each moment of the call a stop
+-- leaves some of the first; a stop now leaves those that were kept, and of the others at most the next one.
 pub record GaveUp (old new : Keeper) (made : List Record) (why : Halt) : Type 0 where
+  pub kept : List Record
+  pub left : List Record
+  pub made_is : made ≡ kept ++ left
+  pub records : new.records ≡ with_records old.records kept
+  pub used : new.used ≡ old.used + sum_by share kept
   pub faults : old.faults ≤ new.faults
   pub moment : old.moment ≤ new.moment
+  pub tells : new.tells ≡ old.tells
   pub holds : IsTrue old.tells → Holds old new made
+  pub now : IsTrue old.tells → JustKept old → (l : List Record) → new.may_leave new.moment l → OneMore new.records left l
   pub cause : Cause why old new
 
 -- ---- what a call says

@@ -6,7 +6,11 @@ use Rattle.ebr_record.specs.declared.record.Record.TheVariants.{Commit}
 use Rattle.ebr_record.specs.Payload.{HasPayload}
 use Rattle.ebr_database.specs.Storable.{AllStorable}
 use Rattle.ebr_database.proofs.AllStays.{has_payload, settled}
+use Rattle.ebr_database.proofs.Goes.{wants_memory}
 use Rattle.ebr_database.proofs.transact.commit.Goals as goal
+
+pub returns-in_err-changes-clause-exact : goal.returns-in_err-changes-clause-exact
+returns-in_err-changes-clause-exact g c = wants_memory _ _ _ _ c.from_residual.ensures.1
 
 pub keep_changes-requires : goal.keep_changes-requires
 keep_changes-requires g c =
