@@ -1,6 +1,6 @@
 //! The asks for transactions, for the one on top of a session's stack.
 
-ghost use Rattle.std.specs.Prelude.{◌≡◌, ◌<◌, ◌+◌, ◌-◌, ◌==◌, true, is_some, Some, Ok, OnOk};
+ghost use Rattle.std.specs.Prelude.{◌≡◌, ◌<◌, ◌+◌, ◌-◌, ◌==◌, true, is_some, Some, Ok, OnErr, OnOk};
 ghost use Rattle.ebr_tx.specs.Data.{named_at, IsLive};
 ghost use Rattle.ebr_tx.specs.Calls.{mark_of, IsMarkOf};
 ghost use Rattle.ebr_database.specs.Database.{as_answer, reply_commit, reply_rollback, reply_savepoint, reply_back_to, reply_push, reply_pop};
@@ -102,7 +102,8 @@ pub fn savepoint_top(
     name: &Name,
 ) -> Result<(), NoMemory>
     requires { IsHeld tx.old.contents seats.now s }
-    ensures { ForSession tx.old.contents seats.now s (λ used db x. OnOk result (Leaves used tx.new.contents seats.now (as_answer (Ok tt)) (reply_savepoint db s x name.now))) }
+    ensures exact { ForSession tx.old.contents seats.now s (λ used db x. OnOk result (Leaves used tx.new.contents seats.now (as_answer (Ok tt)) (reply_savepoint db s x name.now))) }
+    ensures unchanged { OnErr result (tx.new.contents ≡ tx.old.contents) }
 {
     asks_are_read_back();
     let t = top_of(seats, s);

@@ -10,8 +10,8 @@ use Rattle.ebr_seats.proofs.transact.savepoint_top.Goals as goal
 pub savepoint-requires-clause-live : goal.savepoint-requires-clause-live
 savepoint-requires-clause-live c = top_lives c.args.tx.now.contents c.args.seats.now c.args.s c.requires c.top_of-t.result c.top_of-t.ensures
 
-pub returns : goal.returns
-returns c = λ used db x h there.
+pub returns-clause-exact : goal.returns-clause-exact
+returns-clause-exact c = λ used db x h there.
     on_ok_weaker c.savepoint.result
     (λ left. savepoint_reply used c.args.tx.now.contents c.args.seats.now db c.args.s x h there (c.asks_are_read_back.ensures db) c.top_of-t.result c.top_of-t.ensures
     c.savepoint.new.tx.contents c.savepoint.ensures.stacks c.savepoint.ensures.storable c.args.name.now
