@@ -183,6 +183,37 @@ impl<O: Drop> Actuals<O> {
         Ok(self.add(e, copy, None)?)
     }
 
+    /// Makes an object actual in an edition, or where there is none hides the key there, and tests nothing. It finds no memory
+    /// where the edition has had 4,294,967,294 definitions and drops. An `Err` changes nothing.
+    pub fn enter(&mut self, e: EditionNo, key: ObjectKey, object: Option<O>) -> Result<(), NoMemory>
+        ensures made { OnOk result (ForEntries self.old (λ entries. self.new ≡ held (with_entry entries e key object))) }
+        ensures unchanged { OnErr result (self.new ≡ self.old) }
+    {
+        self.add(e, key, object)?;
+        Ok(())
+    }
+
+    /// Hides a key in an edition, whether it is visible or not, and after it another one where that is visible, in one step. It
+    /// finds no memory where the edition has had 4,294,967,293 definitions and drops. An `Err` changes nothing.
+    pub fn enter_drops(
+        &mut self,
+        chain: &Chain,
+        e: EditionNo,
+        first: &ObjectKey,
+        second: &ObjectKey,
+    ) -> Result<(), NoMemory>
+        ensures hidden { OnOk result (ForEntries self.old (λ entries. self.new ≡ held (without_both chain.now.made entries e first.now second.now))) }
+        ensures unchanged { OnErr result (self.new ≡ self.old) }
+    {
+        if self.seen(chain, e, second).is_none() {
+            let copy = first.clone_in(self.alloc)?;
+            return self.enter(e, copy, None);
+        }
+        let copies = both(self.alloc, first, second)?;
+        self.hide_two(e, copies.0, copies.1)?;
+        Ok(())
+    }
+
     /// Hides a key in an edition, and after it another one where that is visible, in one step.
     ///
     /// Refusal: ORA-04043 where the first key isn't visible in the edition. It finds no memory where the edition has had

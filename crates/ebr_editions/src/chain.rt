@@ -200,8 +200,9 @@ impl Chain {
         self.living.len()
     }
 
-    /// Adds a child of the leaf, under a name that no living edition has.
-    fn add(&mut self, n: Name, p: EditionNo) -> Result<EditionNo, NoMemory>
+    /// Adds a child of the leaf, under a name that no living edition has. It finds no memory where 4,294,967,295 editions were
+    /// made. An `Err` changes nothing.
+    pub fn add(&mut self, n: Name, p: EditionNo) -> Result<EditionNo, NoMemory>
         requires lives { is_living self.old.made p ≡ true }
         requires childless { child_of self.old.made p ≡ None }
         requires free { edition_named self.old.made n ≡ None }
@@ -246,7 +247,8 @@ impl Chain {
         Ok(e)
     }
 
-    fn remove_leaf(&mut self, e: EditionNo)
+    /// Drops the leaf, which isn't the default.
+    pub fn remove_leaf(&mut self, e: EditionNo)
         requires lives { is_living self.old.made e ≡ true }
         requires childless { child_of self.old.made e ≡ None }
         requires other { e ≢ self.old.default }
@@ -264,11 +266,19 @@ impl Chain {
     {
         match self.number(n) {
             Some(e) => {
-                self.default = e;
+                self.make_default(e);
                 Ok(())
             }
             None => Err(Code::Ora(38802)),
         }
+    }
+
+    /// Makes an edition that lives the default.
+    pub fn make_default(&mut self, e: EditionNo)
+        requires { is_living self.old.made e ≡ true }
+        ensures { self.new ≡ record self.old { default = e } }
+    {
+        self.default = e;
     }
 }
 

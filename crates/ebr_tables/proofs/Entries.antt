@@ -1,6 +1,6 @@
 -- What the calls on the map do to the list of tables.
 use Rattle.std.proofs.Common.{◌≡◌, ℕ, suc, Bool, true, false, not, cond, List, [], ◌∷◌, ◌++◌, map, refl, sym, ap, subst, ◌∙◌, arith}
-use Rattle.std.specs.Prelude.{◌≤◌, Option, Some, None, if◌then◌else◌, filter, All}
+use Rattle.std.specs.Prelude.{◌<◌, ◌≤◌, Option, Some, None, if◌then◌else◌, filter, All}
 use Rattle.std.specs.Str.{bytes_eq}
 use Rattle.std.specs.Map.{values_of, lookup, remove_entry, set_value}
 use Rattle.std.specs.List.{list_any}
@@ -10,12 +10,13 @@ use Rattle.std.proofs.lemmas.List.{map-append, length-map, length_push}
 use Rattle.std.proofs.lemmas.List.Elements.{All-cons, All-head, All-tail, All-push, All-filter}
 use Rattle.std.proofs.lemmas.List.Sums.{length-filter, count_by-le-length}
 use Rattle.std.proofs.lemmas.Option.{same_Some}
+use Rattle.ebr_base.specs.declared.numbers.TableId.{TableId}
 use Rattle.ebr_base.specs.declared.numbers.TheConstants.{MAX_COUNT}
 use Rattle.ebr_base.specs.declared.table.Column.{Column}
 use Rattle.ebr_base.specs.declared.table.TableDef.{TableDef}
 use Rattle.ebr_tables.specs.Definitions.{has_repetition}
 use Rattle.ebr_base.specs.Keys.{table_named}
-use Rattle.ebr_tables.specs.Tables.{AreTables, IsTable, same_table_name, next_id, kept_as, add_refusal, widened, with_column, without_table}
+use Rattle.ebr_tables.specs.Tables.{AllTables, AreTables, IsTable, MayJoin, same_table_name, next_id, kept_as, add_refusal, widened, with_column, without_table}
 use Rattle.ebr_tables.specs.inside.Keyed.{Entries, by_name, tables_of, Keyed, widened_in}
 use Rattle.ebr_tables.proofs.Names.{has, none-any, others-none, filter-none, map-none, distinct-filter, distinct-map, once-push, ascend-filter, ascend-map, ascend-push}
 use Rattle.ebr_tables.proofs.Allowed.{IsAllowed, kept-is, widened-is}
@@ -145,19 +146,22 @@ module _ (made : ℕ) (n : List ℕ) (es : Entries) (k : Keyed made es) where
         numbered = k.tables.numbered;
       })
 
--- a table of a new name, with the next id, goes last
-pub pushed-keyed : (made : ℕ) (d : TableDef) (es : Entries) → Keyed made es → IsAllowed (tables_of made es) d → suc made ≤ MAX_COUNT
-    → (let t = kept_as (next_id (tables_of made es)) d in Keyed (suc made) (es ++ (t.name, t) ∷ []))
-pushed-keyed made d es k may few =
-    let t = kept_as (next_id (tables_of made es)) d in
+-- a definition that nothing refuses may be added as it is kept
+pub may-join : (s : AllTables) (d : TableDef) → IsAllowed s d → s.made < MAX_COUNT → MayJoin s (kept_as (next_id s) d)
+may-join s d may few = record { new = may.new; is = kept-is (next_id s) d may.good may.columns; next = refl; room = may.room; numbered = few }
+
+-- a table that may be added goes last
+pub pushed-keyed : (made : ℕ) (t : TableDef) (es : Entries) → Keyed made es → MayJoin (tables_of made es) t → Keyed (suc made) (es ++ (t.name, t) ∷ [])
+pushed-keyed made t es k may =
+    let next : t.id.0 ≡ suc made = ap (λ (i : TableId). i.0) may.next in
     keyed-from (suc made) (es ++ (t.name, t) ∷ []) (values_of es ++ t ∷ [])
     (ap (λ l. l ++ (t.name, t) ∷ []) k.by ∙ sym (map-append (λ u. (u.name, u)) (values_of es) (t ∷ [])))
     (record {
-      names = once-push same_table_name (λ a b. nat_list_eq_equiv.symm a.name b.name) t (values_of es) k.tables.names (none-any d.name (values_of es) may.new);
-      ids = ascend-push made t 0 (values_of es) refl (omega arith) k.tables.ids;
+      names = once-push same_table_name (λ a b. nat_list_eq_equiv.symm a.name b.name) t (values_of es) k.tables.names (none-any t.name (values_of es) may.new);
+      ids = ascend-push made t 0 (values_of es) next (omega arith) k.tables.ids;
       few = omega (arith, length_push (values_of es) t, may.room);
-      each = All-push IsTable (values_of es) t k.tables.each (kept-is (next_id (tables_of made es)) d may.good may.columns);
-      numbered = few;
+      each = All-push IsTable (values_of es) t k.tables.each may.is;
+      numbered = may.numbered;
     })
 
 pub pushed-values : (t : TableDef) (es : Entries) → values_of (es ++ (t.name, t) ∷ []) ≡ values_of es ++ t ∷ []

@@ -2,3 +2,4 @@ pub mod Names
 pub mod Allowed
 pub mod Entries
 pub mod Results
+pub mod ById

@@ -1,6 +1,6 @@
 -- The tables of the catalogue, which belong to no edition.
 -- Oracle Database Development Guide 19c, Editionable and Noneditionable Schema Object Types.
-use Rattle.std.specs.Prelude.{ℕ, suc, Bool, true, false, not, ◌≡◌, ◌<◌, ◌≤◌, nat_le, nat_lt, if◌then◌else◌, List, [], ◌∷◌, ◌++◌, map, length, filter, slice_get, Option, Some, None, is_some, Result, Ok, Err, All}
+use Rattle.std.specs.Prelude.{ℕ, suc, Bool, true, false, not, ◌≡◌, ◌<◌, ◌≤◌, ◌==◌, nat_le, nat_lt, if◌then◌else◌, List, [], ◌∷◌, ◌++◌, map, length, filter, find, slice_get, Option, Some, None, is_some, Result, Ok, Err, All}
 use Rattle.std.specs.Str.{bytes_eq}
 use Rattle.ebr_base.specs.declared.code.Code.{Code}
 use Rattle.ebr_base.specs.declared.code.Code.TheVariants.{Ora, Ebr}
@@ -38,6 +38,13 @@ refusal_of taken d living =
 abbrev pub create_refusal : AllTables → TableDef → Option Code
 create_refusal s d = refusal_of (is_some (table_named d.name s.living)) d (length s.living)
 
+abbrev pub has_id : TableId → TableDef → Bool
+has_id id t = t.id.0 == id.0
+
+-- the living table of an id
+abbrev pub table_of_id : TableId → List TableDef → Option TableDef
+table_of_id id living = find (has_id id) living
+
 -- the id of the next table: one more than the number of tables ever made
 abbrev pub next_id : AllTables → TableId
 next_id s = record { 0 = suc s.made }
@@ -50,9 +57,13 @@ create_answer s d = unless_refused (create_refusal s d) (next_id s)
 abbrev pub kept_as : TableId → TableDef → TableDef
 kept_as id d = record { id = id; name = d.name; columns = with_key_not_null d.key 0 d.columns; key = d.key }
 
+-- the tables with one more, as it is kept
+abbrev pub with_definition : AllTables → TableDef → AllTables
+with_definition s t = record { made = suc s.made; living = s.living ++ t ∷ [] }
+
 -- the tables after CREATE TABLE
 abbrev pub with_table : AllTables → TableDef → AllTables
-with_table s d = record { made = suc s.made; living = s.living ++ kept_as (next_id s) d ∷ [] }
+with_table s d = with_definition s (kept_as (next_id s) d)
 
 -- The refusals of ALTER TABLE ADD, in order: no living table has the name; a bad column; the table has 64 columns.
 abbrev pub add_refusal : Option TableDef → Column → Option Code
@@ -107,3 +118,11 @@ pub record AreTables (s : AllTables) : Type 0 where
   pub few : length s.living ≤ 1000
   pub each : All IsTable s.living
   pub numbered : s.made ≤ MAX_COUNT
+
+-- A table that may be added as it is kept: under a name that none has, with the next id, where 1,000 don't live yet.
+pub record MayJoin (s : AllTables) (t : TableDef) : Type 0 where
+  pub new : table_named t.name s.living ≡ None
+  pub is : IsTable t
+  pub next : t.id ≡ next_id s
+  pub room : length s.living < 1000
+  pub numbered : s.made < MAX_COUNT

@@ -5,7 +5,7 @@ ghost use Rattle.std.specs.Option.{option_copied};
 ghost use Rattle.ebr_base.specs.Answers.{Answers};
 ghost use Rattle.ebr_base.specs.Keys.{table_named};
 ghost use Rattle.ebr_base.specs.declared.numbers.TheConstants.{MAX_COUNT};
-ghost use Rattle.ebr_tables.specs.Tables.{AreTables, no_tables, create_refusal, next_id, create_answer, with_table, add_refusal, add_answer, with_column, remove_answer, refusal_of, without_table};
+ghost use Rattle.ebr_tables.specs.Tables.{AreTables, MayJoin, no_tables, create_refusal, next_id, create_answer, with_table, add_refusal, add_answer, with_column, remove_answer, refusal_of, table_of_id, with_definition, without_table};
 
 use crate::definition::{is_bad_table, with_key_not_null};
 use crate::keyed::{MAX_COLUMNS, put, wide_refusal, widen};
@@ -67,9 +67,20 @@ impl Tables {
         let id = self.next_id()?;
         let alloc = *self.living.allocator();
         let columns = with_key_not_null(alloc, def.columns.as_slice(), def.key.as_slice())?;
-        put(&mut self.living, TableDef { id, columns, ..def })?;
-        self.made = id.0;
+        self.add(TableDef { id, columns, ..def })?;
         Ok(id)
+    }
+
+    /// Adds a table as it is kept, which goes last. An `Err` changes nothing.
+    pub fn add(&mut self, def: TableDef) -> Result<(), NoMemory>
+        requires { MayJoin self.old def }
+        ensures tables { OnOk result (self.new ≡ with_definition self.old def) }
+        ensures unchanged { OnErr result (self.new ≡ self.old) }
+    {
+        let id = def.id;
+        put(&mut self.living, def)?;
+        self.made = id.0;
+        Ok(())
     }
 
     /// The code by which `create` refuses a definition.
@@ -131,6 +142,29 @@ impl Tables {
         ensures kept { AreTables self.now }
     {
         self.living.get(t)
+    }
+
+    /// The living table of an id. It halves the tables, which stand in order of id.
+    pub fn find_id(&self, id: TableId) -> Option<&TableDef>
+        ensures { option_copied result ≡ table_of_id id self.now.living }
+    {
+        let mut low = 0;
+        let mut high = self.living.len() as u32;
+        while low < high {
+            let at = low + (high - low) / 2;
+            let Some(def) = self.nth(at) else {
+                return None;
+            };
+            if def.id == id {
+                return Some(def);
+            }
+            if def.id.0 < id.0 {
+                low = at + 1;
+                continue;
+            }
+            high = at;
+        }
+        None
     }
 
     /// The living table at a place in the order of ids, counted from 0.
