@@ -117,22 +117,18 @@ one-more entries e key o own h = pushed entries own
     pushed (x ∷ xs) all = (all.0, pushed xs all.1)
 
 -- each record enters an object under its own key
-pub own-kept : (c : Lists) (r : CatalogueRecord) → HaveOwnKeys c → HaveOwnKeys (with_record c r)
-own-kept c (made.Edition name parent) own = own
-own-kept c (made.EditionGone e) own = own
-own-kept c (made.Default e) own = own
-own-kept c (made.Object o) own = one-more c.entries o.stamp.edition o.key (Some o) own refl
-own-kept c (made.ObjectGone e key) own = one-more c.entries e key None own tt
-own-kept c (made.PackageGone e name) own = by (is_some (Visible c.editions.made c.entries e (key_of kind.PackageBody name))) (one-more c.entries e (key_of kind.Package name) None own tt)
+pub own_kept : (c : Lists) (r : CatalogueRecord) → HaveOwnKeys c → HaveOwnKeys (with_record c r)
+own_kept c (made.Edition name parent) own = own
+own_kept c (made.EditionGone e) own = own
+own_kept c (made.Default e) own = own
+own_kept c (made.Object o) own = one-more c.entries o.stamp.edition o.key (Some o) own refl
+own_kept c (made.ObjectGone e key) own = one-more c.entries e key None own tt
+own_kept c (made.PackageGone e name) own = by (is_some (Visible c.editions.made c.entries e (key_of kind.PackageBody name))) (one-more c.entries e (key_of kind.Package name) None own tt)
   where
     by : (b : Bool) → AllByRecursion HasOwnKey (with_entry c.entries e (key_of kind.Package name) None)
         → AllByRecursion HasOwnKey (cond b (with_entry (with_entry c.entries e (key_of kind.Package name) None) e (key_of kind.PackageBody name) None) (with_entry c.entries e (key_of kind.Package name) None))
     by true h = one-more (with_entry c.entries e (key_of kind.Package name) None) e (key_of kind.PackageBody name) None h tt
     by false h = h
-own-kept c (made.Table d) own = own
-own-kept c (made.Column id column) own = own
-own-kept c (made.TableGone id) own = own
-
-pub own_kept_ok : (c : Lists) (result : Result CatalogueRecord Stop) → HaveOwnKeys c → IfOk result (λ r. HaveOwnKeys (with_record c r))
-own_kept_ok c (Ok r) own = own-kept c r own
-own_kept_ok c (Err stop) own = tt
+own_kept c (made.Table d) own = own
+own_kept c (made.Column id column) own = own
+own_kept c (made.TableGone id) own = own

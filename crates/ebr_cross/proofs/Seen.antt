@@ -27,7 +27,7 @@ use Rattle.ebr_cross.specs.Places.{as_list, placed}
 use Rattle.ebr_cross.specs.inside.Places.{with_seen, Shows, StandAround}
 use Rattle.ebr_cross.proofs.InOrder.{fold-push}
 use Rattle.ebr_cross.proofs.NewEdition.{line-before-leaf}
-use Rattle.ebr_cross.proofs.OwnKeys.{key_total, key-exact, same-order, same-turned, seen-under, own-kept}
+use Rattle.ebr_cross.proofs.OwnKeys.{key_total, key-exact, same-order, same-turned, seen-under, own_kept}
 use Rattle.ebr_cross.proofs.Placed.{sorted-insert, insert-there, any-insert, sorted-seen, seen-placed, seen-nothing}
 
 sorted-fold : (keys acc : List ObjectKey) → IsStrictlySortedBy key_order acc → IsStrictlySortedBy key_order (fold (insert_key key_order) acc keys)
@@ -131,7 +131,7 @@ shown c e objects v own same shows =
 pub after-object : (c : Lists) (r : CatalogueRecord) (d : EditionNo) (k : ObjectKey) (o : Option Object) (w v : EditionView) → HaveOwnKeys c → with_record c r ≡ with_object c d k o → w ≡ View c w.edition
     → Shows (with_record c r) w.edition (with_seen (with_record c r) w.edition k w.objects) v → IsViewOf (with_record c r) w.edition v
 after-object c r d k o w v own is seen shows =
-    shown (with_record c r) w.edition (with_seen (with_record c r) w.edition k w.objects) v (own-kept c r own)
+    shown (with_record c r) w.edition (with_seen (with_record c r) w.edition k w.objects) v (own_kept c r own)
     (ap (λ n. with_seen n w.edition k w.objects) is
     ∙ (ap (λ (x : EditionView). with_seen (with_object c d k o) w.edition k x.objects) seen
     ∙ (sym (after-key c d w.edition k o own) ∙ ap (λ n. (View n w.edition).objects) (sym is))))
@@ -153,7 +153,7 @@ module _ (c : Lists) (e : EditionNo) (name : List ℕ) (own : HaveOwnKeys c) whe
 
   hidden-own : HaveOwnKeys hidden
   unfolding hidden head_key
-  hidden-own = own-kept c (made.ObjectGone e head_key) own
+  hidden-own = own_kept c (made.ObjectGone e head_key) own
 
   head-seen : (b : Bool) → visible (dropped b) e head_key ≡ visible hidden e head_key
   unfolding dropped hidden head_key body_key
@@ -192,7 +192,7 @@ module _ (c : Lists) (e : EditionNo) (name : List ℕ) (own : HaveOwnKeys c) whe
       → Shows (with_record c (made.PackageGone e name)) e (with_seen (with_record c (made.PackageGone e name)) e body_key (with_seen (with_record c (made.PackageGone e name)) e head_key w.objects)) v → IsViewOf (with_record c (made.PackageGone e name)) e v
   unfolding dropped hidden head_key body_key
   after-package w v is shows =
-      shown (with_record c (made.PackageGone e name)) e _ v (own-kept c (made.PackageGone e name) own)
+      shown (with_record c (made.PackageGone e name)) e _ v (own_kept c (made.PackageGone e name) own)
       (ap (with_seen (with_record c (made.PackageGone e name)) e body_key) (seen-first w is) ∙ second (is_some (visible c e body_key)) refl)
       shows
 

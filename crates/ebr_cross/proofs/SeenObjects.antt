@@ -6,13 +6,11 @@ use Rattle.ebr_base.specs.declared.object.ObjectKey.{ObjectKey}
 use Rattle.ebr_ast.specs.declared.definition.ObjectKind.{ObjectKind}
 use Rattle.ebr_ast.specs.declared.definition.ObjectKind.TheVariants as kind
 use Rattle.ebr_ast.specs.declared.view.Object.{Object}
-use Rattle.ebr_editions.specs.Objects.{next_stamp}
 use Rattle.ebr_cross.specs.declared.record.CatalogueRecord.{CatalogueRecord}
 use Rattle.ebr_cross.specs.declared.record.CatalogueRecord.TheVariants as made
 use Rattle.ebr_cross.specs.Catalogue.{Lists, visible}
 use Rattle.ebr_cross.specs.Kinds.{key_of}
-use Rattle.ebr_cross.specs.Definitions.{recording, object_of, put_object, altered, is_object_of, gone_record, missing_code, drop_object}
-use Rattle.ebr_cross.specs.inside.Steps.{hidden}
+use Rattle.ebr_cross.specs.Definitions.{object_of, put_object, altered, is_object_of, gone_record, missing_code, drop_object}
 
 -- ALTER TRIGGER puts the object that is seen, enabled or disabled
 pub alter-same : (c : Lists) (e : EditionNo) (key wanted : ObjectKey) (enabled : Bool) (o x : Object) → key ≡ wanted → Some o ≡ visible c e key → x ≡ o
@@ -20,19 +18,6 @@ pub alter-same : (c : Lists) (e : EditionNo) (key wanted : ObjectKey) (enabled :
 alter-same c e key wanted enabled o x is seen copied =
     ap (λ (k : Object). put_object c e key (object_of c e key k.text k.tree enabled)) copied
     ∙ (ap (altered c e key enabled) seen ∙ ap (λ k. altered c e k enabled (visible c e k)) is)
-
-some-if-object : (k : ObjectKind) (o : Option Object) → is_object_of k o ≡ true → is_some o ≡ true
-some-if-object k None h = h
-some-if-object k (Some o) h = refl
-
--- a drop hides a key under which an object of the kind is seen
-pub hide-same : (c : Lists) (e : EditionNo) (k : ObjectKind) (key : ObjectKey) (name : List ℕ) (r : CatalogueRecord) → key ≡ key_of k name → is_object_of k (visible c e key) ≡ true → r ≡ gone_record e k name
-    → hidden c e key r ≡ drop_object c e k name
-hide-same c e k key name r is seen gone =
-    ap (λ b. recording (λ stamp. r) (cond b (Ok (next_stamp c.entries e)) (Err (Ora 4043)))) (some-if-object k (visible c e key) seen)
-    ∙ (ap Ok gone
-    ∙ (sym (ap (λ b. cond b (Ok (gone_record e k name)) (Err (missing_code k))) seen)
-    ∙ ap (λ q. cond (is_object_of k (visible c e q)) (Ok (gone_record e k name)) (Err (missing_code k))) is))
 
 -- every kind but a package is dropped alone
 pub gone-alone : (e : EditionNo) (k : ObjectKind) (name : List ℕ) → k ≢ kind.Package → made.ObjectGone e (key_of k name) ≡ gone_record e k name

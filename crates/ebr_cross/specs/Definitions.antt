@@ -14,8 +14,6 @@ use Rattle.ebr_base.specs.declared.table.TableDef.{TableDef}
 use Rattle.ebr_base.specs.declared.value.ColType.{ColType}
 use Rattle.ebr_base.specs.declared.code.Code.{Code}
 use Rattle.ebr_base.specs.declared.code.Code.TheVariants.{Ora, Ebr}
-use Rattle.ebr_base.specs.declared.code.Stop.{Stop}
-use Rattle.ebr_base.specs.declared.code.Stop.TheVariants.{Raised, NoMemory}
 use Rattle.ebr_ast.specs.declared.definition.ColumnTree.{ColumnTree}
 use Rattle.ebr_ast.specs.declared.definition.Definition.{Definition}
 use Rattle.ebr_ast.specs.declared.definition.Definition.TheVariants as definition
@@ -34,13 +32,11 @@ use Rattle.ebr_base.specs.Keys.{same_key}
 use Rattle.ebr_editions.specs.Objects.{with_entry, next_stamp, actual_object, keys_of, visible_count, max_objects}
 use Rattle.ebr_tables.specs.Definitions.{has_repetition}
 use Rattle.ebr_tables.specs.Tables.{first_refusal, unless_refused, add_answer, remove_answer, next_id, kept_as}
-use Rattle.ebr_cross.specs.declared.catalogue.Catalogue.{Catalogue}
 use Rattle.ebr_cross.specs.declared.record.CatalogueRecord.{CatalogueRecord}
 use Rattle.ebr_cross.specs.declared.record.CatalogueRecord.TheVariants as made
-use Rattle.ebr_cross.specs.Catalogue.{Lists, ForLists, as_catalogue, visible, table_in}
+use Rattle.ebr_cross.specs.Catalogue.{Lists, visible, table_in}
 use Rattle.ebr_columns.specs.Columns.{column_type, is_bad_table, table_of}
 use Rattle.ebr_cross.specs.Kinds.{kind_of, name_of, key_of, unit_key, is_unit_class, is_of_kind}
-use Rattle.ebr_cross.specs.Records.{with_record}
 
 -- An answer of the lists of editions or tables, with the record that its value makes.
 abbrev pub recording : {T : Type 0} → (T → CatalogueRecord) → Result T Code → Result CatalogueRecord Code
@@ -283,10 +279,3 @@ outcome c e sessions (definition.DropTable name) text = drop_table c name
 outcome c e sessions (definition.AlterTrigger name enabled) text = alter_trigger c e name enabled
 outcome c e sessions (definition.DropObject k name) text = drop_object c e k name
 outcome c e sessions (definition.CreateObject replace u) text = create_object c e replace u text
-
--- What a call that carries out a definition does: it answers the record that is defined, and the catalogue is as that
--- record leaves it; or it refuses by the code that is defined, or finds no memory, and the catalogue is as it was.
-abbrev pub Applies : Catalogue → Catalogue → (Lists → Result CatalogueRecord Code) → Result CatalogueRecord Stop → Type 0
-Applies old new defined (Ok r) = ForLists old (λ c. (defined c ≡ Ok r) × (new ≡ as_catalogue (with_record c r)))
-Applies old new defined (Err (Raised code)) = ForLists old (λ c. defined c ≡ Err code) × (new ≡ old)
-Applies old new defined (Err NoMemory) = new ≡ old

@@ -1,6 +1,6 @@
 -- What each record leaves in the catalogue. A record is what a definition leaves for ever, so the catalogue of a database
 -- is read off its records in order, from the first lists on.
-use Rattle.std.specs.Prelude.{◌≡◌, ◌==◌, suc, ℕ, Bool, List, [], ◌∷◌, ◌++◌, Option, Some, None, option_map, find}
+use Rattle.std.specs.Prelude.{◌≡◌, ℕ, List, [], ◌∷◌, ◌++◌, Option, Some, None, option_map}
 use Rattle.std.specs.Option.{unwrap_or}
 use Rattle.ebr_base.specs.declared.numbers.EditionNo.{EditionNo}
 use Rattle.ebr_base.specs.declared.numbers.TableId.{TableId}
@@ -11,7 +11,7 @@ use Rattle.ebr_ast.specs.declared.view.EditionView.{EditionView}
 use Rattle.ebr_ast.specs.declared.view.Object.{Object}
 use Rattle.ebr_editions.specs.Editions.{Editions, new_edition, without_edition}
 use Rattle.ebr_editions.specs.Objects.{with_entry, without_both}
-use Rattle.ebr_tables.specs.Tables.{AllTables, with_column, without_table}
+use Rattle.ebr_tables.specs.Tables.{AllTables, table_of_id, with_column, with_definition, without_table}
 use Rattle.ebr_cross.specs.declared.record.CatalogueRecord.{CatalogueRecord}
 use Rattle.ebr_cross.specs.declared.record.CatalogueRecord.TheVariants as made
 use Rattle.ebr_cross.specs.declared.catalogue.Catalogue.{Catalogue}
@@ -26,16 +26,9 @@ with_child c name parent = record c { made = c.made ++ new_edition c.made name (
 abbrev pub with_object : Lists → EditionNo → ObjectKey → Option Object → Lists
 with_object c e key object = record c { entries = with_entry c.entries e key object }
 
--- one more table
-abbrev pub with_definition : AllTables → TableDef → AllTables
-with_definition s d = record { made = suc s.made; living = s.living ++ d ∷ [] }
-
-abbrev pub has_id : TableId → TableDef → Bool
-has_id id t = id.0 == t.id.0
-
 -- the name of the living table of an id
 abbrev pub table_name : AllTables → TableId → List ℕ
-table_name s id = unwrap_or (option_map (λ (t : TableDef). t.name) (find (has_id id) s.living)) []
+table_name s id = unwrap_or (option_map (λ (t : TableDef). t.name) (table_of_id id s.living)) []
 
 -- The lists after a record. A package goes with its body, where that is visible.
 abbrev pub with_record : Lists → CatalogueRecord → Lists

@@ -1,13 +1,14 @@
 //! The catalogue, and the definitions that change it.
 
-ghost use Rattle.std.specs.Prelude.{◌≡◌, IfOk, option_map};
+ghost use Rattle.std.specs.Prelude.{◌≡◌, true, IfOk, option_map};
 ghost use Rattle.std.specs.Option.{option_copied};
 ghost use Rattle.ebr_base.specs.Answers.{Answers};
 ghost use Rattle.ebr_editions.specs.Held.{deref_object};
 ghost use Rattle.ebr_editions.specs.Objects.{actual_at, keys_of};
-ghost use Rattle.ebr_cross.specs.Catalogue.{first_lists, as_catalogue, ForLists, HaveOwnKeys, visible, table_in};
-ghost use Rattle.ebr_cross.specs.Definitions.{outcome, set_edition, Applies};
-ghost use Rattle.ebr_cross.specs.Records.{with_record};
+ghost use Rattle.ebr_editions.specs.Editions.{is_living};
+ghost use Rattle.ebr_cross.specs.Catalogue.{first_lists, as_catalogue, ForLists, visible, table_in};
+ghost use Rattle.ebr_cross.specs.Definitions.{outcome, set_edition};
+ghost use Rattle.ebr_cross.specs.Following.{MayFollow};
 
 use crate::record::CatalogueRecord;
 use ebr_ast::{Definition, Object};
@@ -40,12 +41,12 @@ impl Catalogue {
         })
     }
 
-    /// Carries out a definition in an edition, and answers with the record that it makes.
+    /// What a definition in an edition would make: its record, which may be carried out, or the code by which it is refused.
     ///
     /// `sessions` are the editions in which sessions are, which DROP EDITION spares. `text` is the stored text of the object
     /// that the definition creates, from its first token to its last; where it creates none it is not read.
     ///
-    /// What refuses, in this order; an `Err` changes nothing:
+    /// What refuses, in this order:
     ///
     /// - CREATE EDITION: EBR-0031 the name is that of a living edition; ORA-38802 no such parent; EBR-0030 the parent has a
     ///   child; EBR-0035 256 editions live.
@@ -62,45 +63,7 @@ impl Catalogue {
     ///   another view on the table; EBR-0034 the edition would see more than 4,096 objects.
     /// - ALTER TRIGGER: ORA-04080 no such trigger; EBR-0034.
     /// - DROP of an object: ORA-04080 no such trigger, ORA-00942 no such view, ORA-04043 none of another kind.
-    #[tactic(auto, using(crate::proofs::OwnKeys::own_kept_ok))]
-    pub fn apply(
-        &mut self,
-        alloc: Global,
-        e: EditionNo,
-        sessions: &[EditionNo],
-        what: &Definition,
-        text: &Bytes,
-    ) -> Result<CatalogueRecord, Stop>
-        ensures applies { Applies self.old self.new (λ c. outcome c e sessions.now what.now text.now) result }
-        ensures own_keys { ForLists self.old (λ c. HaveOwnKeys c → IfOk result (λ r. HaveOwnKeys (with_record c r))) }
-    {
-        match what {
-            Definition::CreateEdition { name, parent } => {
-                self.create_edition(alloc, name, parent.as_ref())
-            }
-            Definition::DropEdition { name, cascade } => {
-                self.drop_edition(sessions, name, *cascade)
-            }
-            Definition::DefaultEdition(name) => self.set_default(name),
-            Definition::CreateTable { name, columns, key } => {
-                self.create_table(alloc, e, name, columns.as_slice(), key.as_slice())
-            }
-            Definition::AddColumn { table, column, ty } => {
-                self.add_column(alloc, table, column, ty)
-            }
-            Definition::DropTable(name) => self.drop_table(name),
-            Definition::AlterTrigger { name, enabled } => {
-                self.alter_trigger(alloc, e, name, *enabled)
-            }
-            Definition::DropObject { kind, name } => self.drop_object(alloc, e, *kind, name),
-            Definition::CreateObject { replace, unit } => {
-                self.create_object(alloc, e, *replace, unit, text)
-            }
-        }
-    }
-
-    /// What `apply` would answer, which changes nothing: the record, or the refusal.
-    pub fn outcome(
+    pub fn plan(
         &self,
         alloc: Global,
         e: EditionNo,
@@ -108,38 +71,38 @@ impl Catalogue {
         what: &Definition,
         text: &Bytes,
     ) -> Result<CatalogueRecord, Stop>
-        ensures { ForLists self.now (λ c. Answers result (outcome c e sessions.now what.now text.now)) }
+        ensures answer { ForLists self.now (λ c. Answers result (outcome c e sessions.now what.now text.now)) }
+        ensures follows { IfOk result (λ r. MayFollow self.now r) }
     {
         match what {
             Definition::CreateEdition { name, parent } => {
-                self.edition_outcome(alloc, name, parent.as_ref())
+                self.plan_edition(alloc, name, parent.as_ref())
             }
             Definition::DropEdition { name, cascade } => {
-                self.edition_drop_outcome(sessions, name, *cascade)
+                self.plan_edition_drop(sessions, name, *cascade)
             }
-            Definition::DefaultEdition(name) => self.default_outcome(name),
+            Definition::DefaultEdition(name) => self.plan_default(name),
             Definition::CreateTable { name, columns, key } => {
-                self.table_outcome(alloc, e, name, columns.as_slice(), key.as_slice())
+                self.plan_table(alloc, e, name, columns.as_slice(), key.as_slice())
             }
             Definition::AddColumn { table, column, ty } => {
-                self.column_outcome(alloc, table, column, ty)
+                self.plan_column(alloc, table, column, ty)
             }
-            Definition::DropTable(name) => self.table_drop_outcome(name),
+            Definition::DropTable(name) => self.plan_table_drop(name),
             Definition::AlterTrigger { name, enabled } => {
-                self.trigger_outcome(alloc, e, name, *enabled)
+                self.plan_trigger(alloc, e, name, *enabled)
             }
-            Definition::DropObject { kind, name } => {
-                self.object_drop_outcome(alloc, e, *kind, name)
-            }
+            Definition::DropObject { kind, name } => self.plan_object_drop(alloc, e, *kind, name),
             Definition::CreateObject { replace, unit } => {
-                self.object_outcome(alloc, e, *replace, unit, text)
+                self.plan_object(alloc, e, *replace, unit, text)
             }
         }
     }
 
     /// The living edition of a name, which ALTER SESSION SET EDITION asks for; ORA-38802 where there is none.
     pub fn edition_named(&self, name: &Name) -> Result<EditionNo, Code>
-        ensures { result ≡ set_edition self.now.chain.made name.now }
+        ensures answer { result ≡ set_edition self.now.chain.made name.now }
+        ensures lives { IfOk result (λ e. is_living self.now.chain.made e ≡ true) }
     {
         match self.chain.number(name) {
             Some(e) => Ok(e),

@@ -1,45 +1,31 @@
 //! Definitions of editions.
 
-ghost use Rattle.std.specs.Prelude.{◌≡◌, Some, Ok, false, IfOk, IfNone};
+ghost use Rattle.std.specs.Prelude.{◌≡◌, ◌≢◌, None, true, IfOk, IfNone};
 ghost use Rattle.std.specs.Option.{option_copied};
 ghost use Rattle.std.specs.List.{list_any};
 ghost use Rattle.ebr_base.specs.Answers.{Answers};
-ghost use Rattle.ebr_editions.specs.Editions.{is_edition, edition_named, drop_answer};
+ghost use Rattle.ebr_editions.specs.Editions.{child_of, drop_answer, is_edition, is_living};
 ghost use Rattle.ebr_cross.specs.Catalogue.{ForLists};
-ghost use Rattle.ebr_cross.specs.Definitions.{Applies, recording, has_objects};
+ghost use Rattle.ebr_cross.specs.Definitions.{recording, has_objects};
+ghost use Rattle.ebr_cross.specs.Following.{MayFollow};
 ghost use Rattle.ebr_cross.specs.Definitions as spec;
 ghost use Rattle.ebr_cross.specs.declared.record.CatalogueRecord.TheVariants as made;
 
 use crate::catalogue::Catalogue;
-use crate::record::{CatalogueRecord, after};
+use crate::record::CatalogueRecord;
 use ebr_base::{CloneIn, Code, EditionNo, Name, Stop};
 use std::alloc::Global;
 
 impl Catalogue {
-    /// CREATE EDITION. Refusals: those of `Chain::create`.
-    pub(crate) fn create_edition(
-        &mut self,
-        alloc: Global,
-        name: &Name,
-        parent: Option<&Name>,
-    ) -> Result<CatalogueRecord, Stop>
-        ensures { Applies self.old self.new (λ c. spec.create_edition c name.now (option_copied parent.entry)) result }
-    {
-        let copy = name.clone_in(alloc)?;
-        match self.edition_outcome(alloc, name, parent) {
-            Ok(record) => after(self.chain.create(copy, parent), record),
-            Err(stop) => Err(stop),
-        }
-    }
-
-    /// What CREATE EDITION answers.
-    pub(crate) fn edition_outcome(
+    /// The plan of CREATE EDITION. Refusals: those of `Chain::place_for`.
+    pub(crate) fn plan_edition(
         &self,
         alloc: Global,
         name: &Name,
         parent: Option<&Name>,
     ) -> Result<CatalogueRecord, Stop>
-        ensures { ForLists self.now (λ c. Answers result (spec.create_edition c name.now (option_copied parent.entry))) }
+        ensures answer { ForLists self.now (λ c. Answers result (spec.create_edition c name.now (option_copied parent.entry))) }
+        ensures follows { IfOk result (λ r. MayFollow self.now r) }
     {
         match self.chain.place_for(name, parent) {
             Ok(parent) => Ok(CatalogueRecord::Edition {
@@ -50,32 +36,15 @@ impl Catalogue {
         }
     }
 
-    /// DROP EDITION. Refusals: those of `leaf_to_drop`.
-    pub(crate) fn drop_edition(
-        &mut self,
-        sessions: &[EditionNo],
-        name: &Name,
-        cascade: bool,
-    ) -> Result<CatalogueRecord, Stop>
-        ensures { Applies self.old self.new (λ c. spec.drop_edition c sessions.now name.now cascade) result }
-    {
-        match self.leaf_to_drop(sessions, name, cascade) {
-            Ok(e) => {
-                self.chain.drop_leaf(name).unwrap();
-                Ok(CatalogueRecord::EditionGone(e))
-            }
-            Err(code) => Err(Stop::Raised(code)),
-        }
-    }
-
-    /// What DROP EDITION answers.
-    pub(crate) fn edition_drop_outcome(
+    /// The plan of DROP EDITION. Refusals: those of `leaf_to_drop`.
+    pub(crate) fn plan_edition_drop(
         &self,
         sessions: &[EditionNo],
         name: &Name,
         cascade: bool,
     ) -> Result<CatalogueRecord, Stop>
-        ensures { ForLists self.now (λ c. Answers result (spec.drop_edition c sessions.now name.now cascade)) }
+        ensures answer { ForLists self.now (λ c. Answers result (spec.drop_edition c sessions.now name.now cascade)) }
+        ensures follows { IfOk result (λ r. MayFollow self.now r) }
     {
         match self.leaf_to_drop(sessions, name, cascade) {
             Ok(e) => Ok(CatalogueRecord::EditionGone(e)),
@@ -92,9 +61,9 @@ impl Catalogue {
         cascade: bool,
     ) -> Result<EditionNo, Code>
         ensures answer { ForLists self.now (λ c. recording made.EditionGone result ≡ spec.drop_edition c sessions.now name.now cascade) }
-        ensures drops { IfOk result (λ e. drop_answer self.now.chain.made name.now ≡ Ok e) }
-        ensures named { IfOk result (λ e. edition_named self.now.chain.made name.now ≡ Some e) }
-        ensures spared { IfOk result (λ e. is_edition e self.now.chain.default ≡ false) }
+        ensures lives { IfOk result (λ e. is_living self.now.chain.made e ≡ true) }
+        ensures childless { IfOk result (λ e. child_of self.now.chain.made e ≡ None) }
+        ensures spared { IfOk result (λ e. e ≢ self.now.chain.default) }
     {
         let e = self.droppable(name)?;
         match self.drop_refusal(sessions, cascade, e) {
@@ -106,7 +75,8 @@ impl Catalogue {
     /// The edition of a name, which must be the leaf.
     fn droppable(&self, name: &Name) -> Result<EditionNo, Code>
         ensures answer { result ≡ drop_answer self.now.chain.made name.now }
-        ensures named { IfOk result (λ e. edition_named self.now.chain.made name.now ≡ Some e) }
+        ensures lives { IfOk result (λ e. is_living self.now.chain.made e ≡ true) }
+        ensures childless { IfOk result (λ e. child_of self.now.chain.made e ≡ None) }
     {
         let Some(e) = self.chain.number(name) else {
             return Err(Code::Ora(38802));
@@ -120,7 +90,7 @@ impl Catalogue {
     /// The code by which DROP EDITION refuses a leaf.
     fn drop_refusal(&self, sessions: &[EditionNo], cascade: bool, e: EditionNo) -> Option<Code>
         ensures refusal { ForLists self.now (λ c. result ≡ spec.drop_refusal c sessions.now cascade e) }
-        ensures spared { IfNone result (is_edition e self.now.chain.default ≡ false) }
+        ensures spared { IfNone result (e ≢ self.now.chain.default) }
     {
         if e == self.chain.default() {
             return Some(Code::Ebr(33));
@@ -146,25 +116,13 @@ impl Catalogue {
         false
     }
 
-    /// What ALTER DATABASE DEFAULT EDITION answers.
-    pub(crate) fn default_outcome(&self, name: &Name) -> Result<CatalogueRecord, Stop>
-        ensures { ForLists self.now (λ c. Answers result (spec.default_edition c name.now)) }
+    /// The plan of ALTER DATABASE DEFAULT EDITION. Refusal: ORA-38802 where no living edition has the name.
+    pub(crate) fn plan_default(&self, name: &Name) -> Result<CatalogueRecord, Stop>
+        ensures answer { ForLists self.now (λ c. Answers result (spec.default_edition c name.now)) }
+        ensures follows { IfOk result (λ r. MayFollow self.now r) }
     {
         match self.edition_named(name) {
             Ok(e) => Ok(CatalogueRecord::Default(e)),
-            Err(code) => Err(Stop::Raised(code)),
-        }
-    }
-
-    /// ALTER DATABASE DEFAULT EDITION. Refusal: ORA-38802 where no living edition has the name.
-    pub(crate) fn set_default(&mut self, name: &Name) -> Result<CatalogueRecord, Stop>
-        ensures { Applies self.old self.new (λ c. spec.default_edition c name.now) result }
-    {
-        match self.edition_named(name) {
-            Ok(e) => {
-                self.chain.set_default(name).unwrap();
-                Ok(CatalogueRecord::Default(e))
-            }
             Err(code) => Err(Stop::Raised(code)),
         }
     }

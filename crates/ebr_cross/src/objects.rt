@@ -3,12 +3,10 @@
 ghost use Rattle.std.specs.Prelude.{◌≡◌, Some, IfOk};
 ghost use Rattle.ebr_base.specs.Answers.{Answers};
 ghost use Rattle.ebr_cross.specs.Catalogue.{ForLists, visible};
-ghost use Rattle.ebr_cross.specs.Definitions.{Applies};
 ghost use Rattle.ebr_cross.specs.Definitions as spec;
 ghost use Rattle.ebr_cross.specs.Kinds as kinds_spec;
-ghost use Rattle.ebr_ast.specs.declared.definition.ObjectKind.TheVariants as kind;
-ghost use Rattle.ebr_cross.specs.declared.record.CatalogueRecord.TheVariants as made;
-ghost use Rattle.ebr_cross.specs.inside.Steps.{FindsKey, MakesObject, hidden};
+ghost use Rattle.ebr_cross.specs.Following.{MayFollow};
+ghost use Rattle.ebr_cross.specs.inside.Steps.{FindsKey, MakesObject};
 
 use crate::catalogue::Catalogue;
 use crate::kinds::{is_of_kind, key_of, kind_of, name_of};
@@ -18,25 +16,8 @@ use ebr_base::{Bytes, CloneIn, Code, EditionNo, Name, NoMemory, ObjectKey, Share
 use std::alloc::Global;
 
 impl Catalogue {
-    /// CREATE of a unit or an editioning view. Refusals: those of `new_object`.
-    pub(crate) fn create_object(
-        &mut self,
-        alloc: Global,
-        e: EditionNo,
-        replace: bool,
-        unit: &UnitTree,
-        text: &Bytes,
-    ) -> Result<CatalogueRecord, Stop>
-        ensures { Applies self.old self.new (λ c. spec.create_object c e replace unit.now text.now) result }
-    {
-        match self.new_object(alloc, e, replace, unit, text) {
-            Ok(object) => self.put_object(alloc, object),
-            Err(stop) => Err(stop),
-        }
-    }
-
-    /// What CREATE of a unit or an editioning view answers.
-    pub(crate) fn object_outcome(
+    /// The plan of CREATE of a unit or an editioning view. Refusals: those of `new_object`.
+    pub(crate) fn plan_object(
         &self,
         alloc: Global,
         e: EditionNo,
@@ -44,7 +25,8 @@ impl Catalogue {
         unit: &UnitTree,
         text: &Bytes,
     ) -> Result<CatalogueRecord, Stop>
-        ensures { ForLists self.now (λ c. Answers result (spec.create_object c e replace unit.now text.now)) }
+        ensures answer { ForLists self.now (λ c. Answers result (spec.create_object c e replace unit.now text.now)) }
+        ensures follows { IfOk result (λ r. MayFollow self.now r) }
     {
         match self.new_object(alloc, e, replace, unit, text) {
             Ok(object) => Ok(CatalogueRecord::Object(object)),
@@ -62,7 +44,7 @@ impl Catalogue {
         unit: &UnitTree,
         text: &Bytes,
     ) -> Result<Shared<Object>, Stop>
-        ensures { ForLists self.now (λ c. MakesObject c (spec.create_object c e replace unit.now text.now) result) }
+        ensures { ForLists self.now (λ c. MakesObject (spec.create_object c e replace unit.now text.now) result) }
     {
         match (kind_of(unit), name_of(unit)) {
             (Some(kind), Some(name)) => {
@@ -83,7 +65,7 @@ impl Catalogue {
         unit: &UnitTree,
         text: &Bytes,
     ) -> Result<Shared<Object>, Stop>
-        ensures { ForLists self.now (λ c. MakesObject c (spec.object_named c e replace unit.now text.now (Some kind) (Some name.now)) result) }
+        ensures { ForLists self.now (λ c. MakesObject (spec.object_named c e replace unit.now text.now (Some kind) (Some name.now)) result) }
     {
         let key = key_of(alloc, kind, name)?;
         if let Some(code) = self.creation_refusal(alloc, e, replace, kind, &key, unit)? {
@@ -92,31 +74,16 @@ impl Catalogue {
         self.allowed_object(alloc, e, &key, text, unit, is_enabled(unit))
     }
 
-    /// ALTER TRIGGER. Refusals: those of `altered_trigger`.
-    pub(crate) fn alter_trigger(
-        &mut self,
-        alloc: Global,
-        e: EditionNo,
-        name: &Name,
-        enabled: bool,
-    ) -> Result<CatalogueRecord, Stop>
-        ensures { Applies self.old self.new (λ c. spec.alter_trigger c e name.now enabled) result }
-    {
-        match self.altered_trigger(alloc, e, name, enabled) {
-            Ok(object) => self.put_object(alloc, object),
-            Err(stop) => Err(stop),
-        }
-    }
-
-    /// What ALTER TRIGGER answers.
-    pub(crate) fn trigger_outcome(
+    /// The plan of ALTER TRIGGER. Refusals: those of `altered_trigger`.
+    pub(crate) fn plan_trigger(
         &self,
         alloc: Global,
         e: EditionNo,
         name: &Name,
         enabled: bool,
     ) -> Result<CatalogueRecord, Stop>
-        ensures { ForLists self.now (λ c. Answers result (spec.alter_trigger c e name.now enabled)) }
+        ensures answer { ForLists self.now (λ c. Answers result (spec.alter_trigger c e name.now enabled)) }
+        ensures follows { IfOk result (λ r. MayFollow self.now r) }
     {
         match self.altered_trigger(alloc, e, name, enabled) {
             Ok(object) => Ok(CatalogueRecord::Object(object)),
@@ -133,7 +100,7 @@ impl Catalogue {
         name: &Name,
         enabled: bool,
     ) -> Result<Shared<Object>, Stop>
-        ensures { ForLists self.now (λ c. MakesObject c (spec.alter_trigger c e name.now enabled) result) }
+        ensures { ForLists self.now (λ c. MakesObject (spec.alter_trigger c e name.now enabled) result) }
     {
         let key = key_of(alloc, ObjectKind::Trigger, name)?;
         let Some(trigger) = self.visible(e, &key) else {
@@ -153,25 +120,12 @@ impl Catalogue {
         tree: &UnitTree,
         enabled: bool,
     ) -> Result<Shared<Object>, Stop>
-        ensures { ForLists self.now (λ c. MakesObject c (spec.put_object c e key.now (spec.object_of c e key.now text.now tree.now enabled)) result) }
+        ensures { ForLists self.now (λ c. MakesObject (spec.put_object c e key.now (spec.object_of c e key.now text.now tree.now enabled)) result) }
     {
         let object = self.object_of(alloc, e, key, text, tree, enabled)?;
         match self.actuals.put_answer(&self.chain, e, key, &object) {
             Ok(_) => Ok(object),
             Err(code) => Err(Stop::Raised(code)),
-        }
-    }
-
-    /// Makes an object actual in the edition of its stamp.
-    fn put_object(&mut self, alloc: Global, object: Shared<Object>) -> Result<CatalogueRecord, Stop>
-        ensures { Applies self.old self.new (λ c. spec.put_object c object.stamp.edition object.key object) result }
-    {
-        let e = object.get().stamp.edition;
-        let key = object.get().key.clone_in(alloc)?;
-        let shared = object.clone_in(alloc)?;
-        match self.actuals.put(&self.chain, e, key, shared) {
-            Ok(_) => Ok(CatalogueRecord::Object(object)),
-            Err(stop) => Err(stop),
         }
     }
 
@@ -200,31 +154,16 @@ impl Catalogue {
         Ok(Shared::new(alloc, object)?)
     }
 
-    /// DROP of an object. Refusals: those of `key_to_drop`. DROP PACKAGE takes the body along, where it is visible.
-    pub(crate) fn drop_object(
-        &mut self,
-        alloc: Global,
-        e: EditionNo,
-        kind: ObjectKind,
-        name: &Name,
-    ) -> Result<CatalogueRecord, Stop>
-        ensures { Applies self.old self.new (λ c. spec.drop_object c e kind name.now) result }
-    {
-        match self.key_to_drop(alloc, e, kind, name) {
-            Ok(key) => self.hide(alloc, e, kind, key, name),
-            Err(stop) => Err(stop),
-        }
-    }
-
-    /// What DROP of an object answers.
-    pub(crate) fn object_drop_outcome(
+    /// The plan of DROP of an object. Refusals: those of `key_to_drop`. DROP PACKAGE takes the body along, where it is visible.
+    pub(crate) fn plan_object_drop(
         &self,
         alloc: Global,
         e: EditionNo,
         kind: ObjectKind,
         name: &Name,
     ) -> Result<CatalogueRecord, Stop>
-        ensures { ForLists self.now (λ c. Answers result (spec.drop_object c e kind name.now)) }
+        ensures answer { ForLists self.now (λ c. Answers result (spec.drop_object c e kind name.now)) }
+        ensures follows { IfOk result (λ r. MayFollow self.now r) }
     {
         match self.key_to_drop(alloc, e, kind, name) {
             Ok(key) => Ok(gone_record(alloc, e, kind, key, name)?),
@@ -249,56 +188,6 @@ impl Catalogue {
             return Err(Stop::Raised(missing_code(kind)));
         }
         Ok(key)
-    }
-
-    /// Hides an object that is visible.
-    fn hide(
-        &mut self,
-        alloc: Global,
-        e: EditionNo,
-        kind: ObjectKind,
-        key: ObjectKey,
-        name: &Name,
-    ) -> Result<CatalogueRecord, Stop>
-        requires { key ≡ kinds_spec.key_of kind name.now }
-        ensures { Applies self.old self.new (λ c. hidden c e key (spec.gone_record e kind name.now)) result }
-    {
-        match kind {
-            ObjectKind::Package => self.hide_package(alloc, e, &key, name),
-            _ => self.hide_object(e, key),
-        }
-    }
-
-    /// Hides a key that is visible.
-    fn hide_object(&mut self, e: EditionNo, key: ObjectKey) -> Result<CatalogueRecord, Stop>
-        ensures { Applies self.old self.new (λ c. hidden c e key (made.ObjectGone e key)) result }
-    {
-        match self.actuals.hide(&self.chain, e, &key) {
-            Ok(_) => Ok(CatalogueRecord::ObjectGone { edition: e, key }),
-            Err(stop) => Err(stop),
-        }
-    }
-
-    /// Hides a package that is visible, and its body, where that is visible.
-    fn hide_package(
-        &mut self,
-        alloc: Global,
-        e: EditionNo,
-        key: &ObjectKey,
-        name: &Name,
-    ) -> Result<CatalogueRecord, Stop>
-        requires { key.now ≡ kinds_spec.key_of kind.Package name.now }
-        ensures { Applies self.old self.new (λ c. hidden c e key.now (made.PackageGone e name.now)) result }
-    {
-        let body = key_of(alloc, ObjectKind::PackageBody, name)?;
-        let copy = name.clone_in(alloc)?;
-        match self.actuals.hide_both(&self.chain, e, key, &body) {
-            Ok(_) => Ok(CatalogueRecord::PackageGone {
-                edition: e,
-                name: copy,
-            }),
-            Err(stop) => Err(stop),
-        }
     }
 
     /// Whether the edition sees an object of a kind under a key.

@@ -1,10 +1,7 @@
 //! What definitions leave for ever.
 
-ghost use Rattle.std.specs.Prelude.{◌≡◌};
-ghost use Rattle.ebr_cross.specs.inside.Steps.{after};
-
 use ebr_ast::Object;
-use ebr_base::{Column, EditionNo, Name, ObjectKey, Shared, Stop, TableDef, TableId};
+use ebr_base::{Column, EditionNo, Name, ObjectKey, Shared, TableDef, TableId};
 
 /// What one definition changed in the catalogue. The catalogue is read off these records in order.
 #[derive(Drop)]
@@ -27,14 +24,4 @@ pub enum CatalogueRecord {
     Column { table: TableId, column: Column },
     /// A table was dropped.
     TableGone(TableId),
-}
-
-/// A value, where what was to be done was done. It is generic so that what it drops is dropped by one call.
-pub fn after<A: Drop, T: Drop>(done: Result<A, Stop>, value: T) -> Result<T, Stop>
-    ensures { result ≡ after done value }
-{
-    match done {
-        Ok(_) => Ok(value),
-        Err(stop) => Err(stop),
-    }
 }

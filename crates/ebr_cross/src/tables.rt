@@ -1,18 +1,18 @@
 //! Definitions of tables.
 
-ghost use Rattle.std.specs.Prelude.{◌≡◌, Some, IfOk, IfSome};
+ghost use Rattle.std.specs.Prelude.{◌≡◌, IfOk, IfSome, IsSome};
 ghost use Rattle.ebr_base.specs.Answers.{Answers};
-ghost use Rattle.ebr_tables.specs.Tables.{kept_as, unless_refused};
+ghost use Rattle.ebr_tables.specs.Tables.{kept_as, table_of_id, unless_refused};
 ghost use Rattle.ebr_cross.specs.Catalogue.{ForLists, table_in};
 ghost use Rattle.ebr_columns.specs.Columns as columns_spec;
-ghost use Rattle.ebr_cross.specs.Definitions.{Applies};
 ghost use Rattle.ebr_cross.specs.Definitions as spec;
+ghost use Rattle.ebr_cross.specs.Following.{MayFollow, MayWiden};
 ghost use Rattle.ebr_cross.specs.Records.{table_name};
-ghost use Rattle.ebr_cross.specs.inside.Steps.{first_table_refusal, MakesColumn, made_table, put_column, id_in};
+ghost use Rattle.ebr_cross.specs.inside.Steps.{first_table_refusal, MakesColumn, made_table, id_in};
 
 use crate::catalogue::Catalogue;
 use crate::kinds::unit_key;
-use crate::record::{CatalogueRecord, after};
+use crate::record::CatalogueRecord;
 use ebr_ast::{ColumnTree, DeclaredType};
 use ebr_base::{
     CloneIn, Code, ColType, Column, EditionNo, Name, NoMemory, Stop, TableDef, TableId,
@@ -25,24 +25,6 @@ use std::alloc::Global;
 const MAX_COLUMNS: usize = 64;
 
 impl Catalogue {
-    /// CREATE TABLE. Refusals, in this order: ORA-00955 where a table, or an object of class Unit that the edition sees, has
-    /// the name; EBR-0029 of a bad table; EBR-0036 where there are more than 64 columns; EBR-0037 where 1,000 tables live.
-    pub(crate) fn create_table(
-        &mut self,
-        alloc: Global,
-        e: EditionNo,
-        name: &Name,
-        columns: &[ColumnTree],
-        key: &[Name],
-    ) -> Result<CatalogueRecord, Stop>
-        ensures { Applies self.old self.new (λ c. spec.create_table c e name.now columns.now key.now) result }
-    {
-        match self.table_of(alloc, e, name, columns, key) {
-            Ok(def) => self.add_table(alloc, def),
-            Err(stop) => Err(stop),
-        }
-    }
-
     /// The table that CREATE TABLE defines, where it isn't refused before the number of tables is tested.
     fn table_of(
         &self,
@@ -83,8 +65,9 @@ impl Catalogue {
         Ok(self.table(name).is_some() || self.visible(e, &key).is_some())
     }
 
-    /// What CREATE TABLE answers.
-    pub(crate) fn table_outcome(
+    /// The plan of CREATE TABLE. Refusals, in this order: ORA-00955 where a table, or an object of class Unit that the edition sees,
+    /// has the name; EBR-0029 of a bad table; EBR-0036 where there are more than 64 columns; EBR-0037 where 1,000 tables live.
+    pub(crate) fn plan_table(
         &self,
         alloc: Global,
         e: EditionNo,
@@ -92,7 +75,8 @@ impl Catalogue {
         columns: &[ColumnTree],
         key: &[Name],
     ) -> Result<CatalogueRecord, Stop>
-        ensures { ForLists self.now (λ c. Answers result (spec.create_table c e name.now columns.now key.now)) }
+        ensures answer { ForLists self.now (λ c. Answers result (spec.create_table c e name.now columns.now key.now)) }
+        ensures follows { IfOk result (λ r. MayFollow self.now r) }
     {
         match self.table_of(alloc, e, name, columns, key) {
             Ok(def) => self.table_record(alloc, &def),
@@ -100,19 +84,10 @@ impl Catalogue {
         }
     }
 
-    /// Makes a table, whose name no object has.
-    fn add_table(&mut self, alloc: Global, def: TableDef) -> Result<CatalogueRecord, Stop>
-        ensures { Applies self.old self.new (λ c. made_table c def) result }
-    {
-        match self.table_record(alloc, &def) {
-            Ok(record) => after(self.tables.create(def), record),
-            Err(stop) => Err(stop),
-        }
-    }
-
-    /// What making a table answers, whose name no object has.
+    /// The plan of a table whose name no object has.
     fn table_record(&self, alloc: Global, def: &TableDef) -> Result<CatalogueRecord, Stop>
-        ensures { ForLists self.now (λ c. Answers result (made_table c def.now)) }
+        ensures answer { ForLists self.now (λ c. Answers result (made_table c def.now)) }
+        ensures follows { IfOk result (λ r. MayFollow self.now r) }
     {
         if let Some(code) = self.tables.create_refusal(def) {
             return Err(Stop::Raised(code));
@@ -121,31 +96,16 @@ impl Catalogue {
         Ok(CatalogueRecord::Table(kept_copy(alloc, id, def)?))
     }
 
-    /// ALTER TABLE ADD. Refusals: those of `column_for`.
-    pub(crate) fn add_column(
-        &mut self,
-        alloc: Global,
-        table: &Name,
-        name: &Name,
-        ty: &DeclaredType,
-    ) -> Result<CatalogueRecord, Stop>
-        ensures { Applies self.old self.new (λ c. spec.add_column c table.now name.now ty.now) result }
-    {
-        match self.column_for(alloc, table, name, ty) {
-            Ok((id, column)) => self.widen(alloc, table, id, column),
-            Err(stop) => Err(stop),
-        }
-    }
-
-    /// What ALTER TABLE ADD answers.
-    pub(crate) fn column_outcome(
+    /// The plan of ALTER TABLE ADD. Refusals: those of `column_for`.
+    pub(crate) fn plan_column(
         &self,
         alloc: Global,
         table: &Name,
         name: &Name,
         ty: &DeclaredType,
     ) -> Result<CatalogueRecord, Stop>
-        ensures { ForLists self.now (λ c. Answers result (spec.add_column c table.now name.now ty.now)) }
+        ensures answer { ForLists self.now (λ c. Answers result (spec.add_column c table.now name.now ty.now)) }
+        ensures follows { IfOk result (λ r. MayFollow self.now r) }
     {
         match self.column_for(alloc, table, name, ty) {
             Ok((table, column)) => Ok(CatalogueRecord::Column { table, column }),
@@ -162,9 +122,8 @@ impl Catalogue {
         name: &Name,
         ty: &DeclaredType,
     ) -> Result<(TableId, Column), Stop>
-        ensures made { ForLists self.now (λ c. MakesColumn (table_in c table.now) (spec.add_column c table.now name.now ty.now) result) }
-        ensures there { IfOk result (λ p. id_in self.now table.now ≡ Some p.0) }
-        ensures named { IfOk result (λ p. table_name self.now.tables p.0 ≡ table.now) }
+        ensures made { ForLists self.now (λ c. MakesColumn (spec.add_column c table.now name.now ty.now) result) }
+        ensures follows { IfOk result (λ p. MayWiden self.now.tables p.0 p.1) }
     {
         let Some(id) = self.table_id(table) else {
             return Err(Stop::Raised(Code::Ora(942)));
@@ -182,6 +141,7 @@ impl Catalogue {
     /// The id of the living table of a name.
     fn table_id(&self, name: &Name) -> Option<TableId>
         ensures id { result ≡ id_in self.now name.now }
+        ensures there { IfSome result (λ id. IsSome (table_of_id id self.now.tables.living)) }
         ensures named { IfSome result (λ id. table_name self.now.tables id ≡ name.now) }
     {
         match self.tables.find(name) {
@@ -190,56 +150,14 @@ impl Catalogue {
         }
     }
 
-    /// Adds a column to a table.
-    fn widen(
-        &mut self,
-        alloc: Global,
-        table: &Name,
-        id: TableId,
-        column: Column,
-    ) -> Result<CatalogueRecord, Stop>
-        requires there { id_in self.old table.now ≡ Some id }
-        requires named { table_name self.old.tables id ≡ table.now }
-        ensures { Applies self.old self.new (λ c. put_column (table_in c table.now) column) result }
-    {
-        let copy = column.clone_in(alloc)?;
-        match self.tables.add_column(table, column) {
-            Ok(()) => Ok(CatalogueRecord::Column {
-                table: id,
-                column: copy,
-            }),
-            Err(stop) => Err(stop),
-        }
-    }
-
-    /// What DROP TABLE answers.
-    pub(crate) fn table_drop_outcome(&self, name: &Name) -> Result<CatalogueRecord, Stop>
-        ensures { ForLists self.now (λ c. Answers result (spec.drop_table c name.now)) }
+    /// The plan of DROP TABLE. Refusal: ORA-00942 where no table has the name.
+    pub(crate) fn plan_table_drop(&self, name: &Name) -> Result<CatalogueRecord, Stop>
+        ensures answer { ForLists self.now (λ c. Answers result (spec.drop_table c name.now)) }
+        ensures follows { IfOk result (λ r. MayFollow self.now r) }
     {
         match self.table_id(name) {
             Some(id) => Ok(CatalogueRecord::TableGone(id)),
             None => Err(Stop::Raised(Code::Ora(942))),
-        }
-    }
-
-    /// DROP TABLE. Refusal: ORA-00942 where no table has the name.
-    pub(crate) fn drop_table(&mut self, name: &Name) -> Result<CatalogueRecord, Stop>
-        ensures { Applies self.old self.new (λ c. spec.drop_table c name.now) result }
-    {
-        let Some(id) = self.table_id(name) else {
-            return Err(Stop::Raised(Code::Ora(942)));
-        };
-        self.remove_table(name, id)
-    }
-
-    fn remove_table(&mut self, name: &Name, id: TableId) -> Result<CatalogueRecord, Stop>
-        requires there { id_in self.old name.now ≡ Some id }
-        requires named { table_name self.old.tables id ≡ name.now }
-        ensures { Applies self.old self.new (λ c. spec.drop_table c name.now) result }
-    {
-        match self.tables.remove(name) {
-            Ok(_) => Ok(CatalogueRecord::TableGone(id)),
-            Err(code) => Err(Stop::Raised(code)),
         }
     }
 }

@@ -11,17 +11,16 @@ use Rattle.ebr_base.specs.declared.table.TableDef.{TableDef}
 use Rattle.ebr_ast.specs.declared.definition.ColumnTree.{ColumnTree}
 use Rattle.ebr_ast.specs.declared.definition.ObjectKind.{ObjectKind}
 use Rattle.ebr_base.specs.declared.object.ObjectKey.{ObjectKey}
-use Rattle.ebr_editions.specs.Objects.{hide_answer}
 use Rattle.ebr_ast.specs.declared.unit.EditioningView.{EditioningView}
 use Rattle.ebr_ast.specs.declared.view.Object.{Object}
 use Rattle.ebr_base.specs.Keys.{table_named}
-use Rattle.ebr_tables.specs.Tables.{first_refusal, create_answer, add_answer, kept_as}
+use Rattle.ebr_tables.specs.Tables.{first_refusal, create_answer, kept_as}
 use Rattle.ebr_cross.specs.declared.catalogue.Catalogue.{Catalogue}
 use Rattle.ebr_cross.specs.declared.record.CatalogueRecord.{CatalogueRecord}
 use Rattle.ebr_cross.specs.declared.record.CatalogueRecord.TheVariants as made
 use Rattle.ebr_cross.specs.Catalogue.{Lists, visible, table_in}
 use Rattle.ebr_columns.specs.Columns.{is_bad_table}
-use Rattle.ebr_cross.specs.Definitions.{recording, is_taken, id_of, put_object, is_object_of, has_columns}
+use Rattle.ebr_cross.specs.Definitions.{recording, is_taken, is_object_of, has_columns}
 
 -- the refusals of CREATE TABLE before the number of tables is tested
 abbrev pub first_table_refusal : Lists → EditionNo → List ℕ → List ColumnTree → List (List ℕ) → Option Code
@@ -36,36 +35,23 @@ Makes IsSo defined (Ok x) = IsSo x
 Makes IsSo defined (Err (Raised code)) = defined ≡ Err code
 Makes IsSo defined (Err NoMemory) = Unit {0}
 
--- ALTER TABLE ADD of a column that has a type
-abbrev pub put_column : Option TableDef → Column → Result CatalogueRecord Code
-put_column t column = recording {T = Unit {0}} (λ u. made.Column (id_of t) column) (add_answer t column)
-
 -- the column that a definition adds to a table, with the table's id
-abbrev pub MakesColumn : Option TableDef → Result CatalogueRecord Code → Result (TableId × Column) Stop → Type 0
-MakesColumn t defined r = Makes (λ (p : TableId × Column). (defined ≡ Ok (made.Column p.0 p.1)) × (put_column t p.1 ≡ Ok (made.Column p.0 p.1))) defined r
+abbrev pub MakesColumn : Result CatalogueRecord Code → Result (TableId × Column) Stop → Type 0
+MakesColumn defined r = Makes (λ (p : TableId × Column). defined ≡ Ok (made.Column p.0 p.1)) defined r
 
--- the object that a definition makes, which may be made actual in the edition of its stamp
-abbrev pub MakesObject : Lists → Result CatalogueRecord Code → Result Object Stop → Type 0
-MakesObject c defined r = Makes (λ (o : Object). (defined ≡ Ok (made.Object o)) × (put_object c o.stamp.edition o.key o ≡ Ok (made.Object o))) defined r
+-- the object that a definition makes
+abbrev pub MakesObject : Result CatalogueRecord Code → Result Object Stop → Type 0
+MakesObject defined r = Makes (λ (o : Object). defined ≡ Ok (made.Object o)) defined r
 
 -- the key under which an edition sees the object that a definition drops
 abbrev pub FindsKey : Lists → EditionNo → ObjectKind → Result CatalogueRecord Code → Result ObjectKey Stop → Type 0
 FindsKey c e k defined r = Makes (λ (key : ObjectKey). is_object_of k (visible c e key) ≡ true) defined r
-
--- a value, where what was to be done was done
-abbrev pub after : {A T : Type 0} → Result A Stop → T → Result T Stop
-after (Ok a) x = Ok x
-after (Err stop) x = Err stop
 
 abbrev pub made_table : Lists → TableDef → Result CatalogueRecord Code
 made_table c d = recording (λ id. made.Table (kept_as id d)) (create_answer c.tables d)
 
 abbrev pub id_in : Catalogue → List ℕ → Option TableId
 id_in c name = option_map (λ (t : TableDef). t.id) (table_named name c.tables.living)
-
--- the record of a drop of a visible key
-abbrev pub hidden : Lists → EditionNo → ObjectKey → CatalogueRecord → Result CatalogueRecord Code
-hidden c e key r = recording (λ stamp. r) (hide_answer c.editions.made c.entries e key)
 
 -- the refusals of CREATE EDITIONING VIEW by its table
 abbrev pub base_refusals : Lists → EditioningView → List (Bool × Code)

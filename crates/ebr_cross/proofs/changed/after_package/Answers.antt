@@ -2,7 +2,7 @@ use Rattle.std.proofs.Common.{◌≡◌}
 use Rattle.ebr_cross.specs.declared.record.CatalogueRecord.TheVariants as made
 use Rattle.ebr_cross.specs.Records.{with_record}
 use Rattle.ebr_cross.proofs.Applied.{if_ok-map}
-use Rattle.ebr_cross.proofs.OwnKeys.{own-kept}
+use Rattle.ebr_cross.proofs.OwnKeys.{own_kept}
 use Rattle.ebr_cross.proofs.Seen.{sorted-view, after-package-in, sorted-first-in, if-anew}
 use Rattle.ebr_cross.proofs.changed.after_package.Goals as goal
 
@@ -18,4 +18,4 @@ pub returns : goal.returns
 returns c = λ lists own seen h.
     let is = seen.is in
     let r = made.PackageGone c.args.e c.args.name.now in
-    if-anew (with_record lists r) c.args.view.now.edition c.made_anew.result (c.made_anew.ensures.view (with_record lists r) h) (c.made_anew.ensures.order (with_record lists r) h (own-kept lists r own))
+    if-anew (with_record lists r) c.args.view.now.edition c.made_anew.result (c.made_anew.ensures.view (with_record lists r) h) (c.made_anew.ensures.order (with_record lists r) h (own_kept lists r own))

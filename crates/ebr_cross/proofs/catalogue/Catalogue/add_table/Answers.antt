@@ -1,7 +1,12 @@
-use Rattle.ebr_cross.proofs.Changes.{table-put}
+use Rattle.std.proofs.Common.{ap, subst, sym, ◌∙◌}
+use Rattle.ebr_tables.specs.Tables.{MayJoin, with_definition}
+use Rattle.ebr_cross.proofs.TableIds.{tables-of, with-tables}
 use Rattle.ebr_cross.proofs.catalogue.Catalogue.add_table.Goals as goal
 
-pub returns-in-Ok : goal.returns-in-Ok
-returns-in-Ok c =
-    table-put c.args.self.now c.args.def c.create.new.self c.create.result c.in-Ok.record c.after.result c.after.ensures
-    c.in-Ok.ensures c.create.ensures.answer c.create.ensures.tables c.create.ensures.unchanged
+pub add-requires : goal.add-requires
+add-requires c = subst (MayJoin c.args.self.now.tables) (sym c.in_ok-table.ensures) c.requires
+
+pub returns : goal.returns
+returns c = λ lists h.
+    with-tables c.args.self.now lists c.add.new.self _ h
+    (c.in_ok-add.ensures.tables ∙ (ap (with_definition c.args.self.now.tables) c.in_ok-table.ensures ∙ ap (λ k. with_definition k c.args.table.now) (tables-of c.args.self.now lists h)))

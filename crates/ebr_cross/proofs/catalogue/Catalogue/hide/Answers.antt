@@ -1,19 +1,10 @@
-use Rattle.std.proofs.Common.{ap, sym, ◌∙◌}
-use Rattle.ebr_cross.specs.declared.record.CatalogueRecord.TheVariants as made
-use Rattle.ebr_cross.specs.Definitions.{gone_record}
-use Rattle.ebr_cross.specs.inside.Steps.{hidden}
-use Rattle.ebr_cross.proofs.Applied.{applies-same}
-use Rattle.ebr_cross.proofs.SeenObjects.{gone-alone}
+use Rattle.std.proofs.Common.{None, ap, ◌∙◌}
+use Rattle.ebr_editions.specs.Held.{held}
+use Rattle.ebr_editions.specs.Objects.{with_entry}
+use Rattle.ebr_cross.proofs.ObjectPuts.{actuals-of, with-entries}
 use Rattle.ebr_cross.proofs.catalogue.Catalogue.hide.Goals as goal
 
-pub returns-in-Package : goal.returns-in-Package
-returns-in-Package c =
-    applies-same c.args.self.now c.hide_package.new.self _ _ c.hide_package.result
-    (λ lists h. ap (λ k. hidden lists c.args.e c.args.key (gone_record c.args.e k c.args.name.now)) (sym c.in-Package.is))
-    c.hide_package.ensures
-
-pub returns-in_default : goal.returns-in_default
-returns-in_default c =
-    applies-same c.args.self.now c.hide_object.new.self _ _ c.hide_object.result
-    (λ lists h. ap (hidden lists c.args.e c.args.key) (ap (made.ObjectGone c.args.e) c.requires ∙ gone-alone c.args.e c.args.kind c.args.name.now c.in_default.not-Package))
-    c.hide_object.ensures
+pub returns : goal.returns
+returns c = λ lists h.
+    with-entries c.args.self.now lists c.enter.new.self (with_entry lists.entries c.args.e c.args.key.now None) h
+    (c.in_ok-enter.ensures.made lists.entries (actuals-of c.args.self.now lists h) ∙ ap (λ k. held (with_entry lists.entries c.args.e k None)) c.in_ok-key.ensures)

@@ -11,7 +11,7 @@ returns-in-Some c = λ lists h.
 
 pub returns : goal.returns
 returns c = λ lists h.
-    subst (λ d. MakesObject lists d c.allowed_object.result)
+    subst (λ d. MakesObject d c.allowed_object.result)
     (named-put lists c.args.e c.args.replace c.args.kind c.in_ok-key.key (key_of c.args.kind c.args.name.now) c.args.text.now c.args.unit.now c.is_enabled.result (is_enabled c.args.unit.now) c.in_ok-code.field-0
     c.in_ok-key.ensures c.is_enabled.ensures (c.in_ok-code.ensures lists h) c.in_default.is)
     (c.allowed_object.ensures lists h)
