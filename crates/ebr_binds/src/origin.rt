@@ -11,7 +11,7 @@ use ebr_ast::{Expr, Path, RowImage};
 use ebr_base::{CloneIn, List, Name, NoMemory, Shared};
 use ebr_places::{Around, Denoted, meant};
 use ebr_run::Bind;
-use ebr_sqlcheck::{Meant, Relation, column_meant};
+use ebr_sqlcheck::{Meant, Relations, column_meant};
 use std::alloc::Global;
 
 /// What gives a variable its value; nothing where something else was found.
@@ -38,7 +38,7 @@ fn other_origin(alloc: Global, path: &Path, around: &Around<'_>) -> Result<Optio
 pub fn name_origin(
     alloc: Global,
     path: &Path,
-    relations: &[Relation<'_>],
+    relations: &Relations<'_, '_>,
     around: &Around<'_>,
 ) -> Result<Option<Bind>, NoMemory>
     ensures { IfOk result (λ origin. origin ≡ origins.name_origin around.now path.now (names.column_meant relations.now path.now)) }

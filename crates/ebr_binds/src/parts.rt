@@ -8,14 +8,14 @@ use ebr_ast::{Aggregate, Assignment, Expr, Item, ItemKind, SelectList, SortKey};
 use ebr_base::{CloneIn, List, NoMemory, Shared};
 use ebr_places::Around;
 use ebr_run::Bind;
-use ebr_sqlcheck::Relation;
+use ebr_sqlcheck::Relations;
 use std::alloc::Global;
 
 /// An expression that may not be there.
 pub fn maybe(
     alloc: Global,
     e: &Option<Shared<Expr>>,
-    relations: &[Relation<'_>],
+    relations: &Relations<'_, '_>,
     around: &Around<'_>,
     binds: &mut List<Bind>,
 ) -> Result<Option<Shared<Expr>>, NoMemory>
@@ -31,7 +31,7 @@ pub fn maybe(
 fn aggregate(
     alloc: Global,
     aggregate: &Aggregate,
-    relations: &[Relation<'_>],
+    relations: &Relations<'_, '_>,
     around: &Around<'_>,
     binds: &mut List<Bind>,
 ) -> Result<Aggregate, NoMemory>
@@ -52,7 +52,7 @@ fn aggregate(
 fn item_kind(
     alloc: Global,
     kind: &ItemKind,
-    relations: &[Relation<'_>],
+    relations: &Relations<'_, '_>,
     around: &Around<'_>,
     binds: &mut List<Bind>,
 ) -> Result<ItemKind, NoMemory>
@@ -70,7 +70,7 @@ fn item_kind(
 fn item(
     alloc: Global,
     item: &Item,
-    relations: &[Relation<'_>],
+    relations: &Relations<'_, '_>,
     around: &Around<'_>,
     binds: &mut List<Bind>,
 ) -> Result<Item, NoMemory>
@@ -85,7 +85,7 @@ fn item(
 fn items(
     alloc: Global,
     list: &List<Item>,
-    relations: &[Relation<'_>],
+    relations: &Relations<'_, '_>,
     around: &Around<'_>,
     binds: &mut List<Bind>,
 ) -> Result<List<Item>, NoMemory>
@@ -104,7 +104,7 @@ fn items(
 pub fn select_list(
     alloc: Global,
     list: &SelectList,
-    relations: &[Relation<'_>],
+    relations: &Relations<'_, '_>,
     around: &Around<'_>,
     binds: &mut List<Bind>,
 ) -> Result<SelectList, NoMemory>
@@ -123,7 +123,7 @@ pub fn select_list(
 pub fn keys(
     alloc: Global,
     list: &List<SortKey>,
-    relations: &[Relation<'_>],
+    relations: &Relations<'_, '_>,
     around: &Around<'_>,
     binds: &mut List<Bind>,
 ) -> Result<List<SortKey>, NoMemory>
@@ -144,7 +144,7 @@ pub fn keys(
 fn set(
     alloc: Global,
     set: &Assignment,
-    relations: &[Relation<'_>],
+    relations: &Relations<'_, '_>,
     around: &Around<'_>,
     binds: &mut List<Bind>,
 ) -> Result<Assignment, NoMemory>
@@ -160,7 +160,7 @@ fn set(
 pub fn sets(
     alloc: Global,
     list: &List<Assignment>,
-    relations: &[Relation<'_>],
+    relations: &Relations<'_, '_>,
     around: &Around<'_>,
     binds: &mut List<Bind>,
 ) -> Result<List<Assignment>, NoMemory>

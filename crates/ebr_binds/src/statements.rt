@@ -14,7 +14,7 @@ use ebr_ast::{Delete, Insert, Query, Update};
 use ebr_base::{CloneIn, List, Name, NoMemory, Shared, Stop, both};
 use ebr_places::{Around, Bound};
 use ebr_run::Bind;
-use ebr_sqlcheck::{Relation, only_relation, relations};
+use ebr_sqlcheck::{Relation, Relations, only_relation, relations};
 use std::alloc::Global;
 
 /// The sources of a query; none where one of them isn't there.
@@ -66,7 +66,7 @@ fn with_binds<T: Drop>(
 fn query_over(
     alloc: Global,
     q: &Query,
-    relations: &[Relation<'_>],
+    relations: &Relations<'_, '_>,
     around: &Around<'_>,
     binds: &mut List<Bind>,
 ) -> Result<Shared<Query>, NoMemory>
@@ -93,9 +93,10 @@ fn query_over(
 pub fn query(alloc: Global, around: &Around<'_>, q: &Query) -> Result<Bound<Query>, NoMemory>
     ensures { IfOk result (λ b. bound b ≡ spec.bound_query around.now q.now) }
 {
-    let relations = query_relations(alloc, around, q)?;
+    let found = query_relations(alloc, around, q)?;
+    let relations = Relations::of(alloc, found.as_slice())?;
     let mut binds = List::new(alloc);
-    let tree = query_over(alloc, q, relations.as_slice(), around, &mut binds)?;
+    let tree = query_over(alloc, q, &relations, around, &mut binds)?;
     with_binds(alloc, tree, binds)
 }
 
@@ -105,7 +106,8 @@ pub fn insert(alloc: Global, around: &Around<'_>, i: &Insert) -> Result<Bound<In
 {
     let (table, columns) = both(alloc, &i.table, &i.columns)?;
     let mut binds = List::new(alloc);
-    let values = expressions(alloc, &i.values, &[], around, &mut binds)?;
+    let none = Relations::none();
+    let values = expressions(alloc, &i.values, &none, around, &mut binds)?;
     let tree = Shared::new(
         alloc,
         Insert {
@@ -121,7 +123,7 @@ pub fn insert(alloc: Global, around: &Around<'_>, i: &Insert) -> Result<Bound<In
 fn update_over(
     alloc: Global,
     u: &Update,
-    relations: &[Relation<'_>],
+    relations: &Relations<'_, '_>,
     around: &Around<'_>,
     binds: &mut List<Bind>,
 ) -> Result<Shared<Update>, NoMemory>
@@ -146,9 +148,10 @@ fn update_over(
 pub fn update(alloc: Global, around: &Around<'_>, u: &Update) -> Result<Bound<Update>, NoMemory>
     ensures { IfOk result (λ b. bound b ≡ spec.bound_update around.now u.now) }
 {
-    let relations = table_relation(alloc, around, &u.table, &u.alias)?;
+    let found = table_relation(alloc, around, &u.table, &u.alias)?;
+    let relations = Relations::of(alloc, found.as_slice())?;
     let mut binds = List::new(alloc);
-    let tree = update_over(alloc, u, relations.as_slice(), around, &mut binds)?;
+    let tree = update_over(alloc, u, &relations, around, &mut binds)?;
     with_binds(alloc, tree, binds)
 }
 
@@ -156,7 +159,7 @@ pub fn update(alloc: Global, around: &Around<'_>, u: &Update) -> Result<Bound<Up
 fn delete_over(
     alloc: Global,
     d: &Delete,
-    relations: &[Relation<'_>],
+    relations: &Relations<'_, '_>,
     around: &Around<'_>,
     binds: &mut List<Bind>,
 ) -> Result<Shared<Delete>, NoMemory>
@@ -179,8 +182,9 @@ fn delete_over(
 pub fn delete(alloc: Global, around: &Around<'_>, d: &Delete) -> Result<Bound<Delete>, NoMemory>
     ensures { IfOk result (λ b. bound b ≡ spec.bound_delete around.now d.now) }
 {
-    let relations = table_relation(alloc, around, &d.table, &d.alias)?;
+    let found = table_relation(alloc, around, &d.table, &d.alias)?;
+    let relations = Relations::of(alloc, found.as_slice())?;
     let mut binds = List::new(alloc);
-    let tree = delete_over(alloc, d, relations.as_slice(), around, &mut binds)?;
+    let tree = delete_over(alloc, d, &relations, around, &mut binds)?;
     with_binds(alloc, tree, binds)
 }

@@ -60,7 +60,7 @@ null_inserted = Ora 1400
 abbrev pub null_updated : Code
 null_updated = Ora 1407
 
--- EBR-0040 where the transaction has 100,000 changes or the record of its commit would be too long
+-- EBR-0040 where the transaction has 200,000 changes or the record of its commit would be too long
 abbrev pub change_limit : Data → TxId → Change → Option Code
 change_limit d t c = limit_refusal (is_full (own d t).changes c)
 

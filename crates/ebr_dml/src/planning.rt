@@ -1,6 +1,6 @@
 //! The plan of a statement, against what an edition sees.
 
-ghost use Rattle.std.specs.Prelude.{◌≡◌, map, IfOk};
+ghost use Rattle.std.specs.Prelude.{◌≡◌, ◌∷◌, [], map, IfOk};
 ghost use Rattle.std.specs.Option.{option_copied};
 ghost use Rattle.ebr_base.specs.Answers.{Answers};
 ghost use Rattle.ebr_base.specs.declared.code.Code.TheVariants.{Ora};
@@ -17,7 +17,7 @@ use ebr_base::{Class, CloneIn, Code, List, Name, NoMemory, Shared, Stop, TableDe
 use ebr_exprtree::Expr;
 use ebr_names::{ViewColumn, columns, object, table};
 use ebr_query::{placed, placed_filter, table_of};
-use ebr_sqlcheck::{Relation, only_relation};
+use ebr_sqlcheck::{Relation, Relations, only_relation};
 use std::alloc::Global;
 use std::slice;
 
@@ -163,24 +163,32 @@ fn insert_plan(alloc: Global, v: &EditionView, i: &Insert) -> Result<Shared<Plan
 }
 
 /// A column with its new value.
-fn set_of(alloc: Global, relation: &Relation<'_>, a: &Assignment) -> Result<Setting, Stop>
+fn set_of(
+    alloc: Global,
+    relation: &Relation<'_>,
+    relations: &Relations<'_, '_>,
+    a: &Assignment,
+) -> Result<Setting, Stop>
+    requires { relations.now ≡ relation.now ∷ [] }
     ensures { Answers result (spec.set_of relation.now a.now) }
 {
     let place = place_named(relation.columns(), &a.column)?;
-    let value = placed(alloc, &a.value, slice::from_ref(relation))?;
+    let value = placed(alloc, &a.value, relations)?;
     Ok(Setting { place, value })
 }
 
 fn sets_of(
     alloc: Global,
     relation: &Relation<'_>,
+    relations: &Relations<'_, '_>,
     list: &[Assignment],
 ) -> Result<List<Setting>, Stop>
+    requires { relations.now ≡ relation.now ∷ [] }
     ensures { Answers result (all (map (spec.set_of relation.now) list.now)) }
 {
     let mut sets = List::new(alloc);
     for a in list {
-        sets.push(set_of(alloc, relation, a)?)?;
+        sets.push(set_of(alloc, relation, relations, a)?)?;
     }
     Ok(sets)
 }
@@ -194,8 +202,9 @@ fn update_over(
     requires { IsInOrder v.now }
     ensures { Answers result (spec.update_over v.now u.now relation.now) }
 {
-    let sets = sets_of(alloc, relation, u.sets.as_slice())?;
-    let filter = placed_filter(alloc, &u.filter, slice::from_ref(relation))?;
+    let relations = Relations::of(alloc, slice::from_ref(relation))?;
+    let sets = sets_of(alloc, relation, &relations, u.sets.as_slice())?;
+    let filter = placed_filter(alloc, &u.filter, &relations)?;
     let source = places(alloc, relation.columns())?;
     over(alloc, v, &u.table, source, filter, Work::Set(sets))
 }
@@ -209,7 +218,8 @@ fn delete_over(
     requires { IsInOrder v.now }
     ensures { Answers result (spec.delete_over v.now d.now relation.now) }
 {
-    let filter = placed_filter(alloc, &d.filter, slice::from_ref(relation))?;
+    let relations = Relations::of(alloc, slice::from_ref(relation))?;
+    let filter = placed_filter(alloc, &d.filter, &relations)?;
     let source = places(alloc, relation.columns())?;
     over(alloc, v, &d.table, source, filter, Work::Remove)
 }

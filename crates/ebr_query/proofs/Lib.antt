@@ -1,6 +1,7 @@
 pub mod Added
 pub mod ByNumber
 pub mod Examples
+mod FirstSource
 pub mod Founds
 pub mod Layers
 pub mod Plainly

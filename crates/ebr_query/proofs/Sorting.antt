@@ -1,8 +1,11 @@
 -- A list in order is told by what it has of each rank.
 use Rattle.std.proofs.Common.{◌≡◌, ℕ, suc, ◌+◌, ◌<◌, Bool, true, false, not, ◌&&◌, cond, List, [], ◌∷◌, filter, length, get_or, refl, sym, ap, ◌∙◌, subst, arith}
 use Rattle.std.specs.Cmp.{IsStrictWeakOrder}
-use Rattle.std.specs.List.Sorted.{IsSortedBy, IsStableBy, ties}
-use Rattle.std.proofs.lemmas.List.Sorted.{sorted_far}
+use Rattle.std.specs.List.{All, AllPairs}
+use Rattle.std.specs.List.Sorted.{IsPermutation, IsSortedBy, IsStableBy, ties}
+use Rattle.std.proofs.lemmas.List.Elements.{All-nil, All-cons}
+use Rattle.std.proofs.lemmas.List.Kept.{AllPairs-cons}
+use Rattle.std.proofs.lemmas.List.Sorted.{sorted_far, IsPermutation-refl, IsPermutation-cons, IsPermutation-middle, IsPermutation-trans}
 use Rattle.ebr_query.specs.Order.{put, in_order}
 
 abbrev pub head_or : {A : Type 0} → A → List A → A
@@ -136,6 +139,28 @@ module _ {A : Type 0} (before : A → A → Bool) (o : IsStrictWeakOrder before)
   pub ordered : (xs : List A) → InOrder (in_order before xs)
   ordered [] = tt
   ordered (x ∷ xs) = put-ordered x (in_order before xs) (ordered xs)
+
+  all-behind : (x : A) (ys : List A) → Behind x ys → All (λ y. before y x ≡ false) ys
+  all-behind x [] h = All-nil (λ y. before y x ≡ false)
+  all-behind x (y ∷ ys) h = All-cons (λ z. before z x ≡ false) y ys h.0 (all-behind x ys h.1)
+
+  -- none is before any one in front of it
+  pub pairs : (xs : List A) → InOrder xs → AllPairs (λ first later. before later first ≡ false) xs
+  pairs [] h = λ i j d l k. absurd (omega (arith, k))
+  pairs (x ∷ xs) h = AllPairs-cons (λ first later. before later first ≡ false) x xs (all-behind x xs h.0) (pairs xs h.1)
+
+  put-moves : (x z : A) (zs puts : List A) (b : Bool) → IsPermutation (x ∷ zs) puts → IsPermutation (x ∷ z ∷ zs) (cond b (z ∷ puts) (x ∷ z ∷ zs))
+  put-moves x z zs puts true h = IsPermutation-trans (x ∷ z ∷ zs) (z ∷ x ∷ zs) (z ∷ puts) (IsPermutation-middle (x ∷ []) z zs) (IsPermutation-cons z (x ∷ zs) puts h)
+  put-moves x z zs puts false h = IsPermutation-refl (x ∷ z ∷ zs)
+
+  put-permutes : (x : A) (zs : List A) → IsPermutation (x ∷ zs) (put before x zs)
+  put-permutes x [] = IsPermutation-refl (x ∷ [])
+  put-permutes x (z ∷ zs) = put-moves x z zs (put before x zs) (before z x) (put-permutes x zs)
+
+  pub permutes : (xs : List A) → IsPermutation xs (in_order before xs)
+  permutes [] = IsPermutation-refl []
+  permutes (x ∷ xs) =
+      IsPermutation-trans (x ∷ xs) (x ∷ in_order before xs) (in_order before (x ∷ xs)) (IsPermutation-cons x xs (in_order before xs) (permutes xs)) (put-permutes x (in_order before xs))
 
   -- what is before an element doesn't tie with what ties with it
   before-step : (a x z : A) (b : Bool) → before z a ≡ b → ties before a x ≡ true → before z x ≡ true → ties before a z ≡ false

@@ -1,2 +1,4 @@
+pub mod Aliases
 pub mod Before
+pub mod Found
 pub mod Terms

@@ -8,9 +8,10 @@ ghost use Rattle.ebr_sqlcheck.specs.Names.{names_in};
 ghost use Rattle.ebr_sqlcheck.specs.Operands.{typed};
 ghost use Rattle.ebr_sqlcheck.specs.Statements as spec;
 
+use crate::lookup::Relations;
 use crate::mention::names_in;
 use crate::query::{filter_names, filter_type};
-use crate::relation::{Relation, only_relation};
+use crate::relation::only_relation;
 use crate::target::{named_type, set_targets, target_type, targets, values_for_targets};
 use crate::typing::{must_fit, typed};
 use crate::value_type::{ValueType, alike};
@@ -54,8 +55,9 @@ fn insert_over<V: Variables>(i: &Insert, columns: &[ViewColumn], others: &V) -> 
 fn value_names<V: Variables>(list: &[Shared<Expr>], others: &V) -> Result<(), Code>
     ensures { result ≡ each (map (names_in [] (V.others others.now)) list.now) }
 {
+    let none = Relations::none();
     for e in list {
-        names_in(e.get(), &[], others)?;
+        names_in(e.get(), &none, others)?;
     }
     Ok(())
 }
@@ -69,8 +71,9 @@ fn values<V: Variables>(
 ) -> Result<(), Code>
     ensures { result ≡ spec.values_from columns.now names.now (V.others others.now) 0 list.now }
 {
+    let none = Relations::none();
     for (at, e) in list.iter().enumerate() {
-        assigned(target_type(columns, names, at), e.get(), &[], others)?;
+        assigned(target_type(columns, names, at), e.get(), &none, others)?;
     }
     Ok(())
 }
@@ -80,7 +83,7 @@ fn values<V: Variables>(
 fn assigned<V: Variables>(
     wanted: Option<ValueType>,
     e: &Expr,
-    relations: &[Relation<'_>],
+    relations: &Relations<'_, '_>,
     others: &V,
 ) -> Result<(), Code>
     ensures { result ≡ spec.assigned wanted (typed relations.now (V.others others.now) e.now) }
@@ -104,15 +107,15 @@ pub fn check_update<V: Variables>(
     ensures { Answers result (spec.update_check v.now (V.others others.now) u.now) }
 {
     let relation = only_relation(alloc, v, &u.table, &u.alias)?;
-    let relations = slice::from_ref(&relation);
-    answer(update_over(u, relation.columns(), relations, others))
+    let relations = Relations::of(alloc, slice::from_ref(&relation))?;
+    answer(update_over(u, relation.columns(), &relations, others))
 }
 
 #[tactic(auto, unfolding(crate::specs::Statements::update_over))]
 fn update_over<V: Variables>(
     u: &Update,
     columns: &[ViewColumn],
-    relations: &[Relation<'_>],
+    relations: &Relations<'_, '_>,
     others: &V,
 ) -> Result<(), Code>
     ensures { result ≡ spec.update_over (V.others others.now) u.now columns.now relations.now }
@@ -125,7 +128,7 @@ fn update_over<V: Variables>(
 #[tactic(auto, unfolding(crate::specs::Statements::update_names))]
 fn update_names<V: Variables>(
     u: &Update,
-    relations: &[Relation<'_>],
+    relations: &Relations<'_, '_>,
     others: &V,
 ) -> Result<(), Code>
     ensures { result ≡ spec.update_names (V.others others.now) u.now relations.now }
@@ -138,7 +141,7 @@ fn update_names<V: Variables>(
 fn update_types<V: Variables>(
     u: &Update,
     columns: &[ViewColumn],
-    relations: &[Relation<'_>],
+    relations: &Relations<'_, '_>,
     others: &V,
 ) -> Result<(), Code>
     ensures { result ≡ spec.update_types (V.others others.now) u.now columns.now relations.now }
@@ -149,7 +152,7 @@ fn update_types<V: Variables>(
 
 fn set_names<V: Variables>(
     sets: &[Assignment],
-    relations: &[Relation<'_>],
+    relations: &Relations<'_, '_>,
     others: &V,
 ) -> Result<(), Code>
     ensures { result ≡ each (map (λ (a : Assignment). names_in relations.now (V.others others.now) a.value) sets.now) }
@@ -163,7 +166,7 @@ fn set_names<V: Variables>(
 fn set_types<V: Variables>(
     columns: &[ViewColumn],
     sets: &[Assignment],
-    relations: &[Relation<'_>],
+    relations: &Relations<'_, '_>,
     others: &V,
 ) -> Result<(), Code>
     ensures { result ≡ each (map (spec.set_type columns.now relations.now (V.others others.now)) sets.now) }
@@ -193,11 +196,16 @@ pub fn check_delete<V: Variables>(
     ensures { Answers result (spec.delete_check v.now (V.others others.now) d.now) }
 {
     let relation = only_relation(alloc, v, &d.table, &d.alias)?;
-    answer(delete_over(d, slice::from_ref(&relation), others))
+    let relations = Relations::of(alloc, slice::from_ref(&relation))?;
+    answer(delete_over(d, &relations, others))
 }
 
 #[tactic(auto, unfolding(crate::specs::Statements::delete_over))]
-fn delete_over<V: Variables>(d: &Delete, relations: &[Relation<'_>], others: &V) -> Result<(), Code>
+fn delete_over<V: Variables>(
+    d: &Delete,
+    relations: &Relations<'_, '_>,
+    others: &V,
+) -> Result<(), Code>
     ensures { result ≡ spec.delete_over (V.others others.now) d.now relations.now }
 {
     filter_names(&d.filter, relations, others)?;

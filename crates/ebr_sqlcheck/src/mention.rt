@@ -5,7 +5,8 @@ ghost use Rattle.ebr_sqlcheck.specs.Checked.{each, must_be_there};
 ghost use Rattle.ebr_sqlcheck.specs.Names as spec;
 ghost use Rattle.ebr_sqlcheck.specs.inside.Terms as inside;
 
-use crate::relation::{Meant, Relation, column_meant};
+use crate::lookup::{Relations, column_meant};
+use crate::relation::Meant;
 use crate::value_type::{ValueType, type_in};
 use crate::variables::Variables;
 use crate::verdict::{AMBIGUOUS, NOT_THERE, must_be_there};
@@ -13,7 +14,7 @@ use ebr_base::{Code, List, Name, Shared};
 use ebr_exprtree::{Addend, Expr, Path, RowImage};
 
 /// Whether a name is a column of one source, or else a variable.
-fn name_is<V: Variables>(path: &Path, relations: &[Relation<'_>], others: &V) -> Result<(), Code>
+fn name_is<V: Variables>(path: &Path, relations: &Relations<'_, '_>, others: &V) -> Result<(), Code>
     ensures { result ≡ spec.name_is (V.others others.now) path.now (spec.column_meant relations.now path.now) }
 {
     match column_meant(relations, path) {
@@ -26,7 +27,7 @@ fn name_is<V: Variables>(path: &Path, relations: &[Relation<'_>], others: &V) ->
 /// The type of a name, as far as it is known.
 pub fn name_type<V: Variables>(
     path: &Path,
-    relations: &[Relation<'_>],
+    relations: &Relations<'_, '_>,
     others: &V,
 ) -> Option<ValueType>
     ensures { result ≡ spec.name_type (V.others others.now) path.now (spec.column_meant relations.now path.now) }
@@ -56,7 +57,11 @@ fn bind_is<V: Variables>(at: u32, others: &V) -> Result<(), Code>
 /// Oracle Database SQL Language Reference 19c, Column Expressions; Oracle Database PL/SQL Language Reference 19c, Name
 /// Resolution.
 #[cycle(names)]
-pub fn names_in<V: Variables>(e: &Expr, relations: &[Relation<'_>], others: &V) -> Result<(), Code>
+pub fn names_in<V: Variables>(
+    e: &Expr,
+    relations: &Relations<'_, '_>,
+    others: &V,
+) -> Result<(), Code>
     ensures { result ≡ spec.names_in relations.now (V.others others.now) e.now }
 {
     match e {
@@ -119,7 +124,7 @@ pub fn names_in<V: Variables>(e: &Expr, relations: &[Relation<'_>], others: &V) 
 #[cycle(names)]
 fn all_names<V: Variables>(
     list: &List<Shared<Expr>>,
-    relations: &[Relation<'_>],
+    relations: &Relations<'_, '_>,
     others: &V,
 ) -> Result<(), Code>
     ensures { result ≡ each (map (spec.names_in relations.now (V.others others.now)) list.now) }
@@ -133,7 +138,7 @@ fn all_names<V: Variables>(
 #[cycle(names)]
 fn term_names<V: Variables>(
     terms: &List<Addend>,
-    relations: &[Relation<'_>],
+    relations: &Relations<'_, '_>,
     others: &V,
 ) -> Result<(), Code>
     ensures { result ≡ each (map (inside.names_in_term relations.now (V.others others.now)) terms.now) }
@@ -147,7 +152,7 @@ fn term_names<V: Variables>(
 #[cycle(names)]
 fn term_name<V: Variables>(
     addend: &Addend,
-    relations: &[Relation<'_>],
+    relations: &Relations<'_, '_>,
     others: &V,
 ) -> Result<(), Code>
     ensures { result ≡ inside.names_in_term relations.now (V.others others.now) addend.now }

@@ -9,8 +9,9 @@ ghost use Rattle.ebr_sqlcheck.specs.Operands.{typed};
 ghost use Rattle.ebr_sqlcheck.specs.Statements as spec;
 
 use crate::aggregate::stands;
+use crate::lookup::Relations;
 use crate::mention::names_in;
-use crate::relation::{Relation, relations};
+use crate::relation::relations;
 use crate::typing::{must_fit, typed, wants};
 use crate::value_type::{ValueType, is_plain};
 use crate::variables::Variables;
@@ -32,11 +33,16 @@ pub fn check_query<V: Variables>(
     requires { IsInOrder v.now }
     ensures { Answers result (spec.query_check v.now (V.others others.now) q.now) }
 {
-    let relations = relations(alloc, v, q.sources.as_slice())?;
-    answer(query_over(q, relations.as_slice(), others))
+    let list = relations(alloc, v, q.sources.as_slice())?;
+    let relations = Relations::of(alloc, list.as_slice())?;
+    answer(query_over(q, &relations, others))
 }
 
-fn query_over<V: Variables>(q: &Query, relations: &[Relation<'_>], others: &V) -> Result<(), Code>
+fn query_over<V: Variables>(
+    q: &Query,
+    relations: &Relations<'_, '_>,
+    others: &V,
+) -> Result<(), Code>
     ensures { result ≡ spec.query_over (V.others others.now) q.now relations.now }
 {
     query_names(q, relations, others)?;
@@ -44,7 +50,11 @@ fn query_over<V: Variables>(q: &Query, relations: &[Relation<'_>], others: &V) -
     stands(q)
 }
 
-fn query_names<V: Variables>(q: &Query, relations: &[Relation<'_>], others: &V) -> Result<(), Code>
+fn query_names<V: Variables>(
+    q: &Query,
+    relations: &Relations<'_, '_>,
+    others: &V,
+) -> Result<(), Code>
     ensures { result ≡ spec.query_names relations.now (V.others others.now) q.now }
 {
     list_names(&q.list, relations, others)?;
@@ -54,7 +64,7 @@ fn query_names<V: Variables>(q: &Query, relations: &[Relation<'_>], others: &V) 
 
 fn list_names<V: Variables>(
     list: &SelectList,
-    relations: &[Relation<'_>],
+    relations: &Relations<'_, '_>,
     others: &V,
 ) -> Result<(), Code>
     ensures { result ≡ spec.list_names relations.now (V.others others.now) list.now }
@@ -67,7 +77,7 @@ fn list_names<V: Variables>(
 
 fn item_names<V: Variables>(
     items: &[Item],
-    relations: &[Relation<'_>],
+    relations: &Relations<'_, '_>,
     others: &V,
 ) -> Result<(), Code>
     ensures { result ≡ each (map (λ (i : Item). spec.kind_names relations.now (V.others others.now) i.what) items.now) }
@@ -80,7 +90,7 @@ fn item_names<V: Variables>(
 
 fn kind_names<V: Variables>(
     kind: &ItemKind,
-    relations: &[Relation<'_>],
+    relations: &Relations<'_, '_>,
     others: &V,
 ) -> Result<(), Code>
     ensures { result ≡ spec.kind_names relations.now (V.others others.now) kind.now }
@@ -93,7 +103,7 @@ fn kind_names<V: Variables>(
 
 fn aggregate_names<V: Variables>(
     aggregate: &Aggregate,
-    relations: &[Relation<'_>],
+    relations: &Relations<'_, '_>,
     others: &V,
 ) -> Result<(), Code>
     ensures { result ≡ spec.aggregate_names relations.now (V.others others.now) aggregate.now }
@@ -110,7 +120,7 @@ fn aggregate_names<V: Variables>(
 /// The names in WHERE, where it is there.
 pub fn filter_names<V: Variables>(
     filter: &Option<Shared<Expr>>,
-    relations: &[Relation<'_>],
+    relations: &Relations<'_, '_>,
     others: &V,
 ) -> Result<(), Code>
     ensures { result ≡ spec.when (names_in relations.now (V.others others.now)) filter.now }
@@ -123,7 +133,7 @@ pub fn filter_names<V: Variables>(
 
 fn key_names<V: Variables>(
     keys: &[SortKey],
-    relations: &[Relation<'_>],
+    relations: &Relations<'_, '_>,
     others: &V,
 ) -> Result<(), Code>
     ensures { result ≡ each (map (λ (k : SortKey). names_in relations.now (V.others others.now) k.key) keys.now) }
@@ -134,7 +144,11 @@ fn key_names<V: Variables>(
     Ok(())
 }
 
-fn query_types<V: Variables>(q: &Query, relations: &[Relation<'_>], others: &V) -> Result<(), Code>
+fn query_types<V: Variables>(
+    q: &Query,
+    relations: &Relations<'_, '_>,
+    others: &V,
+) -> Result<(), Code>
     ensures { result ≡ spec.query_types relations.now (V.others others.now) q.now }
 {
     list_types(&q.list, relations, others)?;
@@ -144,7 +158,7 @@ fn query_types<V: Variables>(q: &Query, relations: &[Relation<'_>], others: &V) 
 
 fn list_types<V: Variables>(
     list: &SelectList,
-    relations: &[Relation<'_>],
+    relations: &Relations<'_, '_>,
     others: &V,
 ) -> Result<(), Code>
     ensures { result ≡ spec.list_types relations.now (V.others others.now) list.now }
@@ -157,7 +171,7 @@ fn list_types<V: Variables>(
 
 fn item_types<V: Variables>(
     items: &[Item],
-    relations: &[Relation<'_>],
+    relations: &Relations<'_, '_>,
     others: &V,
 ) -> Result<(), Code>
     ensures { result ≡ each (map (λ (i : Item). spec.kind_type relations.now (V.others others.now) i.what) items.now) }
@@ -170,7 +184,7 @@ fn item_types<V: Variables>(
 
 fn kind_type<V: Variables>(
     kind: &ItemKind,
-    relations: &[Relation<'_>],
+    relations: &Relations<'_, '_>,
     others: &V,
 ) -> Result<(), Code>
     ensures { result ≡ spec.kind_type relations.now (V.others others.now) kind.now }
@@ -183,7 +197,7 @@ fn kind_type<V: Variables>(
 
 fn aggregate_type<V: Variables>(
     aggregate: &Aggregate,
-    relations: &[Relation<'_>],
+    relations: &Relations<'_, '_>,
     others: &V,
 ) -> Result<(), Code>
     ensures { result ≡ spec.aggregate_type relations.now (V.others others.now) aggregate.now }
@@ -199,7 +213,7 @@ fn aggregate_type<V: Variables>(
 
 /// An expression that isn't BOOLEAN, which has no place in a list, and no order.
 #[tactic(auto, unfolding(crate::specs::Statements::plain))]
-fn plain<V: Variables>(e: &Expr, relations: &[Relation<'_>], others: &V) -> Result<(), Code>
+fn plain<V: Variables>(e: &Expr, relations: &Relations<'_, '_>, others: &V) -> Result<(), Code>
     ensures { result ≡ spec.plain (typed relations.now (V.others others.now) e.now) }
 {
     let ty = typed(e, relations, others)?;
@@ -208,7 +222,7 @@ fn plain<V: Variables>(e: &Expr, relations: &[Relation<'_>], others: &V) -> Resu
 
 /// An expression of any type.
 #[tactic(auto, unfolding(crate::specs::Statements::any_type))]
-fn any_type<V: Variables>(e: &Expr, relations: &[Relation<'_>], others: &V) -> Result<(), Code>
+fn any_type<V: Variables>(e: &Expr, relations: &Relations<'_, '_>, others: &V) -> Result<(), Code>
     ensures { result ≡ spec.any_type (typed relations.now (V.others others.now) e.now) }
 {
     typed(e, relations, others)?;
@@ -218,7 +232,7 @@ fn any_type<V: Variables>(e: &Expr, relations: &[Relation<'_>], others: &V) -> R
 /// WHERE is BOOLEAN, where it is there.
 pub fn filter_type<V: Variables>(
     filter: &Option<Shared<Expr>>,
-    relations: &[Relation<'_>],
+    relations: &Relations<'_, '_>,
     others: &V,
 ) -> Result<(), Code>
     ensures { result ≡ spec.when (spec.condition relations.now (V.others others.now)) filter.now }
@@ -231,7 +245,7 @@ pub fn filter_type<V: Variables>(
 
 fn key_types<V: Variables>(
     keys: &[SortKey],
-    relations: &[Relation<'_>],
+    relations: &Relations<'_, '_>,
     others: &V,
 ) -> Result<(), Code>
     ensures { result ≡ each (map (λ (k : SortKey). spec.plain (typed relations.now (V.others others.now) k.key)) keys.now) }

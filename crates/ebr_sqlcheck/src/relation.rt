@@ -1,6 +1,6 @@
 //! The sources of a statement.
 
-ghost use Rattle.std.specs.Prelude.{◌≡◌, IfOk};
+ghost use Rattle.std.specs.Prelude.{◌≡◌, List as Sequence, not, IsTrue, ◌∷◌, ◌++◌, [], IfOk};
 ghost use Rattle.std.specs.Option.{option_copied, unwrap_or};
 ghost use Rattle.std.specs.List.{list_any};
 ghost use Rattle.ebr_base.specs.Answers.{Answers};
@@ -9,13 +9,16 @@ ghost use Rattle.ebr_names.specs.Columns.{column_named};
 ghost use Rattle.ebr_sqlcheck.specs.Sources as sources;
 ghost use Rattle.ebr_sqlcheck.specs.Names as names;
 ghost use Rattle.ebr_sqlcheck.specs.Statements as statements;
+ghost use Rattle.ebr_sqlcheck.specs.Sources.{Relation as Seen};
+ghost use Rattle.ebr_sqlcheck.specs.inside.Aliases.{HasAliases};
 
-use crate::value_type::{ValueType, first_known, type_of_column};
+use crate::value_type::{ValueType, type_of_column};
 use crate::verdict::AMBIGUOUS;
 use ebr_ast::{EditionView, Source};
 use ebr_base::{ColType, List, Name, NoMemory, Stop};
 use ebr_exprtree::Path;
 use ebr_names::{ViewColumn, columns};
+use indexmap::IndexSet;
 use std::alloc::Global;
 use std::marker::Model;
 
@@ -64,6 +67,13 @@ pub fn name_or_alias<'a>(name: &'a Name, alias: &'a Option<Name>) -> &'a [u8]
 }
 
 impl<'a> Relation<'a> {
+    /// What it is called: its alias, or its name where it has none.
+    pub fn alias(&self) -> &[u8]
+        ensures { result.now ≡ self.now.alias }
+    {
+        self.alias
+    }
+
     /// Whether it is called so: by its alias, or by its name where it has none.
     pub fn is_called(&self, alias: &[u8]) -> bool
         ensures { result ≡ sources.is_called alias.now self.now }
@@ -89,7 +99,7 @@ impl<'a> Relation<'a> {
     }
 
     /// The type of the column that a name is: `n` is a column, and `n.m` one of the source that is called n.
-    fn named(&self, path: &Path) -> Option<ValueType>
+    pub fn named(&self, path: &Path) -> Option<ValueType>
         ensures { result ≡ names.named_in path.now.name path.now.member self.now }
     {
         match &path.member {
@@ -142,29 +152,32 @@ fn columns_of(alloc: Global, v: &EditionView, source: &Source) -> Result<List<Vi
     }
 }
 
-/// A source, none of those before it having its alias.
+/// A source, none of those before it having its alias, which is put to theirs.
 #[tactic(auto, unfolding(crate::specs::Sources::next_relation))]
 fn next_relation<'a>(
     alloc: Global,
     v: &EditionView,
     source: &'a Source,
-    before: &[Relation<'_>],
+    aliases: &mut IndexSet<&'a [u8]>,
 ) -> Result<Relation<'a>, Stop>
     requires { IsInOrder v.now }
-    ensures { Answers result (sources.next_relation v.now before.now source.now) }
+    ensures relation { (before : Sequence Seen) → HasAliases before aliases.old.keys → Answers result (sources.next_relation v.now before source.now) }
+    ensures aliases { (before : Sequence Seen) → HasAliases before aliases.old.keys → IfOk result (λ r. HasAliases (before ++ r ∷ []) aliases.new.keys) }
 {
     let columns = columns_of(alloc, v, source)?;
     let alias = alias_of(source);
-    if has_alias(before, alias) {
+    if !is_new(aliases, alias)? {
         return Err(Stop::Raised(AMBIGUOUS));
     }
     Ok(Relation { alias, columns })
 }
 
-fn has_alias(relations: &[Relation<'_>], alias: &[u8]) -> bool
-    ensures { result ≡ list_any (sources.is_called alias.now) relations.now }
+/// Adds an alias, and tells whether no source before had it.
+fn is_new<'a>(aliases: &mut IndexSet<&'a [u8]>, alias: &'a [u8]) -> Result<bool, NoMemory>
+    ensures told { (before : Sequence Seen) → HasAliases before aliases.old.keys → IfOk result (λ new. new ≡ not (list_any (sources.is_called alias.now) before)) }
+    ensures added { IfOk result (λ new. IsTrue new → aliases.new.keys ≡ aliases.old.keys ++ alias.entry ∷ []) }
 {
-    relations.iter().any(|relation| relation.is_called(alias))
+    Ok(aliases.insert(alias)?)
 }
 
 /// The sources of a query, in order.
@@ -182,8 +195,9 @@ pub fn relations<'a>(
     ensures { Answers result (sources.relations_of v.now list.now) }
 {
     let mut found = List::new(alloc);
+    let mut aliases = IndexSet::new(alloc);
     for source in list {
-        let relation = next_relation(alloc, v, source, found.as_slice())?;
+        let relation = next_relation(alloc, v, source, &mut aliases)?;
         found.push(relation)?;
     }
     Ok(found)
@@ -204,24 +218,4 @@ pub fn only_relation<'a>(
         alias: name_or_alias(table, alias),
         columns,
     })
-}
-
-/// Whether a name is a column, and of how many of the sources.
-///
-/// `n` may be a column n of any source, and `n.m` is a column m of the source that is called n.
-pub fn column_meant(relations: &[Relation<'_>], path: &Path) -> Meant
-    ensures { result ≡ names.column_meant relations.now path.now }
-{
-    let mut found = None;
-    for relation in relations {
-        let named = relation.named(path);
-        if named.is_some() && found.is_some() {
-            return Meant::Several;
-        }
-        found = first_known(found, named);
-    }
-    match found {
-        Some(ty) => Meant::Column(ty),
-        None => Meant::Nothing,
-    }
 }

@@ -8,8 +8,8 @@ ghost use Rattle.ebr_sqlcheck.specs.Operands as spec;
 ghost use Rattle.ebr_sqlcheck.specs.inside.Terms as inside;
 
 use crate::function::{builtin_type, taken, takes_any_type, takes_count};
+use crate::lookup::Relations;
 use crate::mention::name_type;
-use crate::relation::Relation;
 use crate::value_type::{ValueType, alike, first_known, is_plain, type_in, type_of_text};
 use crate::variables::Variables;
 use crate::verdict::{NOT_THERE, WRONG_TYPE, must};
@@ -77,7 +77,7 @@ fn bind_type<V: Variables>(at: u32, others: &V) -> Option<ValueType>
 #[cycle(typing)]
 pub fn typed<V: Variables>(
     e: &Expr,
-    relations: &[Relation<'_>],
+    relations: &Relations<'_, '_>,
     others: &V,
 ) -> Result<Option<ValueType>, Code>
     ensures { result ≡ spec.typed relations.now (V.others others.now) e.now }
@@ -149,7 +149,7 @@ pub fn typed<V: Variables>(
 pub fn wants<V: Variables>(
     wanted: ValueType,
     e: &Expr,
-    relations: &[Relation<'_>],
+    relations: &Relations<'_, '_>,
     others: &V,
 ) -> Result<(), Code>
     ensures { result ≡ spec.wants wanted (spec.typed relations.now (V.others others.now) e.now) }
@@ -163,7 +163,7 @@ pub fn wants<V: Variables>(
 fn of_type<V: Variables>(
     ty: ValueType,
     e: &Expr,
-    relations: &[Relation<'_>],
+    relations: &Relations<'_, '_>,
     others: &V,
 ) -> Result<Option<ValueType>, Code>
     ensures { result ≡ spec.gives ty (spec.wants ty (spec.typed relations.now (V.others others.now) e.now)) }
@@ -176,7 +176,7 @@ fn of_type<V: Variables>(
 fn all_want<V: Variables>(
     wanted: ValueType,
     list: &List<Shared<Expr>>,
-    relations: &[Relation<'_>],
+    relations: &Relations<'_, '_>,
     others: &V,
 ) -> Result<(), Code>
     ensures { result ≡ spec.all_want wanted (map (spec.typed relations.now (V.others others.now)) list.now) }
@@ -192,7 +192,7 @@ fn all_want<V: Variables>(
 fn all_of_type<V: Variables>(
     ty: ValueType,
     list: &List<Shared<Expr>>,
-    relations: &[Relation<'_>],
+    relations: &Relations<'_, '_>,
     others: &V,
 ) -> Result<Option<ValueType>, Code>
     ensures { result ≡ spec.gives ty (spec.all_want ty (map (spec.typed relations.now (V.others others.now)) list.now)) }
@@ -208,7 +208,7 @@ fn compared<V: Variables>(
     comparison: Comparison,
     ty: Option<ValueType>,
     e: &Expr,
-    relations: &[Relation<'_>],
+    relations: &Relations<'_, '_>,
     others: &V,
 ) -> Result<(), Code>
     ensures { result ≡ spec.compared comparison ty (spec.typed relations.now (V.others others.now) e.now) }
@@ -224,7 +224,7 @@ fn compare<V: Variables>(
     comparison: Comparison,
     ty: Option<ValueType>,
     e: &Expr,
-    relations: &[Relation<'_>],
+    relations: &Relations<'_, '_>,
     others: &V,
 ) -> Result<Option<ValueType>, Code>
     ensures { result ≡ spec.gives ValueType.Boolean (spec.compared comparison ty (spec.typed relations.now (V.others others.now) e.now)) }
@@ -238,7 +238,7 @@ fn compare<V: Variables>(
 fn equalities<V: Variables>(
     ty: Option<ValueType>,
     list: &List<Shared<Expr>>,
-    relations: &[Relation<'_>],
+    relations: &Relations<'_, '_>,
     others: &V,
 ) -> Result<(), Code>
     ensures { result ≡ each (map (spec.compared Comparison.Equal ty) (map (spec.typed relations.now (V.others others.now)) list.now)) }
@@ -254,7 +254,7 @@ fn equalities<V: Variables>(
 fn is_among<V: Variables>(
     ty: Option<ValueType>,
     list: &List<Shared<Expr>>,
-    relations: &[Relation<'_>],
+    relations: &Relations<'_, '_>,
     others: &V,
 ) -> Result<Option<ValueType>, Code>
     ensures { result ≡ spec.gives ValueType.Boolean (each (map (spec.compared Comparison.Equal ty) (map (spec.typed relations.now (V.others others.now)) list.now))) }
@@ -270,7 +270,7 @@ fn added<V: Variables>(
     ty: Option<ValueType>,
     operator: AdditiveOperator,
     e: &Expr,
-    relations: &[Relation<'_>],
+    relations: &Relations<'_, '_>,
     others: &V,
 ) -> Result<Option<ValueType>, Code>
     ensures { result ≡ spec.added_to ty (record { operator = operator; operand = spec.typed relations.now (V.others others.now) e.now }) }
@@ -286,7 +286,7 @@ fn added<V: Variables>(
 fn added_to<V: Variables>(
     ty: Option<ValueType>,
     addend: &Addend,
-    relations: &[Relation<'_>],
+    relations: &Relations<'_, '_>,
     others: &V,
 ) -> Result<Option<ValueType>, Code>
     ensures { result ≡ spec.added_to ty (inside.typed_term relations.now (V.others others.now) addend.now) }
@@ -300,7 +300,7 @@ fn added_to<V: Variables>(
 fn sum_from<V: Variables>(
     first: Option<ValueType>,
     more: &List<Addend>,
-    relations: &[Relation<'_>],
+    relations: &Relations<'_, '_>,
     others: &V,
 ) -> Result<Option<ValueType>, Code>
     ensures { result ≡ spec.sum_from first (map (inside.typed_term relations.now (V.others others.now)) more.now) }
@@ -318,7 +318,7 @@ fn sum_from<V: Variables>(
 fn call<V: Variables>(
     path: &Path,
     operands: &List<Shared<Expr>>,
-    relations: &[Relation<'_>],
+    relations: &Relations<'_, '_>,
     others: &V,
 ) -> Result<Option<ValueType>, Code>
     ensures { result ≡ spec.called (builtin_at path.now.name path.now.member) (map (spec.typed relations.now (V.others others.now)) operands.now) }
@@ -336,7 +336,7 @@ fn call<V: Variables>(
 fn applied<V: Variables>(
     f: Builtin,
     operands: &List<Shared<Expr>>,
-    relations: &[Relation<'_>],
+    relations: &Relations<'_, '_>,
     others: &V,
 ) -> Result<Option<ValueType>, Code>
     ensures { result ≡ spec.applied f (map (spec.typed relations.now (V.others others.now)) operands.now) }
@@ -353,7 +353,7 @@ fn applied<V: Variables>(
 #[tactic(auto, unfolding(crate::specs::Operands::one_type))]
 fn one_type<V: Variables>(
     operands: &List<Shared<Expr>>,
-    relations: &[Relation<'_>],
+    relations: &Relations<'_, '_>,
     others: &V,
 ) -> Result<Option<ValueType>, Code>
     ensures { result ≡ spec.one_type None (map (spec.typed relations.now (V.others others.now)) operands.now) }
@@ -375,7 +375,7 @@ fn one_type<V: Variables>(
 fn operands_of<V: Variables>(
     f: Builtin,
     operands: &List<Shared<Expr>>,
-    relations: &[Relation<'_>],
+    relations: &Relations<'_, '_>,
     others: &V,
 ) -> Result<(), Code>
     ensures { result ≡ spec.operands_from f 0 (map (spec.typed relations.now (V.others others.now)) operands.now) }
