@@ -1,14 +1,14 @@
 //! The handlers of a block.
 
-ghost use Rattle.std.specs.Prelude.{◌≡◌, ◌∷◌, ◌++◌, [], map, OnOk};
-ghost use Rattle.std.specs.List.{list_any};
+ghost use Rattle.std.specs.Prelude.{◌≡◌, ◌∷◌, ◌++◌, [], map, IfOk, OnOk};
 ghost use Rattle.ebr_rules.specs.Sites as site;
 ghost use Rattle.ebr_rules.specs.Rules as rules;
 ghost use Rattle.ebr_rules.specs.Noted.{noted};
-ghost use Rattle.ebr_check.specs.inside.Caught.{caught_of};
+ghost use Rattle.ebr_check.specs.inside.Caught.{caught_of, as_path};
 
+use crate::scope::are_fresh;
 use ebr_ast::{Caught, Handler, Path};
-use ebr_base::{List, Name, NoMemory, rest_from};
+use ebr_base::{List, Name, NoMemory};
 use ebr_rules::must;
 use std::alloc::Global;
 
@@ -35,46 +35,17 @@ fn others_is_last(handlers: &[Handler]) -> bool
     true
 }
 
-fn same_member(a: &Option<Name>, b: &Option<Name>) -> bool
-    ensures { result ≡ rules.same_member a.now b.now }
+/// The name of an exception, as a set holds it: `n` or `n.m`.
+type Key<'a> = (&'a Name, Option<&'a Name>);
+
+fn are_distinct(alloc: Global, paths: &[Key<'_>]) -> Result<bool, NoMemory>
+    ensures { IfOk result (λ distinct. distinct ≡ rules.are_distinct_paths (map as_path paths.now)) }
 {
-    match (a, b) {
-        (None, None) => true,
-        (Some(a), Some(b)) => *a == *b,
-        _ => false,
-    }
+    are_fresh(alloc, paths)
 }
 
-fn same_path(a: &Path, b: &Path) -> bool
-    ensures { result ≡ rules.same_path a.now b.now }
-{
-    a.name == b.name && same_member(&a.member, &b.member)
-}
-
-fn is_among(path: &Path, paths: &[&Path]) -> bool
-    ensures { result ≡ list_any (rules.same_path path.now) (map (λ p. p.now) paths.now) }
-{
-    for other in paths {
-        if same_path(path, other) {
-            return true;
-        }
-    }
-    false
-}
-
-fn are_distinct(paths: &[&Path]) -> bool
-    ensures { result ≡ rules.are_distinct_paths (map (λ p. p.now) paths.now) }
-{
-    for (at, path) in paths.iter().enumerate() {
-        if is_among(path, rest_from(paths, at + 1)) {
-            return false;
-        }
-    }
-    true
-}
-
-fn add_paths<'a>(caught: &'a Caught, paths: &mut List<&'a Path>) -> Result<(), NoMemory>
-    ensures { OnOk result (map (λ p. p.now) paths.new ≡ map (λ p. p.now) paths.old ++ rules.caught_paths caught.now) }
+fn add_paths<'a>(caught: &'a Caught, paths: &mut List<Key<'a>>) -> Result<(), NoMemory>
+    ensures { OnOk result (map as_path paths.new ≡ map as_path paths.old ++ rules.caught_paths caught.now) }
 {
     match caught {
         Caught::Others => Ok(()),
@@ -82,11 +53,11 @@ fn add_paths<'a>(caught: &'a Caught, paths: &mut List<&'a Path>) -> Result<(), N
     }
 }
 
-fn add_all<'a>(named: &'a [Path], paths: &mut List<&'a Path>) -> Result<(), NoMemory>
-    ensures { OnOk result (map (λ p. p.now) paths.new ≡ map (λ p. p.now) paths.old ++ named.now) }
+fn add_all<'a>(named: &'a [Path], paths: &mut List<Key<'a>>) -> Result<(), NoMemory>
+    ensures { OnOk result (map as_path paths.new ≡ map as_path paths.old ++ named.now) }
 {
     for path in named {
-        paths.push(path)?;
+        paths.push((&path.name, path.member.as_ref()))?;
     }
     Ok(())
 }
@@ -99,10 +70,7 @@ pub fn handles(alloc: Global, handlers: &[Handler], least: &mut Option<u8>) -> R
     for handler in handlers {
         add_paths(&handler.caught, &mut paths)?;
     }
-    must(
-        least,
-        8,
-        others_is_last(handlers) && are_distinct(paths.as_slice()),
-    );
+    let distinct = are_distinct(alloc, paths.as_slice())?;
+    must(least, 8, others_is_last(handlers) && distinct);
     Ok(())
 }

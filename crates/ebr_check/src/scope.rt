@@ -18,21 +18,22 @@ use ebr_rules::must;
 use ebr_scope::{Field, decl_name, item_name};
 use indexmap::IndexSet;
 use std::alloc::Global;
+use std::hash::Hash;
 
 /// Whether all names are different.
-#[tactic(auto, using(crate::proofs::Distinct::all_fresh))]
 fn are_distinct(alloc: Global, names: &[&Name]) -> Result<bool, NoMemory>
     ensures { IfOk result (λ distinct. distinct ≡ rules.are_distinct (map (λ n. n.now) names.now)) }
 {
     are_fresh(alloc, names)
 }
 
-fn are_fresh(alloc: Global, names: &[&Name]) -> Result<bool, NoMemory>
-    ensures { IfOk result (λ fresh. fresh ≡ inside.are_fresh [] (map (λ n. n.now) names.now)) }
+/// Whether all keys are different. A set holds those so far.
+pub fn are_fresh<K: Copy + Eq + Hash>(alloc: Global, keys: &[K]) -> Result<bool, NoMemory>
+    ensures { IfOk result (λ fresh. fresh ≡ inside.are_fresh K.eq [] keys.now) }
 {
     let mut before = IndexSet::new(alloc);
-    for name in names {
-        if !before.insert((**name).clone_in(alloc)?)? {
+    for key in keys {
+        if !before.insert(*key)? {
             return Ok(false);
         }
     }

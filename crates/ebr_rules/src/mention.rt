@@ -14,12 +14,12 @@ use ebr_ast::{
 use ebr_base::{List, Shared};
 use ebr_expr::builtin;
 use ebr_scope::{Place, Scopes, meant, variable_type};
-use ebr_sqlcheck::{Meant, Relation, ValueType, column_meant};
+use ebr_sqlcheck::{Meant, Relations, ValueType, column_meant};
 
 /// A name: it is a column, and else a variable.
 fn name(
     path: &Path,
-    relations: &[Relation<'_>],
+    relations: &Relations<'_, '_>,
     place: &Place<'_>,
     known: &Scopes<'_>,
     least: &mut Option<u8>,
@@ -40,7 +40,7 @@ fn name(
 #[cycle(mentions)]
 pub fn mentions(
     e: &Expr,
-    relations: &[Relation<'_>],
+    relations: &Relations<'_, '_>,
     place: &Place<'_>,
     known: &Scopes<'_>,
     least: &mut Option<u8>,
@@ -90,7 +90,7 @@ pub fn mentions(
 #[cycle(mentions)]
 fn all_mentions(
     list: &List<Shared<Expr>>,
-    relations: &[Relation<'_>],
+    relations: &Relations<'_, '_>,
     place: &Place<'_>,
     known: &Scopes<'_>,
     least: &mut Option<u8>,
@@ -105,7 +105,7 @@ fn all_mentions(
 #[cycle(mentions)]
 fn term_mentions(
     terms: &List<Addend>,
-    relations: &[Relation<'_>],
+    relations: &Relations<'_, '_>,
     place: &Place<'_>,
     known: &Scopes<'_>,
     least: &mut Option<u8>,
@@ -120,7 +120,7 @@ fn term_mentions(
 /// The names in an expression that may not be there.
 pub fn when(
     e: &Option<Shared<Expr>>,
-    relations: &[Relation<'_>],
+    relations: &Relations<'_, '_>,
     place: &Place<'_>,
     known: &Scopes<'_>,
     least: &mut Option<u8>,
@@ -134,7 +134,7 @@ pub fn when(
 
 fn in_aggregate(
     aggregate: &Aggregate,
-    relations: &[Relation<'_>],
+    relations: &Relations<'_, '_>,
     place: &Place<'_>,
     known: &Scopes<'_>,
     least: &mut Option<u8>,
@@ -151,7 +151,7 @@ fn in_aggregate(
 
 fn in_item(
     item: &Item,
-    relations: &[Relation<'_>],
+    relations: &Relations<'_, '_>,
     place: &Place<'_>,
     known: &Scopes<'_>,
     least: &mut Option<u8>,
@@ -166,7 +166,7 @@ fn in_item(
 
 fn in_list(
     list: &SelectList,
-    relations: &[Relation<'_>],
+    relations: &Relations<'_, '_>,
     place: &Place<'_>,
     known: &Scopes<'_>,
     least: &mut Option<u8>,
@@ -181,7 +181,7 @@ fn in_list(
 
 fn in_items(
     items: &[Item],
-    relations: &[Relation<'_>],
+    relations: &Relations<'_, '_>,
     place: &Place<'_>,
     known: &Scopes<'_>,
     least: &mut Option<u8>,
@@ -195,7 +195,7 @@ fn in_items(
 
 fn in_keys(
     keys: &[SortKey],
-    relations: &[Relation<'_>],
+    relations: &Relations<'_, '_>,
     place: &Place<'_>,
     known: &Scopes<'_>,
     least: &mut Option<u8>,
@@ -211,7 +211,7 @@ fn in_keys(
 #[tactic(auto, using(crate::proofs::Laws::noted_append))]
 pub fn in_query(
     q: &Query,
-    relations: &[Relation<'_>],
+    relations: &Relations<'_, '_>,
     place: &Place<'_>,
     known: &Scopes<'_>,
     least: &mut Option<u8>,
@@ -232,14 +232,15 @@ pub fn in_values(
 )
     ensures { least.new ≡ noted (spec.each (map spec.mentions values.now) [] (env place.now known.now)) least.old }
 {
+    let none = Relations::none();
     for e in values {
-        mentions(e.get(), &[], place, known, least);
+        mentions(e.get(), &none, place, known, least);
     }
 }
 
 fn in_sets(
     sets: &[Assignment],
-    relations: &[Relation<'_>],
+    relations: &Relations<'_, '_>,
     place: &Place<'_>,
     known: &Scopes<'_>,
     least: &mut Option<u8>,
@@ -255,7 +256,7 @@ fn in_sets(
 #[tactic(auto, using(crate::proofs::Laws::noted_append))]
 pub fn in_update(
     u: &Update,
-    relations: &[Relation<'_>],
+    relations: &Relations<'_, '_>,
     place: &Place<'_>,
     known: &Scopes<'_>,
     least: &mut Option<u8>,

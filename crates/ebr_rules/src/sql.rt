@@ -22,10 +22,11 @@ use ebr_base::{CloneIn, List, Name, NoMemory, Shared, Stop};
 use ebr_names::columns;
 use ebr_scope::{Field, Place, Scopes};
 use ebr_sqlcheck::{
-    Meant, Relation, ValueType, check_delete, check_insert, check_query, check_update,
+    Meant, Relation, Relations, ValueType, check_delete, check_insert, check_query, check_update,
     column_meant, only_relation, relations, type_of_column, typed,
 };
 use std::alloc::Global;
+use std::slice;
 
 /// What the checks of a statement found.
 fn judged(found: Result<(), Stop>, least: &mut Option<u8>) -> Result<(), NoMemory>
@@ -93,7 +94,7 @@ fn delete_found(
 /// The type of an item, as far as it is known.
 fn item_type(
     e: &Expr,
-    relations: &[Relation<'_>],
+    relations: &Relations<'_, '_>,
     place: &Place<'_>,
     known: &Scopes<'_>,
 ) -> Option<ValueType>
@@ -107,7 +108,7 @@ fn item_type(
 
 fn aggregate_type(
     aggregate: &Aggregate,
-    relations: &[Relation<'_>],
+    relations: &Relations<'_, '_>,
     place: &Place<'_>,
     known: &Scopes<'_>,
 ) -> Option<ValueType>
@@ -121,7 +122,7 @@ fn aggregate_type(
 
 fn kind_type(
     kind: &ItemKind,
-    relations: &[Relation<'_>],
+    relations: &Relations<'_, '_>,
     place: &Place<'_>,
     known: &Scopes<'_>,
 ) -> Option<ValueType>
@@ -144,7 +145,7 @@ fn column_part(path: &Path) -> &Name
 }
 
 /// The name of an item that is a column.
-fn column_name<'e>(e: &'e Expr, relations: &[Relation<'_>]) -> Option<&'e Name>
+fn column_name<'e>(e: &'e Expr, relations: &Relations<'_, '_>) -> Option<&'e Name>
     ensures { option_copied result ≡ rows.form_name relations.now (out-Expr e.now) }
 {
     match e {
@@ -157,7 +158,7 @@ fn column_name<'e>(e: &'e Expr, relations: &[Relation<'_>]) -> Option<&'e Name>
 }
 
 /// An item's alias, or else the name of its column.
-fn field_name<'i>(item: &'i Item, relations: &[Relation<'_>]) -> Option<&'i Name>
+fn field_name<'i>(item: &'i Item, relations: &Relations<'_, '_>) -> Option<&'i Name>
     ensures { option_copied result ≡ option_or item.now.alias (rows.kind_name relations.now item.now.what) }
 {
     if let Some(alias) = &item.alias {
@@ -181,7 +182,7 @@ fn copied(alloc: Global, name: Option<&Name>) -> Result<Option<Name>, NoMemory>
 fn item_field(
     alloc: Global,
     item: &Item,
-    relations: &[Relation<'_>],
+    relations: &Relations<'_, '_>,
     place: &Place<'_>,
     known: &Scopes<'_>,
 ) -> Result<Field, NoMemory>
@@ -195,7 +196,7 @@ fn item_field(
 fn item_fields(
     alloc: Global,
     items: &[Item],
-    relations: &[Relation<'_>],
+    relations: &Relations<'_, '_>,
     place: &Place<'_>,
     known: &Scopes<'_>,
 ) -> Result<List<Field>, NoMemory>
@@ -240,14 +241,14 @@ fn all_fields(alloc: Global, relations: &[Relation<'_>]) -> Result<List<Field>, 
 fn list_fields(
     alloc: Global,
     list: &SelectList,
-    relations: &[Relation<'_>],
+    relations: &Relations<'_, '_>,
     place: &Place<'_>,
     known: &Scopes<'_>,
 ) -> Result<List<Field>, NoMemory>
     ensures { IfOk result (λ fields. fields ≡ rows.list_fields relations.now (env place.now known.now) list.now) }
 {
     match list {
-        SelectList::All => all_fields(alloc, relations),
+        SelectList::All => all_fields(alloc, relations.as_slice()),
         SelectList::Items(items) => item_fields(alloc, items.as_slice(), relations, place, known),
     }
 }
@@ -264,8 +265,9 @@ fn query_over(
     ensures least { OnOk result (least.new ≡ noted (spec.in_query q.now relations.now (env place.now known.now)) least.old) }
     ensures fields { IfOk result (λ fields. fields ≡ Some (rows.list_fields relations.now (env place.now known.now) q.now.list)) }
 {
-    in_query(q, relations, place, known, least);
-    let fields = list_fields(alloc, &q.list, relations, place, known)?;
+    let relations = Relations::of(alloc, relations)?;
+    in_query(q, &relations, place, known, least);
+    let fields = list_fields(alloc, &q.list, &relations, place, known)?;
     Ok(Some(Shared::new(alloc, fields)?))
 }
 
@@ -337,6 +339,22 @@ pub fn insert(
     insert_names(alloc, i, place, known, least)
 }
 
+/// The names in an UPDATE of what is its one source.
+fn update_over(
+    alloc: Global,
+    u: &Update,
+    relation: &Relation<'_>,
+    place: &Place<'_>,
+    known: &Scopes<'_>,
+    least: &mut Option<u8>,
+) -> Result<(), NoMemory>
+    ensures { OnOk result (least.new ≡ noted (spec.in_update u.now (relation.now ∷ []) (env place.now known.now)) least.old) }
+{
+    let relations = Relations::of(alloc, slice::from_ref(relation))?;
+    in_update(u, &relations, place, known, least);
+    Ok(())
+}
+
 fn update_names(
     alloc: Global,
     u: &Update,
@@ -347,10 +365,7 @@ fn update_names(
     ensures { OnOk result (least.new ≡ noted (spec.over_one (spec.in_update u.now) (env place.now known.now) (only_relation place.now.seen.now.view u.now.table u.now.alias)) least.old) }
 {
     match only_relation(alloc, place.seen.get(), &u.table, &u.alias) {
-        Ok(relation) => {
-            in_update(u, &[relation], place, known, least);
-            Ok(())
-        }
+        Ok(relation) => update_over(alloc, u, &relation, place, known, least),
         Err(Stop::Raised(_)) => Ok(()),
         Err(Stop::NoMemory) => Err(NoMemory),
     }
@@ -370,6 +385,22 @@ pub fn update(
     update_names(alloc, u, place, known, least)
 }
 
+/// The names in a DELETE from what is its one source.
+fn delete_over(
+    alloc: Global,
+    d: &Delete,
+    relation: &Relation<'_>,
+    place: &Place<'_>,
+    known: &Scopes<'_>,
+    least: &mut Option<u8>,
+) -> Result<(), NoMemory>
+    ensures { OnOk result (least.new ≡ noted (spec.when d.now.filter (relation.now ∷ []) (env place.now known.now)) least.old) }
+{
+    let relations = Relations::of(alloc, slice::from_ref(relation))?;
+    when(&d.filter, &relations, place, known, least);
+    Ok(())
+}
+
 fn delete_names(
     alloc: Global,
     d: &Delete,
@@ -380,10 +411,7 @@ fn delete_names(
     ensures { OnOk result (least.new ≡ noted (spec.over_one (spec.when d.now.filter) (env place.now known.now) (only_relation place.now.seen.now.view d.now.table d.now.alias)) least.old) }
 {
     match only_relation(alloc, place.seen.get(), &d.table, &d.alias) {
-        Ok(relation) => {
-            when(&d.filter, &[relation], place, known, least);
-            Ok(())
-        }
+        Ok(relation) => delete_over(alloc, d, &relation, place, known, least),
         Err(Stop::Raised(_)) => Ok(()),
         Err(Stop::NoMemory) => Err(NoMemory),
     }

@@ -7,10 +7,10 @@ use Rattle.ebr_ast.specs.declared.statement.Decl.TheVariants as decl
 use Rattle.ebr_scope.specs.Meanings.{Word}
 use Rattle.ebr_rules.specs.Rules.{is_exception_named, is_exception_number}
 
--- whether names differ from each other and from those before them
-abbrev pub are_fresh : List Word → List Word → Bool
-are_fresh before [] = true
-are_fresh before (n ∷ ns) = not (list_any (bytes_eq n) before) && are_fresh (before ++ n ∷ []) ns
+-- whether keys differ from each other and from those before them
+abbrev pub are_fresh : {K : Type 0} → (K → K → Bool) → List K → List K → Bool
+are_fresh same before [] = true
+are_fresh same before (k ∷ ks) = not (list_any (same k) before) && are_fresh same (before ++ k ∷ []) ks
 
 -- the names are those of the exceptions among declarations
 abbrev pub HasExceptions : List Decl → List Word → Type 0
