@@ -3,6 +3,7 @@ use Rattle.std.proofs.Common.{◌≡◌, ℕ, List, [], ◌∷◌, codes, Bool, 
 use Rattle.std.specs.Prelude.{pos, if◌then◌else◌, Option, Some, None}
 use Rattle.std.specs.Fmt.{digits}
 use Rattle.ebr_base.specs.declared.code.Code.TheVariants.{Ora, Ebr}
+use Rattle.ebr_base.specs.declared.value.Value.{Value}
 use Rattle.ebr_base.specs.declared.value.Value.TheVariants as value
 use Rattle.ebr_exprtree.specs.declared.expression.Path.{Path}
 use Rattle.ebr_exprtree.specs.declared.expression.Expr.{Expr}
@@ -32,8 +33,12 @@ use Rattle.ebr_base.specs.Values.{text_value}
 use Rattle.ebr_ast.specs.declared.statement.Target.TheVariants as target
 use Rattle.ebr_value.specs.Texts.{printed}
 use Rattle.ebr_run.specs.State.{line, bare, done, loop, then_run}
-use Rattle.ebr_run.specs.Values.{on_value, is_true, assign}
-use Rattle.ebr_run.specs.Scope.{part, with_counter, next_variable, declared_type, meant, meant_at, raised_at}
+use Rattle.ebr_run.specs.declared.fault.Exception.{Exception}
+use Rattle.ebr_run.specs.declared.fault.Fault.TheVariants as fault
+use Rattle.ebr_run.specs.declared.place.VariableType.TheVariants.{Unknown}
+use Rattle.ebr_run.specs.Faults.{ora}
+use Rattle.ebr_run.specs.Values.{on_value, is_true, assign, unfit, known_of}
+use Rattle.ebr_run.specs.Scope.{part, with_counter, next_variable, declared_type, fault_of, meant, meant_at, raised_at}
 use Rattle.ebr_run.specs.Expressions.{Reading, Term, reading_of, term_of, name_reading, further, summed, of_two}
 use Rattle.ebr_run.specs.Statements.{Meaning, Handling, meaning_of, block_meaning, over_numbers, run_all, guarded, raise, declare_all, with_decls, assigned, target_place, choose, exits}
 use Rattle.ebr_run.specs.Calls.{entered, calls_of}
@@ -334,3 +339,23 @@ handler_takes_what_it_names v =
     ∙ ap (λ r. ran v (declares_both r (meaning_of twice)) 1000000) (of_number 0)
     ∙ ap (λ m. ran v (declares_both (reads_number 0) m) 1000000) of_twice
     ∙ refl
+
+-- ---- codes that EXCEPTION_INIT gives, and a type that isn't known
+
+own_code : (e : Exception) → fault_of (Some 20999) e ≡ ora 20999
+own_code e = refl
+
+no_code_behind : (e : Exception) → fault_of (Some 21000) e ≡ fault.User e
+no_code_behind e = refl
+
+no_code_above : (e : Exception) → fault_of (Some 5000000000) e ≡ fault.User e
+no_code_above e = refl
+
+no_code_of_no_row : (e : Exception) → fault_of (Some 1403) e ≡ fault.User e
+no_code_of_no_row e = refl
+
+takes_every : (v : Value) → unfit (Some Unknown) v ≡ None
+takes_every v = refl
+
+fits_every : known_of (Some Unknown) ≡ None
+fits_every = refl

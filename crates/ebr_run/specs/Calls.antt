@@ -34,11 +34,13 @@ pub record Making : Type 0 where
   pub stateful : Bool
   pub run : Calls → Runs
 
--- what an edition has: the parts of valid units, how packages are made that are valid, and what they are made from
+-- what an edition has: the parts of valid units, how packages are made that are valid, what they are made from, and how many
+-- objects are visible
 pub record Parts : Type 0 where
   pub part : Callee → Option Part
   pub making : Word → Option Making
   pub made : Word → Made
+  pub objects : ℕ
 
 -- ---- leaving a subprogram
 
@@ -133,20 +135,20 @@ make (Some m) made p calls σ =
     (m.run calls (bare (with_memory (fresh []) (with_packages (σ.packages ++ first_state p made m.stateful ∷ []) σ)))))
 
 -- The state was made from what is no longer visible: it is lost, and where there was anything in it, ORA-04068 is raised.
-abbrev pub outdated : Bool → Parts → Word → Calls → Runs
-outdated true parts p calls σ = raises (ora 4068) σ
-outdated false parts p calls σ = make (parts.making p) (parts.made p) p calls σ
+abbrev pub outdated : Bool → Runs → Runs
+outdated true making σ = raises (ora 4068) σ
+outdated false making σ = making σ
 
-abbrev pub refer_to : Option PackageState → Parts → Word → Calls → Runs
-refer_to None parts p calls σ = make (parts.making p) (parts.made p) p calls σ
-refer_to (Some s) parts p calls σ =
-    if same_made s.made (parts.made p) then done σ else outdated s.stateful parts p calls (with_packages (forget p σ.packages) σ)
+-- a reference to a package that would be made from this now, by this making
+abbrev pub refer_to : Option PackageState → Made → Word → Runs → Runs
+refer_to None made p making σ = making σ
+refer_to (Some s) made p making σ = if same_made s.made made then done σ else outdated s.stateful making (with_packages (forget p σ.packages) σ)
 
 -- Under a trigger no package is made, and none of its variables and cursors may be used (own).
-abbrev pub refer_in : Option Row → Reference → Parts → Word → Calls → Runs
-refer_in None r parts p calls σ = refer_to (state_of p σ.packages) parts p calls σ
-refer_in (Some row) reference.Other parts p calls σ = done σ
-refer_in (Some row) reference.Data parts p calls σ = raises (ebr 12) σ
+abbrev pub refer_in : Option Row → Reference → Made → Word → Runs → Runs
+refer_in None r made p making σ = refer_to (state_of p σ.packages) made p making σ
+refer_in (Some row) reference.Other made p making σ = done σ
+refer_in (Some row) reference.Data made p making σ = raises (ebr 12) σ
 
 -- ---- the calls, with so many frames and makings left
 
@@ -154,17 +156,16 @@ abbrev pub by_frames : Parts → (ℕ → Reference → Word → Runs) → ℕ �
 by_frames parts refer zero = record { call = λ f vs σ. too_deep (parts.part f) σ; refer = refer zero }
 by_frames parts refer (suc n) = record { call = λ f vs σ. enter (parts.part f) f (by_frames parts refer n) vs σ; refer = refer (suc n) }
 
--- A making is no frame. Each one inside another is of another package, so that as many as there can be objects suffice.
+-- A making is no frame. Each one inside another is of another visible package, so that as many as there are visible objects
+-- suffice.
 abbrev pub by_makings : Parts → ℕ → ℕ → Reference → Word → Runs
-by_makings parts zero n r p σ = broken σ
-by_makings parts (suc m) n r p σ = refer_in σ.row r parts p (by_frames parts (by_makings parts m) n) σ
-
-abbrev pub most_makings : ℕ
-most_makings = 4097
+by_makings parts zero n r p σ = refer_in σ.row r (parts.made p) p broken σ
+by_makings parts (suc m) n r p σ =
+    refer_in σ.row r (parts.made p) p (make (parts.making p) (parts.made p) p (by_frames parts (by_makings parts m) n)) σ
 
 -- the block or body that runs is the first of 1,000 frames
 abbrev pub most_calls : ℕ
 most_calls = 999
 
 abbrev pub calls_of : Parts → Calls
-calls_of parts = by_frames parts (by_makings parts most_makings) most_calls
+calls_of parts = by_frames parts (by_makings parts parts.objects) most_calls

@@ -37,6 +37,7 @@ use Rattle.ebr_scope.specs.Declarations as known_type
 use Rattle.ebr_scope.specs.Declarations.{column_of, decl_name, item_named, is_name}
 use Rattle.ebr_scope.specs.Names.{visible_head, visible_items, is_function}
 use Rattle.ebr_scope.specs.Around as checked
+use Rattle.ebr_rules.specs.Rules.{is_exception_number}
 use Rattle.ebr_run.specs.declared.callee.Callee.{Callee}
 use Rattle.ebr_run.specs.declared.fault.Exception as declaring
 use Rattle.ebr_run.specs.declared.fault.Fault.{Fault}
@@ -44,17 +45,18 @@ use Rattle.ebr_run.specs.declared.fault.Fault.TheVariants as fault
 use Rattle.ebr_run.specs.declared.place.Location.{Location}
 use Rattle.ebr_run.specs.declared.place.Location.TheVariants.{Own, Member}
 use Rattle.ebr_run.specs.declared.place.VariableType.{VariableType}
-use Rattle.ebr_run.specs.declared.place.VariableType.TheVariants.{Plain, Boolean}
+use Rattle.ebr_run.specs.declared.place.VariableType.TheVariants.{Plain, Boolean, Unknown}
 use Rattle.ebr_run.specs.declared.place.Bind.{Bind}
 use Rattle.ebr_run.specs.Faults.{ora}
 
 -- ---- types
 
--- the type of a column; a size that is out of range stands in no valid unit
+-- the type of a column; that of one that has gone isn't known any more (own)
 abbrev pub of_column : Option ViewColumn → VariableType
-of_column None = Boolean
+of_column None = Unknown
 of_column (Some c) = Plain c.ty
 
+-- a size or a number; one that is out of range stands in no valid unit
 abbrev pub at_most : ℕ → ℕ → ℕ
 at_most most n = if nat_le n most then n else most
 
@@ -160,12 +162,17 @@ code_given n [] = None
 code_given n (decl.ExceptionInit m k ∷ ds) = option_or (code_given n ds) (if bytes_eq n m then Some k else None)
 code_given n (d ∷ ds) = code_given n ds
 
+-- a number that the rules refuse gives an exception no code (own)
 abbrev pub fault_of : Option ℕ → declaring.Exception → Fault
 fault_of None e = fault.User e
-fault_of (Some k) e = ora k
+fault_of (Some k) e = if is_exception_number k then ora k else fault.User e
 
 abbrev pub declared_exception : Option ObjectKey → List ℕ → Word → List Decl → Fault
 declared_exception u path n ds = fault_of (code_given n ds) (record { unit = u; block = path; name = n })
+
+-- what RAISE_APPLICATION_ERROR raises
+abbrev pub application_error : ℕ → Fault
+application_error k = ora (at_most 20999 k)
 
 unfoldable pub predefined_code : Word → Option ℕ
 predefined_code n =

@@ -65,7 +65,7 @@ use Rattle.ebr_run.specs.Faults.{ora, Catches, All, These, is_caught}
 use Rattle.ebr_run.specs.Cursors.{Closed, Open, is_open, Fetched, Unopened, NoRow, Unfit, Row, row_fits, fetched}
 use Rattle.ebr_run.specs.State.{State, Runs, End, Normal, Exit, Continue, Returned, bare, with_operands, ended, done, raises, broken, then_run, step, loop, counting, caught, finally, line, asked, when_done}
 use Rattle.ebr_run.specs.Values.{unfit, known_of, when_fit, is_true, with_variable, assign, cursor_at, with_cursor, moved_on, with_fault, handled_at, new_at, old_at, set_new, affecting}
-use Rattle.ebr_run.specs.Scope.{Env, Denoted, Variable, Exception, Cursor, Subprogram, Bound, declared_type, declared_exception, callee, meant, meant_at, called, applied, raised, column_place, part, within_handler, next_variable, next_cursor, knows, named, with_counter, with_record, known_fields, hands_back, to_checks}
+use Rattle.ebr_run.specs.Scope.{Env, Denoted, Variable, Exception, Cursor, Subprogram, Bound, declared_type, declared_exception, application_error, callee, meant, meant_at, called, applied, raised, column_place, part, within_handler, next_variable, next_cursor, knows, named, with_counter, with_record, known_fields, hands_back, to_checks}
 use Rattle.ebr_run.specs.Binds.{bound_query, bound_insert, bound_update, bound_delete}
 use Rattle.ebr_run.specs.Expressions.{Calls, Reading, reading_of, referred, located, values, called_with}
 
@@ -332,20 +332,21 @@ for_range r body env calls σ =
 
 -- ---- loops over rows
 
--- where the rows come from: the cursor's place, its query, and the fields of the record
+-- where the rows come from: the cursor's place, whether the loop declares it, its query, and the fields of the record
 pub record Source : Type 0 where
   pub location : Location
+  pub own : Bool
   pub query : Bound Query
   pub fields : Fields
 
 abbrev pub cursor_source : Option Denoted → Option Source
-cursor_source (Some (Cursor l q fs)) = Some (record { location = l; query = q; fields = fs })
+cursor_source (Some (Cursor l q fs)) = Some (record { location = l; own = false; query = q; fields = fs })
 cursor_source d = None
 
 -- a query has a cursor of its own
 abbrev pub source_of : RowsFrom → Env → Option Source
 source_of (from.Cursor c) env = cursor_source (meant_at env c None)
-source_of (from.Query q) env = Some (record { location = Own env.cursors; query = bound_query env q; fields = fields_of (to_checks env) q })
+source_of (from.Query q) env = Some (record { location = Own env.cursors; own = true; query = bound_query env q; fields = fields_of (to_checks env) q })
 
 abbrev pub field_type : Field → Known
 field_type f = f.ty
@@ -355,13 +356,17 @@ abbrev pub with_fields : ℕ → List Value → State → State
 with_fields k [] σ = σ
 with_fields k (v ∷ vs) σ = with_fields (suc k) vs (with_variable k v σ)
 
+-- A cursor that the loop declares is closed at first, as a declared one is, whatever was at its place.
+abbrev pub declared_by : Source → State → State
+declared_by s σ = if s.own then with_cursor s.location Closed σ else σ
+
 -- The cursor is closed at the end, however the loop is left, and also where the body closed it.
 abbrev pub over_rows : Source → Meaning → Env → Calls → Runs
 over_rows s body env calls σ =
     open_at s.location s.query env calls
     (λ τ. finally
     (loop (fetch_at s.location (map field_type (known_fields s.fields)) calls (λ vs υ. done (with_fields env.variables vs υ)) exits) (body env calls) τ)
-    (with_cursor s.location Closed)) σ
+    (with_cursor s.location Closed)) (declared_by s σ)
 
 -- the body of a loop over rows, inside its record and its cursor
 abbrev pub in_rows : Word → Source → Env → Env
@@ -407,7 +412,7 @@ act (stmt.Call path es) env calls σ = call path es env calls σ
 act (stmt.Sql s) env calls σ = sql_statement s env calls σ
 act (stmt.Cursor c) env calls σ = cursor_statement c env calls σ
 act (stmt.PutLine e) env calls σ = put_line e env calls σ
-act (stmt.RaiseApplicationError k e) env calls σ = reading_of e env calls (λ text. raises (ora k)) σ
+act (stmt.RaiseApplicationError k e) env calls σ = reading_of e env calls (λ text. raises (application_error k)) σ
 
 -- ---- declarations
 

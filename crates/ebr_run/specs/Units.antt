@@ -1,7 +1,7 @@
 -- What the units of an edition do.
 -- Oracle Database PL/SQL Language Reference 19c, CREATE PROCEDURE, CREATE FUNCTION, CREATE PACKAGE, CREATE PACKAGE BODY,
 -- CREATE TRIGGER, and Block.
-use Rattle.std.specs.Prelude.{ℕ, zero, suc, Bool, true, false, ◌||◌, if◌then◌else◌, List, [], map, slice_get, Option, Some, None, option_map, option_and_then}
+use Rattle.std.specs.Prelude.{ℕ, zero, suc, Bool, true, false, ◌||◌, if◌then◌else◌, List, [], map, length, slice_get, Option, Some, None, option_map, option_and_then}
 use Rattle.std.specs.List.{list_any, filter_map}
 use Rattle.ebr_base.specs.declared.numbers.Stamp.{Stamp}
 use Rattle.ebr_base.specs.declared.object.Class.{Class}
@@ -177,4 +177,5 @@ parts_of v = record {
   part = called_part v;
   making = λ p. making_with v p (stamp_in v (body_key p));
   made = λ p. record { specification = stamp_in v (unit_key p); body = stamp_in v (body_key p) };
+  objects = length v.objects;
 }

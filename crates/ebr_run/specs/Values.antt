@@ -19,7 +19,7 @@ use Rattle.ebr_run.specs.declared.fault.Fault.TheVariants as fault
 use Rattle.ebr_run.specs.declared.place.Location.{Location}
 use Rattle.ebr_run.specs.declared.place.Location.TheVariants.{Own, Member}
 use Rattle.ebr_run.specs.declared.place.VariableType.{VariableType}
-use Rattle.ebr_run.specs.declared.place.VariableType.TheVariants.{Plain, Boolean}
+use Rattle.ebr_run.specs.declared.place.VariableType.TheVariants.{Plain, Boolean, Unknown}
 use Rattle.ebr_run.specs.Faults.{sqlcode}
 use Rattle.ebr_run.specs.Cursors.{Cursor, Closed, after_fetch}
 use Rattle.ebr_run.specs.Packages.{PackageState, state_of, change, put, at}
@@ -32,17 +32,19 @@ fits_boolean value.Null = None
 fits_boolean (value.Bool b) = None
 fits_boolean v = Some (Ora 932)
 
--- the code that the assignment of a value to a variable raises; one without a type takes every value
+-- the code that the assignment of a value to a variable raises; one whose type isn't known takes every value
 abbrev pub unfit : Option VariableType → Value → Option Code
 unfit None v = None
 unfit (Some (Plain ty)) v = fits v ty InCode
 unfit (Some Boolean) v = fits_boolean v
+unfit (Some Unknown) v = None
 
 -- the type of a variable's values
 abbrev pub known_of : Option VariableType → Known
 known_of None = None
 known_of (Some (Plain ty)) = Some (type_of_column ty)
 known_of (Some Boolean) = Some type.Boolean
+known_of (Some Unknown) = None
 
 abbrev pub when_fit : Option Code → Runs → Runs
 when_fit None k σ = k σ

@@ -9,6 +9,8 @@ pub enum VariableType {
     /// A number or a text, as a column of this type.
     Plain(ColType),
     Boolean,
+    /// That of a column that isn't there any more. It takes every value.
+    Unknown,
 }
 
 /// Where a variable or a cursor is.
