@@ -52,8 +52,7 @@ use Rattle.ebr_run.specs.declared.place.Bind.{Bind}
 use Rattle.ebr_run.specs.declared.place.Bind.TheVariants as bind
 use Rattle.ebr_run.specs.declared.place.Location.{Location}
 use Rattle.ebr_run.specs.declared.place.Location.TheVariants.{Own, Member}
-use Rattle.ebr_run.specs.Faults.{ora}
-use Rattle.ebr_run.specs.Scope.{Env, Denoted, Variable, Exception, Cursor, Subprogram, Bound, callee, declared_type, meant, meant_at, called, applied, raised, column_place, part, within_handler, next_variable, next_cursor, with_counter, known_fields}
+use Rattle.ebr_run.specs.Scope.{Env, Denoted, Variable, Exception, Cursor, Subprogram, Bound, application_error, callee, declared_type, meant, meant_at, called, applied, raised, column_place, part, within_handler, next_variable, next_cursor, with_counter, known_fields}
 use Rattle.ebr_run.specs.Binds.{bound_query, bound_insert, bound_update, bound_delete}
 use Rattle.ebr_run.specs.Statements.{Place, Stored, New, Nowhere, Source, target_place, place_type, outs, unless_builtin, exception_named, field_type, source_of, in_rows, with_decl, with_decls}
 use Rattle.ebr_code.specs.declared.instruction.Caught as caught
@@ -347,10 +346,16 @@ abbrev pub fields_code : ℕ → List Known → List Instruction
 fields_code k [] = []
 fields_code k (t ∷ ts) = Do (does.Assign (Own k) None) ∷ fields_code (suc k) ts
 
+-- a cursor that a loop declares
+abbrev pub declared_code : Bool → Location → List Instruction
+declared_code true l = Do (does.Reset l) ∷ []
+declared_code false l = []
+
 abbrev pub over_rows_code : Source → Word → Coded → Coded
 over_rows_code s n body env =
     let ts = map field_type (known_fields s.fields) in
-    open_code s.location s.query ++ Closing s.location (Loop (fetch_code s.location ts (fields_code env.variables ts) (Do does.Exit ∷ [])) (body (in_rows n s env)) ∷ []) ∷ []
+    declared_code s.own s.location
+    ++ (open_code s.location s.query ++ Closing s.location (Loop (fetch_code s.location ts (fields_code env.variables ts) (Do does.Exit ∷ [])) (body (in_rows n s env)) ∷ []) ∷ [])
 
 abbrev pub rows_code : Option Source → Rows → Coded → Coded
 rows_code None r body env = Do does.Broken ∷ []
@@ -383,7 +388,7 @@ stmt_codes (stmt.Call path es) env = call_statement path es env
 stmt_codes (stmt.Sql s) env = sql_code s env
 stmt_codes (stmt.Cursor c) env = cursor_statement c env
 stmt_codes (stmt.PutLine e) env = expr_code e env ++ Do does.PutLine ∷ []
-stmt_codes (stmt.RaiseApplicationError k e) env = expr_code e env ++ (Do does.Drop ∷ Do (does.Raise (ora k)) ∷ [])
+stmt_codes (stmt.RaiseApplicationError k e) env = expr_code e env ++ (Do does.Drop ∷ Do (does.Raise (application_error k)) ∷ [])
 
 -- ---- declarations
 

@@ -49,6 +49,7 @@ parts_of book = record {
   part = called_part book;
   making = λ p. making_with book p (book.stamp (body_key p));
   made = λ p. record { specification = book.stamp (unit_key p); body = book.stamp (body_key p) };
+  objects = book.objects;
 }
 
 -- What a compiled unit does, with these arguments, states of packages, steps left and answers.

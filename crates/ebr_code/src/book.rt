@@ -55,4 +55,8 @@ pub trait CodeBook {
     /// The stamp of a visible object.
     fn stamp(&self, e: EditionNo, class: Class, name: &Name) -> Option<Stamp>
         ensures { result ≡ (Self.answers self.now e).stamp (record { class = class; name = name.now }) };
+
+    /// How many objects are visible.
+    fn objects(&self, e: EditionNo) -> usize
+        ensures { result ≡ (Self.answers self.now e).objects };
 }

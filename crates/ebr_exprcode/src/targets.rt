@@ -139,6 +139,7 @@ fn known(ty: VariableType) -> Option<ValueType>
     match ty {
         VariableType::Plain(ty) => Some(column_type(ty)),
         VariableType::Boolean => Some(ValueType::Boolean),
+        VariableType::Unknown => None,
     }
 }
 

@@ -1,6 +1,6 @@
 //! Exceptions, and the codes that they have.
 
-ghost use Rattle.std.specs.Prelude.{◌≡◌, IfOk, option_map};
+ghost use Rattle.std.specs.Prelude.{◌≡◌, Some, IfOk, option_map};
 ghost use Rattle.ebr_run.specs.Scope as spec;
 ghost use Rattle.ebr_run.specs.declared.fault.Fault.TheVariants as fault;
 ghost use Rattle.ebr_places.specs.Lent.{lent};
@@ -34,19 +34,35 @@ fn user(
     Ok(Fault::User(Shared::new(alloc, Exception { unit, block, name })?))
 }
 
-/// The fault of a declared exception: its code, where it has one. It finds no memory where the code is above 4,294,967,295.
+/// The fault of a declared exception to which EXCEPTION_INIT gives a number: this code, where the rules allow it.
+fn numbered(
+    alloc: Global,
+    unit: &Option<ObjectKey>,
+    path: &[usize],
+    name: &Name,
+    number: u64,
+) -> Result<Fault, NoMemory>
+    ensures { IfOk result (λ f. f ≡ spec.fault_of (Some number) (record { unit = unit.now; block = path.now; name = name.now })) }
+{
+    if 1 <= number && number <= 20999 && number != 1403 {
+        Ok(Fault::Code(Code::Ora(number as u32)))
+    } else {
+        user(alloc, unit, path, name)
+    }
+}
+
+/// The fault of a declared exception, with the number that EXCEPTION_INIT gives it.
 pub fn declared_exception(
     alloc: Global,
     unit: &Option<ObjectKey>,
     path: &[usize],
     name: &Name,
-    code: Option<u64>,
+    number: Option<u64>,
 ) -> Result<Fault, NoMemory>
-    ensures { IfOk result (λ f. f ≡ spec.fault_of code (record { unit = unit.now; block = path.now; name = name.now })) }
+    ensures { IfOk result (λ f. f ≡ spec.fault_of number (record { unit = unit.now; block = path.now; name = name.now })) }
 {
-    match code {
-        Some(code) if code <= 4294967295 => Ok(Fault::Code(Code::Ora(code as u32))),
-        Some(_) => Err(NoMemory),
+    match number {
+        Some(number) => numbered(alloc, unit, path, name, number),
         None => user(alloc, unit, path, name),
     }
 }

@@ -28,9 +28,9 @@ fn of_column(alloc: Global, seen: &Seen<'_>, n: &Name, m: &Name) -> Result<Varia
     match columns(alloc, seen.get(), n) {
         Ok(found) => match column_among(found.as_slice(), m) {
             Some(column) => Ok(VariableType::Plain(column.ty)),
-            None => Ok(VariableType::Boolean),
+            None => Ok(VariableType::Unknown),
         },
-        Err(Stop::Raised(_)) => Ok(VariableType::Boolean),
+        Err(Stop::Raised(_)) => Ok(VariableType::Unknown),
         Err(Stop::NoMemory) => Err(NoMemory),
     }
 }

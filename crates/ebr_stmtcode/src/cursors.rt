@@ -1,6 +1,6 @@
 //! Cursors.
 
-ghost use Rattle.std.specs.Prelude.{◌≡◌, ◌∷◌, ◌++◌, [], None, Some, map, IfOk, OnOk, option_map};
+ghost use Rattle.std.specs.Prelude.{◌≡◌, ◌∷◌, ◌++◌, [], None, Some, false, map, IfOk, OnOk, option_map};
 ghost use Rattle.ebr_code.specs.declared.instruction.Instruction.{Do};
 ghost use Rattle.ebr_code.specs.declared.instruction.Operation.TheVariants as does;
 ghost use Rattle.ebr_run.specs.Scope as scope;
@@ -22,22 +22,23 @@ use ebr_scope::Field;
 use ebr_sqlcheck::ValueType;
 use std::alloc::Global;
 
-/// Where rows come from: the cursor's place, its query, and its columns.
+/// Where rows come from: the cursor's place, whether a loop declares it, its query, and its columns.
 #[derive(Drop)]
 pub struct Source {
     pub location: Location,
+    pub own: bool,
     pub query: Bound<Query>,
     pub fields: Option<Shared<List<Field>>>,
 }
 
-/// The cursor at a place.
+/// The declared cursor at a place.
 fn source_at(
     alloc: Global,
     location: &Location,
     query: &Bound<Query>,
     fields: &Option<Shared<List<Field>>>,
 ) -> Result<Shared<Source>, NoMemory>
-    ensures { IfOk result (λ s. source s ≡ record { location = location.now; query = bound query.now; fields = fields.now }) }
+    ensures { IfOk result (λ s. source s ≡ record { location = location.now; own = false; query = bound query.now; fields = fields.now }) }
 {
     let (query, fields) = both(alloc, query, fields)?;
     let location = location.clone_in(alloc)?;
@@ -45,6 +46,7 @@ fn source_at(
         alloc,
         Source {
             location,
+            own: false,
             query,
             fields,
         },

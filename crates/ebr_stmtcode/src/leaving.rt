@@ -3,7 +3,7 @@
 ghost use Rattle.std.specs.Prelude.{◌≡◌, ◌∷◌, ◌++◌, [], Some, IfOk, OnOk};
 ghost use Rattle.ebr_code.specs.declared.instruction.Instruction.{Do};
 ghost use Rattle.ebr_code.specs.declared.instruction.Operation.TheVariants as does;
-ghost use Rattle.ebr_run.specs.Faults.{ora};
+ghost use Rattle.ebr_run.specs.Scope as scope;
 ghost use Rattle.ebr_run.specs.Statements as run;
 ghost use Rattle.ebr_code.specs.Codes as spec;
 ghost use Rattle.ebr_stmtcode.specs.inside.Leaving.{leaving};
@@ -118,14 +118,22 @@ pub fn print(
     act(out, Operation::PutLine)
 }
 
-/// A number of Oracle's as a fault.
-fn numbered(number: u64) -> Result<Fault, NoMemory>
-    ensures { IfOk result (λ fault. fault ≡ ora number) }
+/// A number of RAISE_APPLICATION_ERROR. One above 20999 stands in no valid unit.
+fn cut(number: u64) -> u32
+    ensures { result ≡ scope.at_most 20999 number }
 {
-    match u32::try_from(number) {
-        Ok(n) => Ok(Fault::Code(ebr_base::Code::Ora(n))),
-        Err(_) => Err(NoMemory),
+    if number <= 20999 {
+        number as u32
+    } else {
+        20999
     }
+}
+
+/// What RAISE_APPLICATION_ERROR raises.
+fn numbered(number: u64) -> Fault
+    ensures { result ≡ scope.application_error number }
+{
+    Fault::Code(ebr_base::Code::Ora(cut(number)))
 }
 
 /// RAISE_APPLICATION_ERROR.
@@ -136,10 +144,9 @@ pub fn raise_number(
     around: &Around<'_>,
     out: &mut List<Instruction>,
 ) -> Result<(), NoMemory>
-    ensures { OnOk result (out.new ≡ out.old ++ (spec.expr_code text.now around.now ++ (Do does.Drop ∷ Do (does.Raise (ora number)) ∷ []))) }
+    ensures { OnOk result (out.new ≡ out.old ++ (spec.expr_code text.now around.now ++ (Do does.Drop ∷ Do (does.Raise (scope.application_error number)) ∷ []))) }
 {
     expression(alloc, text, around, out)?;
     act(out, Operation::Drop)?;
-    let fault = numbered(number)?;
-    act(out, Operation::Raise(fault))
+    act(out, Operation::Raise(numbered(number)))
 }

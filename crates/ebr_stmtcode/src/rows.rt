@@ -31,6 +31,7 @@ fn query_source(alloc: Global, q: &Query, around: &Around<'_>) -> Result<Shared<
         alloc,
         Source {
             location: Location::Own(around.cursors()),
+            own: true,
             query,
             fields,
         },
@@ -131,6 +132,17 @@ fn closing(
     out.push(Instruction::Closing(location, code))
 }
 
+/// Closes the cursor of a loop over rows at first, where the loop declares it.
+fn declare(alloc: Global, from: &Source, out: &mut List<Instruction>) -> Result<(), NoMemory>
+    ensures { OnOk result (out.new ≡ out.old ++ spec.declared_code from.now.own from.now.location) }
+{
+    if !from.own {
+        return Ok(());
+    }
+    let location = from.location.clone_in(alloc)?;
+    act(out, Operation::Reset(location))
+}
+
 /// A loop over rows, whose record's fields are the variables from a place on.
 pub fn rows_loop(
     alloc: Global,
@@ -139,8 +151,9 @@ pub fn rows_loop(
     body: Code,
     out: &mut List<Instruction>,
 ) -> Result<(), NoMemory>
-    ensures { OnOk result (out.new ≡ out.old ++ (spec.open_code from.now.location (bound from.now.query) ++ Closing from.now.location (Loop (spec.fetch_code from.now.location (types_of from.now) (spec.fields_code variable (types_of from.now)) (Do does.Exit ∷ [])) body ∷ []) ∷ [])) }
+    ensures { OnOk result (out.new ≡ out.old ++ (spec.declared_code from.now.own from.now.location ++ (spec.open_code from.now.location (bound from.now.query) ++ Closing from.now.location (Loop (spec.fetch_code from.now.location (types_of from.now) (spec.fields_code variable (types_of from.now)) (Do does.Exit ∷ [])) body ∷ []) ∷ []))) }
 {
+    declare(alloc, from, out)?;
     open_source(alloc, &from.location, &from.query, out)?;
     let head = row_head(alloc, from, variable)?;
     let code = only_loop(alloc, head, body)?;

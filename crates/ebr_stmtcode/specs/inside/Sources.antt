@@ -7,7 +7,7 @@ use Rattle.ebr_stmtcode.specs.declared.cursors.Source as has
 use Rattle.ebr_places.specs.Lent.{bound}
 
 abbrev pub source : has.Source → Source
-source s = record { location = s.location; query = bound s.query; fields = s.fields }
+source s = record { location = s.location; own = s.own; query = bound s.query; fields = s.fields }
 
 -- the types of its columns
 abbrev pub types_of : has.Source → List Known
