@@ -14,7 +14,7 @@ use Rattle.ebr_run.specs.declared.callee.Callee.{Callee}
 use Rattle.ebr_run.specs.declared.callee.Reference.{Reference}
 use Rattle.ebr_run.specs.declared.callee.Reference.TheVariants as reference
 use Rattle.ebr_run.specs.Packages.{PackageState, Made, state_of, forget, same_made}
-use Rattle.ebr_run.specs.State.{Memory, Outcome, End, Runs, Row, Normal, Exit, Continue, Returned, Raised, Stopped, Waiting, bare, with_memory, with_packages}
+use Rattle.ebr_run.specs.State.{Memory, Outcome, End, Runs, Row, Normal, Exit, Continue, Returned, Raised, Stopped, Waiting, bare, with_memory, with_packages, broken}
 use Rattle.ebr_run.specs.Values.{unfit, when_fit}
 use Rattle.ebr_run.specs.Scope.{body_key}
 use Rattle.ebr_run.specs.Expressions.{Calls}
@@ -112,28 +112,32 @@ make_counts (Some m) h made p calls hc σ =
     let o' = left part σ.memory o in
     kept_counts σ.left σ.asks σ.answers o'.end p o' refl (left_counts σ.left σ.asks σ.answers o.end part σ.memory o refl (record { left_is = x.left_is; made = x.made; used = x.used; asks_are = x.asks_are; given_are = x.given_are; even = x.even; kinds = x.kinds }))
 
-outdated_counts : (b : Bool) (parts : Parts) → PartsCount parts → (p : Word) (calls : Calls) → CallsCount calls → CountsIn (outdated b parts p calls)
-outdated_counts true parts h p calls hc σ = record { left_is = refl; made = []; used = []; asks_are = sym (append-nil _); given_are = refl; even = refl; kinds = tt }
-outdated_counts false parts h p calls hc σ = make_counts (parts.making p) (h.making p) (parts.made p) p calls hc σ
+outdated_counts : (b : Bool) (making : Runs) → CountsIn making → CountsIn (outdated b making)
+outdated_counts true making g σ = record { left_is = refl; made = []; used = []; asks_are = sym (append-nil _); given_are = refl; even = refl; kinds = tt }
+outdated_counts false making g σ = g σ
 
-refer_to_counts : (s : Option PackageState) (parts : Parts) → PartsCount parts → (p : Word) (calls : Calls) → CallsCount calls → CountsIn (refer_to s parts p calls)
-refer_to_counts None parts h p calls hc σ = make_counts (parts.making p) (h.making p) (parts.made p) p calls hc σ
-refer_to_counts (Some s) parts h p calls hc σ =
-    let x = outdated_counts s.stateful parts h p calls hc (with_packages (forget p σ.packages) σ) in
-    either σ.left σ.asks σ.answers (same_made s.made (parts.made p)) _ _ (record { left_is = refl; made = []; used = []; asks_are = sym (append-nil _); given_are = refl; even = refl; kinds = tt }) (record { left_is = x.left_is; made = x.made; used = x.used; asks_are = x.asks_are; given_are = x.given_are; even = x.even; kinds = x.kinds })
+refer_to_counts : (s : Option PackageState) (made : Made) (p : Word) (making : Runs) → CountsIn making → CountsIn (refer_to s made p making)
+refer_to_counts None made p making g σ = g σ
+refer_to_counts (Some s) made p making g σ =
+    let x = outdated_counts s.stateful making g (with_packages (forget p σ.packages) σ) in
+    either σ.left σ.asks σ.answers (same_made s.made made) _ _ (record { left_is = refl; made = []; used = []; asks_are = sym (append-nil _); given_are = refl; even = refl; kinds = tt }) (record { left_is = x.left_is; made = x.made; used = x.used; asks_are = x.asks_are; given_are = x.given_are; even = x.even; kinds = x.kinds })
 
-refer_in_counts : (row : Option Row) (r : Reference) (parts : Parts) → PartsCount parts → (p : Word) (calls : Calls) → CallsCount calls → CountsIn (refer_in row r parts p calls)
-refer_in_counts None r parts h p calls hc σ = refer_to_counts (state_of p σ.packages) parts h p calls hc σ
-refer_in_counts (Some row) reference.Other parts h p calls hc σ = record { left_is = refl; made = []; used = []; asks_are = sym (append-nil _); given_are = refl; even = refl; kinds = tt }
-refer_in_counts (Some row) reference.Data parts h p calls hc σ = record { left_is = refl; made = []; used = []; asks_are = sym (append-nil _); given_are = refl; even = refl; kinds = tt }
+refer_in_counts : (row : Option Row) (r : Reference) (made : Made) (p : Word) (making : Runs) → CountsIn making → CountsIn (refer_in row r made p making)
+refer_in_counts None r made p making g σ = refer_to_counts (state_of p σ.packages) made p making g σ
+refer_in_counts (Some row) reference.Other made p making g σ = record { left_is = refl; made = []; used = []; asks_are = sym (append-nil _); given_are = refl; even = refl; kinds = tt }
+refer_in_counts (Some row) reference.Data made p making g σ = record { left_is = refl; made = []; used = []; asks_are = sym (append-nil _); given_are = refl; even = refl; kinds = tt }
 
 frames_count : (parts : Parts) → PartsCount parts → (refer : ℕ → Reference → Word → Runs) → ((n : ℕ) (r : Reference) (p : Word) → CountsIn (refer n r p)) → (n : ℕ) → CallsCount (by_frames parts refer n)
 frames_count parts h refer g zero = record { call = λ f vs. deep_counts (parts.part f); refer = g zero }
 frames_count parts h refer g (suc n) = record { call = λ f vs. enter_counts (parts.part f) (h.part f) f (by_frames parts refer n) (frames_count parts h refer g n) vs; refer = g (suc n) }
 
 makings_count : (parts : Parts) → PartsCount parts → (m n : ℕ) (r : Reference) (p : Word) → CountsIn (by_makings parts m n r p)
-makings_count parts h zero n r p σ = record { left_is = refl; made = []; used = []; asks_are = sym (append-nil _); given_are = refl; even = refl; kinds = tt }
-makings_count parts h (suc m) n r p σ = refer_in_counts σ.row r parts h p (by_frames parts (by_makings parts m) n) (frames_count parts h (by_makings parts m) (makings_count parts h m) n) σ
+makings_count parts h zero n r p σ =
+    refer_in_counts σ.row r (parts.made p) p broken (λ τ. record { left_is = refl; made = []; used = []; asks_are = sym (append-nil _); given_are = refl; even = refl; kinds = tt }) σ
+makings_count parts h (suc m) n r p σ =
+    let calls = by_frames parts (by_makings parts m) n in
+    refer_in_counts σ.row r (parts.made p) p (make (parts.making p) (parts.made p) p calls)
+    (make_counts (parts.making p) (h.making p) (parts.made p) p calls (frames_count parts h (by_makings parts m) (makings_count parts h m) n)) σ
 
 -- ---- the parts of a book
 

@@ -91,7 +91,7 @@ stands_count book m a asks given =
 
 run_part_counts : (p : Option Part) → PartCounts p → (book : Book) (arguments : List Value) → CountsIn (run_part p (parts_of book) arguments)
 run_part_counts None h book arguments σ = record { left_is = refl; made = []; used = []; asks_are = sym (append-nil _); given_are = refl; even = refl; kinds = tt }
-run_part_counts (Some p) h book arguments σ = entered_counts p h (calls_of (parts_of book)) (calls_count book 4097 999) arguments σ
+run_part_counts (Some p) h book arguments σ = entered_counts p h (calls_of (parts_of book)) (calls_count book book.objects 999) arguments σ
 
 at_most : (made : List Ask) (used rest given : List Answer) → length made ≡ length used → given ≡ used ++ rest → length made ≤ length given
 at_most made used rest given v g =

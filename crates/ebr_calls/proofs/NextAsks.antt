@@ -118,9 +118,9 @@ begins_next codes v b f rest p h was =
 
 -- The machine that waits has taken the answer.
 has_taken : (codes : Book) (m : Machine) (packages : List PackageState) (left : ℕ) (run : List Answer → Seen) (asks : List Ask) (answers : List Answer) (x : Answer) → IsOut m → Has codes m packages left run asks answers
-    → (given : List Answer) → seen (stands codes (within m packages left) (Some x) (asks ++ m.inner.ask ∷ []) given) ≡ run (answers ++ x ∷ given)
+    → (given : List Answer) → seen (stands codes (within codes m packages left) (Some x) (asks ++ m.inner.ask ∷ []) given) ≡ run (answers ++ x ∷ given)
 has_taken codes m packages left run asks answers x out has given =
-    let w = within m packages left in
+    let w = within codes m packages left in
     sym (ap (λ e. seen (resume codes w.makings_left w.frames_left w.tasks (saved_of w) (awake e w.fault w.ask w.pending w.lookup (state_of w asks (x ∷ given))))) out.waits)
     ∙ (sym (ap (λ a. seen (stands codes w a asks (x ∷ given))) out.none) ∙ has.by (x ∷ given))
 
@@ -149,14 +149,14 @@ module _ (codes : Book) (f : Course) (m : Machine) (lines_shown levels : ℕ) (r
       add_one : (n : ℕ) → n + 1 ≡ suc n
       add_one n = omega arith
 
-  same : seen (stands codes (within m p.packages most_steps) (Some x) made' []) ≡ was.run answers'
+  same : seen (stands codes (within codes m p.packages most_steps) (Some x) made' []) ≡ was.run answers'
   same = has_taken codes m p.packages most_steps was.run was.asks was.answers x out was.has []
 
   lines : Extends m.inner.lines (was.run answers').lines
-  lines = subst (λ (r : Seen). Extends m.inner.lines r.lines) same (stands_grow codes (within m p.packages most_steps) (Some x) made' [])
+  lines = subst (λ (r : Seen). Extends m.inner.lines r.lines) same (stands_grow codes (within codes m p.packages most_steps) (Some x) made' [])
 
-  made_more : (was.run answers').asks ≡ made' ++ (stands_count codes (within m p.packages most_steps) x made' []).made
-  made_more = ap (λ (r : Seen). r.asks) (sym same) ∙ (stands_count codes (within m p.packages most_steps) x made' []).asks_are
+  made_more : (was.run answers').asks ≡ made' ++ (stands_count codes (within codes m p.packages most_steps) x made' []).made
+  made_more = ap (λ (r : Seen). r.asks) (sym same) ∙ (stands_count codes (within codes m p.packages most_steps) x made' []).asks_are
 
   pub goes_next : NextIn (with_answer x f) (p.asks ++ m.inner.ask ∷ []) p.printed
   goes_next = record {

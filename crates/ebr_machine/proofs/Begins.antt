@@ -95,19 +95,19 @@ first_body book m n false false code ts s f l σ e =
     ap (resume book m n ts s) (sym (returned_as o.end o) ∙ ap (λ τ. returned false (runs code (calls_at book m n) τ)) (sym e))
 
 unit_begins : (book : Book) (main : Option Subprogram) (s : Saved) (f : Fault) (l : Lookup) (σ : State) (arguments : List Value)
-    → seen (resume book 4097 999 (beginning main).1 s (awake (beginning main).0 f ask.PushAuto pending.Done l (with_memory (fresh arguments) σ))) ≡ seen (run_part (option_map part_of main) (parts_of book) arguments σ)
+    → seen (resume book book.objects 999 (beginning main).1 s (awake (beginning main).0 f ask.PushAuto pending.Done l (with_memory (fresh arguments) σ))) ≡ seen (run_part (option_map part_of main) (parts_of book) arguments σ)
 unit_begins book None s f l σ arguments = refl
 unit_begins book (Some main) s f l σ arguments =
     let first = with_memory (fresh arguments) σ in
-    ap seen (first_body book 4097 999 main.autonomous main.function main.code [] s f l first refl) ∙ sym (seen_left (part_of main) σ.memory (body (part_of main) (calls_at book 4097 999) first))
+    ap seen (first_body book book.objects 999 main.autonomous main.function main.code [] s f l first refl) ∙ sym (seen_left (part_of main) σ.memory (body (part_of main) (calls_at book book.objects 999) first))
 
 pub begun : (book : Book) (m : Machine) (packages : List PackageState) (most : ℕ) (u : compiled.Unit) (arguments : List Value) (frame : Frame)
     → m.begun ≡ false → m.arrived ≡ None → (m.inner.flow, m.inner.tasks) ≡ beginning (slice_get u.subprograms 0)
     → m.inner.variables ≡ record { top = arguments; beneath = [] } → m.inner.cursors ≡ record { top = []; beneath = [] } → m.inner.faults ≡ record { top = []; beneath = [] } → m.inner.operands ≡ record { top = []; beneath = [] }
-    → m.inner.row ≡ frame.body → m.inner.affected ≡ None → m.inner.lines ≡ [] → m.inner.room ≡ frame.room → m.inner.steps ≡ 0 → m.inner.makings_left ≡ 4097 → m.inner.frames_left ≡ 999 → m.inner.ask ≡ ask.PushAuto → m.inner.pending ≡ pending.Done
+    → m.inner.row ≡ frame.body → m.inner.affected ≡ None → m.inner.lines ≡ [] → m.inner.room ≡ frame.room → m.inner.steps ≡ 0 → m.inner.frames_left ≡ 999 → m.inner.ask ≡ ask.PushAuto → m.inner.pending ≡ pending.Done
     → Has book m packages most (RunCode book u arguments packages (frame_of frame) most) [] []
 unfolding RunCode
-begun book m packages most u arguments frame z a b e1 e2 e3 e4 e5 e6 e7 e8 e9 e10 e11 e12 e13 = record {
+begun book m packages most u arguments frame z a b e1 e2 e3 e4 e5 e6 e7 e8 e9 e10 e11 e12 = record {
   by = λ given.
       ap seen (λ i. stands book (record {
         variables = e1 i;
@@ -121,13 +121,13 @@ begun book m packages most u arguments frame z a b e1 e2 e3 e4 e5 e6 e7 e8 e9 e1
         room = e8 i;
         steps = e9 i;
         left = if z i then m.inner.left else most;
-        makings_left = e10 i;
-        frames_left = e11 i;
+        makings_left = if z i then m.inner.makings_left else book.objects;
+        frames_left = e10 i;
         tasks = (b i).1;
         flow = (b i).0;
         fault = m.inner.fault;
-        ask = e12 i;
-        pending = e13 i;
+        ask = e11 i;
+        pending = e12 i;
         lookup = m.inner.lookup;
       }) (a i) [] given)
       ∙ unit_begins book (slice_get u.subprograms 0) (record { variables = []; cursors = []; faults = []; operands = [] }) m.inner.fault m.inner.lookup (start packages (frame_of frame) most given) arguments;

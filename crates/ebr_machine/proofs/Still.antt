@@ -73,7 +73,7 @@ stands_at book r a asks given e = ap (λ x. stands book r x asks given) e
 
 pub shows : (book : Book) (m : Machine) (packages : List PackageState) (left : ℕ) (run : List Answer → Seen) (asks : List Ask) (answers : List Answer) (n : Next) → m.arrived ≡ None → IsStill m.inner.flow m.inner.tasks → n ≡ says m.inner.flow m.inner.fault m.inner.ask → Has book m packages left run asks answers → Shows (run answers) m packages (asks ++ asks_of n) n
 shows book m packages left run asks answers n a h e has =
-    let r = within m packages left in
+    let r = within book m packages left in
     record {
       is = sym (ap run (append-nil answers)) ∙ sym (has.by []) ∙ ap seen (stands_at book r m.arrived asks [] a)
           ∙ still book r.makings_left r.frames_left r.tasks (saved_of r) (state_of r asks []) r.flow r.fault r.ask r.pending r.lookup refl h
@@ -82,7 +82,7 @@ shows book m packages left run asks answers n a h e has =
 
 pub shows_over : (book : Book) (m : Machine) (packages : List PackageState) (left : ℕ) (run : List Answer → Seen) (asks : List Ask) (answers more : List Answer) (n : Next) → m.arrived ≡ None → IsStill m.inner.flow m.inner.tasks → n ≡ says m.inner.flow m.inner.fault m.inner.ask → IsDone n → Has book m packages left run asks answers → Shows (run (answers ++ more)) m packages asks n
 shows_over book m packages left run asks answers more n a h e d has =
-    let r = within m packages left in
+    let r = within book m packages left in
     record {
       is = sym (has.by more) ∙ ap seen (stands_at book r m.arrived asks more a)
           ∙ done book r.makings_left r.frames_left r.tasks (saved_of r) (state_of r asks more) r.flow r.fault r.ask r.pending r.lookup (subst IsDone e d) h
@@ -94,7 +94,7 @@ pub prints : (book : Book) (old new : Machine) (packages packages' : List Packag
 prints book old new packages packages' left run asks answers was a h has =
     let s = shows book new packages' left run asks answers (says new.inner.flow new.inner.fault new.inner.ask) a h refl has in
     record {
-      more = subst (Extends old.inner.lines) (ap (λ (s : Seen). s.lines) (was.by [] ∙ ap run (append-nil answers) ∙ s.is)) (stands_grow book (within old packages left) old.arrived asks []);
+      more = subst (Extends old.inner.lines) (ap (λ (s : Seen). s.lines) (was.by [] ∙ ap run (append-nil answers) ∙ s.is)) (stands_grow book (within book old packages left) old.arrived asks []);
     }
 
 asks_out : (e : Flow) (f : Fault) (q : Ask) → SaysAsk (says e f q) q

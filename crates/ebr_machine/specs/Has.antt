@@ -22,13 +22,18 @@ use Rattle.ebr_running.specs.Lines.{Extends}
 abbrev pub frame_of : Frame → run.Frame
 frame_of f = record { row = option_map row_of f.body; room = f.room }
 
--- the run inside, with the packages that the caller keeps, and with the most steps where it hasn't begun
-abbrev pub within : Machine → List PackageState → ℕ → Running
-within m packages left = record m.inner { packages = packages; left = if m.begun then m.inner.left else left }
+-- The run inside, with the packages that the caller keeps. Where it hasn't begun, it has these steps, and as many makings as
+-- there are visible objects.
+abbrev pub within : Book → Machine → List PackageState → ℕ → Running
+within book m packages left = record m.inner {
+  packages = packages;
+  left = if m.begun then m.inner.left else left;
+  makings_left = if m.begun then m.inner.makings_left else book.objects;
+}
 
 -- The machine has made these asks and taken these answers: what it will do is what the run does after them.
 pub record Has (book : Book) (m : Machine) (packages : List PackageState) (left : ℕ) (run : List Answer → Seen) (asks : List Ask) (answers : List Answer) : Type 0 where
-  pub by : (given : List Answer) → seen (stands book (within m packages left) m.arrived asks given) ≡ run (answers ++ given)
+  pub by : (given : List Answer) → seen (stands book (within book m packages left) m.arrived asks given) ≡ run (answers ++ given)
 
 abbrev pub asks_of : Next → List Ask
 asks_of (next.Ask q) = q ∷ []

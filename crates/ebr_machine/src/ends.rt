@@ -54,7 +54,7 @@ fn go_back(run: &mut Running, results: usize)
 }
 
 /// The end of a package's making. Where it failed the state is forgotten.
-pub fn end_making(run: &mut Running, name: &Name, makings_left: u32)
+pub fn end_making(run: &mut Running, name: &Name, makings_left: usize)
     requires { IsRunning run.old.flow }
     ensures { Follows run.old run.new (task.Making name.now makings_left ∷ run.old.tasks) }
 {

@@ -33,5 +33,5 @@ mod subprograms;
 
 pub use ebr_memory::Packages;
 pub use ebr_running::BodyFrame;
-pub use machine::{Frame, MOST_CALLS, MOST_MAKINGS, Machine};
+pub use machine::{Frame, MOST_CALLS, Machine};
 pub use next::{End, Next};

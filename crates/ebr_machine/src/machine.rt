@@ -25,8 +25,6 @@ use std::mem;
 
 /// The frames that the run itself leaves of 1,000.
 pub const MOST_CALLS: u32 = 999;
-/// More than there are visible packages.
-pub const MOST_MAKINGS: u32 = 4097;
 
 /// What a run begins with.
 #[derive(Drop)]
@@ -44,7 +42,7 @@ pub struct Machine {
     edition: EditionNo,
     inner: Running,
     arrived: Option<Answer>,
-    /// Whether it was told how many steps it may take.
+    /// Whether it was told how many steps it may take, and how many objects are visible.
     begun: bool,
 }
 
@@ -76,7 +74,7 @@ impl Machine {
                 room: frame.room as usize,
                 steps: 0,
                 left: 0,
-                makings_left: MOST_MAKINGS,
+                makings_left: 0,
                 frames_left: MOST_CALLS,
                 tasks,
                 flow,
@@ -112,6 +110,7 @@ impl Machine {
     {
         if !self.begun {
             self.inner.left = left;
+            self.inner.makings_left = book.objects(self.edition);
             self.begun = true;
         }
         let arrived = mem::replace(&mut self.arrived, None);

@@ -29,10 +29,6 @@ pub fn refer<B: CodeBook>(
     requires { run.old.flow ≡ Flow.Normal }
     ensures { OnOk result (ActsIn (B.answers book.now edition) run.old run.new (operate (does.Refer reference name.now))) }
 {
-    if run.makings_left == 0 {
-        run.end_broken();
-        return Ok(());
-    }
     match run.row {
         None => {
             refer_to(run, alloc, book, edition, name)?;
@@ -64,9 +60,8 @@ fn refer_to<B: CodeBook>(
     edition: EditionNo,
     name: &Name,
 ) -> Result<(), NoMemory>
-    requires flow { run.old.flow ≡ Flow.Normal }
-    requires makings { 0 < run.old.makings_left }
-    ensures { OnOk result (DoesIn (B.answers book.now edition) run.old run.new (callees.refers (B.answers book.now edition) (run.old.makings_left - 1) run.old.frames_left name.now)) }
+    requires { run.old.flow ≡ Flow.Normal }
+    ensures { OnOk result (DoesIn (B.answers book.now edition) run.old run.new (callees.refers (B.answers book.now edition) run.old.makings_left run.old.frames_left name.now)) }
 {
     let made = visible(book, edition, name);
     match run.packages.status(name, made) {
@@ -97,8 +92,30 @@ fn visible<B: CodeBook>(book: &B, edition: EditionNo, name: &Name) -> Made
     }
 }
 
-/// Makes a package: its state is there before its code runs.
+/// Makes a package, where a making may still begin.
 fn make<B: CodeBook>(
+    run: &mut Running,
+    alloc: Global,
+    book: &B,
+    edition: EditionNo,
+    name: &Name,
+    made: Made,
+) -> Result<(), NoMemory>
+    requires flow { run.old.flow ≡ Flow.Normal }
+    requires absent { packages.state_of name.now run.old.packages ≡ None }
+    requires made { made_of made ≡ (parts_of (B.answers book.now edition)).made name.now }
+    ensures { OnOk result (DoesIn (B.answers book.now edition) run.old run.new (callees.makes (B.answers book.now edition) run.old.makings_left run.old.frames_left name.now)) }
+{
+    if run.makings_left == 0 {
+        run.end_broken();
+        return Ok(());
+    }
+    make_inside(run, alloc, book, edition, name, made)?;
+    Ok(())
+}
+
+/// Makes a package: its state is there before its code runs.
+fn make_inside<B: CodeBook>(
     run: &mut Running,
     alloc: Global,
     book: &B,
@@ -110,7 +127,7 @@ fn make<B: CodeBook>(
     requires makings { 0 < run.old.makings_left }
     requires absent { packages.state_of name.now run.old.packages ≡ None }
     requires made { made_of made ≡ (parts_of (B.answers book.now edition)).made name.now }
-    ensures { OnOk result (DoesIn (B.answers book.now edition) run.old run.new (callees.makes (B.answers book.now edition) (run.old.makings_left - 1) run.old.frames_left name.now)) }
+    ensures { OnOk result (DoesIn (B.answers book.now edition) run.old run.new (callees.makes_inside (B.answers book.now edition) (run.old.makings_left - 1) run.old.frames_left name.now)) }
 {
     let Some(unit) = maker(book, edition, name, made.body) else {
         run.raise(Fault::Code(Refusal::Ora(6508)));

@@ -36,7 +36,7 @@ pub fn unfit(ty: &Option<VariableType>, value: &Value) -> Option<Code>
     ensures { result ≡ spec.unfit ty.now value.now }
 {
     match ty {
-        None => None,
+        None | Some(VariableType::Unknown) => None,
         Some(VariableType::Plain(ty)) => fits(value, ty, Place::Code),
         Some(VariableType::Boolean) => fits_boolean(value),
     }

@@ -12,7 +12,7 @@ use Rattle.ebr_run.specs.declared.callee.Callee.{Callee}
 use Rattle.ebr_run.specs.declared.callee.Reference.{Reference}
 use Rattle.ebr_run.specs.declared.callee.Reference.TheVariants as reference
 use Rattle.ebr_run.specs.Packages.{PackageState, Made, state_of, forget, same_made}
-use Rattle.ebr_run.specs.State.{Memory, State, Outcome, End, Runs, Row, Normal, Exit, Continue, Returned, Raised, Stopped, Waiting, bare, with_memory, with_packages}
+use Rattle.ebr_run.specs.State.{Memory, State, Outcome, End, Runs, Row, Normal, Exit, Continue, Returned, Raised, Stopped, Waiting, bare, with_memory, with_packages, broken}
 use Rattle.ebr_run.specs.Values.{unfit, when_fit}
 use Rattle.ebr_run.specs.Scope.{body_key}
 use Rattle.ebr_run.specs.Expressions.{Calls}
@@ -113,28 +113,31 @@ make_grows (Some m) h made p calls hc σ =
     let o' = left part σ.memory o in
     kept_grows σ.left σ.steps σ.lines o'.end p o' (left_grows σ.left σ.steps σ.lines o.end part σ.memory o (record { left_is = x.left_is; le = x.le; more = x.more }))
 
-outdated_grows : (b : Bool) (parts : Parts) → PartsGrow parts → (p : Word) (calls : Calls) → CallsGrow calls → Grows (outdated b parts p calls)
-outdated_grows true parts h p calls hc σ = record { left_is = refl; le = omega arith; more = same _ }
-outdated_grows false parts h p calls hc σ = make_grows (parts.making p) (h.making p) (parts.made p) p calls hc σ
+outdated_grows : (b : Bool) (making : Runs) → Grows making → Grows (outdated b making)
+outdated_grows true making g σ = record { left_is = refl; le = omega arith; more = same _ }
+outdated_grows false making g σ = g σ
 
-refer_to_grows : (s : Option PackageState) (parts : Parts) → PartsGrow parts → (p : Word) (calls : Calls) → CallsGrow calls → Grows (refer_to s parts p calls)
-refer_to_grows None parts h p calls hc σ = make_grows (parts.making p) (h.making p) (parts.made p) p calls hc σ
-refer_to_grows (Some s) parts h p calls hc σ =
-    let x = outdated_grows s.stateful parts h p calls hc (with_packages (forget p σ.packages) σ) in
-    either σ.left σ.steps σ.lines (same_made s.made (parts.made p)) _ _ (record { left_is = refl; le = omega arith; more = same _ }) (record { left_is = x.left_is; le = x.le; more = x.more })
+refer_to_grows : (s : Option PackageState) (made : Made) (p : Word) (making : Runs) → Grows making → Grows (refer_to s made p making)
+refer_to_grows None made p making g σ = g σ
+refer_to_grows (Some s) made p making g σ =
+    let x = outdated_grows s.stateful making g (with_packages (forget p σ.packages) σ) in
+    either σ.left σ.steps σ.lines (same_made s.made made) _ _ (record { left_is = refl; le = omega arith; more = same _ }) (record { left_is = x.left_is; le = x.le; more = x.more })
 
-refer_in_grows : (row : Option Row) (r : Reference) (parts : Parts) → PartsGrow parts → (p : Word) (calls : Calls) → CallsGrow calls → Grows (refer_in row r parts p calls)
-refer_in_grows None r parts h p calls hc σ = refer_to_grows (state_of p σ.packages) parts h p calls hc σ
-refer_in_grows (Some row) reference.Other parts h p calls hc σ = record { left_is = refl; le = omega arith; more = same _ }
-refer_in_grows (Some row) reference.Data parts h p calls hc σ = record { left_is = refl; le = omega arith; more = same _ }
+refer_in_grows : (row : Option Row) (r : Reference) (made : Made) (p : Word) (making : Runs) → Grows making → Grows (refer_in row r made p making)
+refer_in_grows None r made p making g σ = refer_to_grows (state_of p σ.packages) made p making g σ
+refer_in_grows (Some row) reference.Other made p making g σ = record { left_is = refl; le = omega arith; more = same _ }
+refer_in_grows (Some row) reference.Data made p making g σ = record { left_is = refl; le = omega arith; more = same _ }
 
 frames_grow : (parts : Parts) → PartsGrow parts → (refer : ℕ → Reference → Word → Runs) → ((n : ℕ) (r : Reference) (p : Word) → Grows (refer n r p)) → (n : ℕ) → CallsGrow (by_frames parts refer n)
 frames_grow parts h refer g zero = record { call = λ f vs. deep_grows (parts.part f); refer = g zero }
 frames_grow parts h refer g (suc n) = record { call = λ f vs. enter_grows (parts.part f) (h.part f) f (by_frames parts refer n) (frames_grow parts h refer g n) vs; refer = g (suc n) }
 
 makings_grow : (parts : Parts) → PartsGrow parts → (m n : ℕ) (r : Reference) (p : Word) → Grows (by_makings parts m n r p)
-makings_grow parts h zero n r p σ = record { left_is = refl; le = omega arith; more = same _ }
-makings_grow parts h (suc m) n r p σ = refer_in_grows σ.row r parts h p (by_frames parts (by_makings parts m) n) (frames_grow parts h (by_makings parts m) (makings_grow parts h m) n) σ
+makings_grow parts h zero n r p σ = refer_in_grows σ.row r (parts.made p) p broken (λ τ. record { left_is = refl; le = omega arith; more = same _ }) σ
+makings_grow parts h (suc m) n r p σ =
+    let calls = by_frames parts (by_makings parts m) n in
+    refer_in_grows σ.row r (parts.made p) p (make (parts.making p) (parts.made p) p calls)
+    (make_grows (parts.making p) (h.making p) (parts.made p) p calls (frames_grow parts h (by_makings parts m) (makings_grow parts h m) n)) σ
 
 -- ---- the parts of a book
 

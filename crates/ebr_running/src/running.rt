@@ -82,7 +82,7 @@ pub enum Task {
     /// The end of a unit's transaction.
     Close,
     /// The end of a package's making, and how many makings whoever refers to it has left.
-    Making(Name, u32),
+    Making(Name, usize),
     /// The end of a subprogram.
     Call(Caller),
 }
@@ -103,7 +103,8 @@ pub struct Running {
     pub steps: u32,
     /// The most steps that there may be.
     pub left: u32,
-    pub makings_left: u32,
+    /// How many makings of packages may still begin, each inside the last one.
+    pub makings_left: usize,
     pub frames_left: u32,
     pub tasks: Stack<Task>,
     pub flow: Flow,

@@ -19,7 +19,7 @@ abbrev pub current : Lists → EditionView → Type 0
 current c v = IsViewOf c v.edition v
 
 pub has-code : (v : EditionView) → HasCodeOf v (served v)
-has-code v = record { unit = λ key. refl; stamp = λ key. refl }
+has-code v = record { unit = λ key. refl; stamp = λ key. refl; objects = refl }
 
 pub a-view : (c : Lists) (e : EditionNo) (w v : EditionView) → w ≡ v → v ≡ View c e → IsInOrder v → IsViewOf c e w
 a-view c e w v same is order = record { is = same ∙ is; order = subst IsInOrder (sym same) order }

@@ -23,9 +23,9 @@ is_of e v = is_edition v.edition e
 abbrev pub view_in : EditionNo → List EditionView → Option EditionView
 view_in e views = find (is_of e) views
 
--- a book without units and stamps
+-- a book of no objects
 abbrev pub nothing : Book
-nothing = record { unit = λ key. None; stamp = λ key. None }
+nothing = record { unit = λ key. None; stamp = λ key. None; objects = 0 }
 
 abbrev pub served_by : Option EditionView → Book
 served_by None = nothing

@@ -105,6 +105,10 @@ impl CodeBook for Book {
             None => None,
         }
     }
+
+    fn objects(&self, _e: EditionNo) -> usize {
+        self.view().get().objects.len()
+    }
 }
 
 /// The place of the entry of a class and a name, counted from 0.

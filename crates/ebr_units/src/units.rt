@@ -197,6 +197,13 @@ impl CodeBook for Units {
             None => None,
         }
     }
+
+    fn objects(&self, e: EditionNo) -> usize {
+        match self.found(e) {
+            Some(book) => book.get().objects(e),
+            None => 0,
+        }
+    }
 }
 
 fn book_in(books: &[Shared<Book>], e: EditionNo) -> Option<&Shared<Book>>

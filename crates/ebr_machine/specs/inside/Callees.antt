@@ -16,7 +16,7 @@ use Rattle.ebr_run.specs.declared.callee.Reference.TheVariants as reference
 use Rattle.ebr_run.specs.Faults.{ebr}
 use Rattle.ebr_run.specs.Scope.{body_key}
 use Rattle.ebr_run.specs.Packages.{state_of, at}
-use Rattle.ebr_run.specs.State.{State, Memory, Outcome, Runs, Normal, ended, raises, bare, then_run}
+use Rattle.ebr_run.specs.State.{State, Memory, Outcome, Runs, Normal, ended, raises, broken, bare, then_run}
 use Rattle.ebr_run.specs.Values.{unfit}
 use Rattle.ebr_run.specs.Expressions.{Calls, given_back}
 use Rattle.ebr_run.specs.Calls.{Formal, Part, enter, too_deep, result_values, left, returned, back_in, make, refer_to}
@@ -167,13 +167,22 @@ abbrev pub under : Reference → Runs
 under reference.Other σ = ended Normal σ
 under reference.Data σ = raises (ebr 12) σ
 
--- the instruction that refers to a package outside triggers, with so many makings and frames left inside
-abbrev pub refers : Book → ℕ → ℕ → List ℕ → Runs
-refers book m n p σ = then_run (refer_to (state_of p σ.packages) (parts_of book) p (calls_at book m n) (bare σ)) (holding σ.memory.operands)
+-- the making of a package, with so many makings and frames left
+abbrev pub making_at : Book → ℕ → ℕ → List ℕ → Runs
+making_at book zero n p σ = broken σ
+making_at book (suc m) n p σ = make ((parts_of book).making p) ((parts_of book).made p) p (calls_at book m n) σ
 
--- the instruction that makes a package, with so many makings and frames left inside
+-- the instruction that refers to a package outside triggers, with so many makings and frames left
+abbrev pub refers : Book → ℕ → ℕ → List ℕ → Runs
+refers book m n p σ = then_run (refer_to (state_of p σ.packages) ((parts_of book).made p) p (making_at book m n p) (bare σ)) (holding σ.memory.operands)
+
+-- the instruction that makes a package, with so many makings and frames left
 abbrev pub makes : Book → ℕ → ℕ → List ℕ → Runs
-makes book m n p σ = then_run (make ((parts_of book).making p) ((parts_of book).made p) p (calls_at book m n) (bare σ)) (holding σ.memory.operands)
+makes book m n p σ = then_run (making_at book m n p (bare σ)) (holding σ.memory.operands)
+
+-- the same where one is left, with so many makings and frames left inside
+abbrev pub makes_inside : Book → ℕ → ℕ → List ℕ → Runs
+makes_inside book m n p σ = then_run (make ((parts_of book).making p) ((parts_of book).made p) p (calls_at book m n) (bare σ)) (holding σ.memory.operands)
 
 -- a machine that begins to make a package
 abbrev pub making : List ℕ → List Instruction → Running → Running
