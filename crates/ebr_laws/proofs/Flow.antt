@@ -4,25 +4,28 @@ use Rattle.std.specs.Prelude.{nat_lt, ◌-◌}
 use Rattle.ebr_base.specs.declared.code.Code.TheVariants.{Ebr}
 use Rattle.ebr_base.specs.declared.value.Value.{Value}
 use Rattle.ebr_exprtree.specs.declared.expression.Expr.{Expr}
+use Rattle.ebr_ast.specs.declared.query.Query.{Query}
 use Rattle.ebr_ast.specs.declared.statement.Range.{Range}
 use Rattle.ebr_ast.specs.declared.statement.Rows.{Rows}
 use Rattle.ebr_sqlcheck.specs.Types.{Known}
+use Rattle.ebr_run.specs.declared.place.Location.{Location}
 use Rattle.ebr_run.specs.declared.place.Location.TheVariants.{Own}
 use Rattle.ebr_run.specs.Cursors.{Closed}
 use Rattle.ebr_run.specs.State.{State, Runs, End, bare, with_operands, ended, done, stops, then_run, step, after_turn, turns, loop, finally}
-use Rattle.ebr_run.specs.Scope.{Env, part, with_counter, known_fields}
+use Rattle.ebr_run.specs.Scope.{Env, Bound, part, with_counter, known_fields}
 use Rattle.ebr_run.specs.Values.{is_true, with_variable, with_cursor}
 use Rattle.ebr_run.specs.Expressions.{Calls}
-use Rattle.ebr_run.specs.Statements.{Meaning, run_all, condition, choose, leave, exits, while_true, over_numbers, for_range, Source, field_type, with_fields, fetch_at, over_rows, in_rows, for_rows_of}
+use Rattle.ebr_run.specs.Statements.{Meaning, run_all, condition, choose, leave, exits, while_true, over_numbers, for_range, Source, field_type, with_fields, fetch_at, open_at, over_rows, in_rows, for_rows_of}
 use Rattle.ebr_code.specs.declared.instruction.Instruction.{Instruction, Do, If, Loop, Numbers, Closing}
 use Rattle.ebr_code.specs.declared.instruction.Operation.{Operation}
 use Rattle.ebr_code.specs.declared.instruction.Operation.TheVariants as does
 use Rattle.ebr_code.specs.Instructions.{operate, run}
-use Rattle.ebr_code.specs.Codes.{Coded, all, choose_code, leave_code, while_code, range_code, fields_code, fetch_code, over_rows_code, rows_code, expr_code}
+use Rattle.ebr_code.specs.Codes.{Coded, all, choose_code, leave_code, while_code, range_code, fields_code, open_code, fetch_code, declared_code, over_rows_code, rows_code, expr_code}
 use Rattle.ebr_code.proofs.Layers.{meaning_of-If, meaning_of-Loop, meaning_of-Numbers, meaning_of-Closing}
 use Rattle.ebr_laws.proofs.Lists.{then_same, run_append, first_does, only, only_does}
 use Rattle.ebr_laws.proofs.Readings.{reading_same}
 use Rattle.ebr_laws.proofs.Requests.{open_same, fetch_same}
+use Rattle.ebr_laws.proofs.Steps.{GoesOn, with_cursor_beneath}
 use Rattle.std.specs.Prelude.{length}
 
 -- ---- lists of statements
@@ -138,6 +141,15 @@ fields_same k (t ∷ ts) (v ∷ vs) e calls σ =
     suc_injective : {m n : ℕ} → suc m ≡ suc n → m ≡ n
     suc_injective e = cc
 
+-- a cursor that is opened, and that the loop may have declared
+loop_opens : (own : Bool) (l : Location) (q : Bound Query) (env : Env) (calls : Calls) (k : Runs) (more : List Instruction) → GoesOn k more calls [] → (σ : State)
+    → open_at l q env calls k (if own then with_cursor l Closed σ else σ) ≡ run (declared_code own l ++ (open_code l q ++ more)) calls (bare σ)
+loop_opens false l q env calls k more h σ = open_same l q env calls k more h σ
+loop_opens true l q env calls k more h σ =
+    open_same l q env calls k more h (with_cursor l Closed σ)
+    ∙ ap (λ τ. run (open_code l q ++ more) calls (bare τ)) (sym (with_cursor_beneath l Closed [] σ))
+    ∙ sym (first_does (does.Reset l) (open_code l q ++ more) calls (bare σ))
+
 over_rows_same : (s : Source) (r : Rows) (m : Meaning) (c : Coded) → SameBody m c → (env : Env) (calls : Calls) (σ : State)
     → over_rows s (λ e. m (in_rows r.record s e)) env calls σ ≡ run (over_rows_code s r.record c env) calls (bare σ)
 over_rows_same s r m c t env calls σ =
@@ -145,7 +157,7 @@ over_rows_same s r m c t env calls σ =
     let head = fetch_code s.location ts (fields_code env.variables ts) (Do does.Exit ∷ []) in
     let body = c (in_rows r.record s env) in
     let fetch = fetch_at s.location ts calls (λ vs ω. done (with_fields env.variables vs ω)) exits in
-    open_same s.location s.query env calls _ (Closing s.location (Loop head body ∷ []) ∷ []) (λ τ.
+    loop_opens s.own s.location s.query env calls _ (Closing s.location (Loop head body ∷ []) ∷ []) (λ τ.
     ap (λ o. finally o (with_cursor s.location Closed))
     (loop_beneath _ _ τ
     ∙ loop_same fetch (m (in_rows r.record s env) calls) head body calls

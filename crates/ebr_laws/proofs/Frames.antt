@@ -1,15 +1,14 @@
 -- Parts and packages begin without operands, so that what they would do with some makes no difference to calls.
-use Rattle.std.proofs.Common.{◌≡◌, ℕ, zero, suc, Bool, true, false, if◌then◌else◌, List, [], ◌∷◌, ◌++◌, Option, Some, None, refl, ap, ◌∙◌}
+use Rattle.std.proofs.Common.{◌≡◌, ℕ, zero, suc, false, if◌then◌else◌, List, [], ◌∷◌, ◌++◌, Option, Some, None, refl, ap, ◌∙◌}
 use Rattle.std.specs.Prelude.{option_map}
 use Rattle.ebr_base.specs.declared.value.Value.{Value}
 use Rattle.ebr_scope.specs.Meanings.{Word}
 use Rattle.ebr_run.specs.declared.callee.Callee.{Callee}
 use Rattle.ebr_run.specs.declared.callee.Reference.{Reference}
-use Rattle.ebr_run.specs.declared.callee.Reference.TheVariants as reference
-use Rattle.ebr_run.specs.Packages.{PackageState, Made, state_of, forget, same_made}
-use Rattle.ebr_run.specs.State.{Memory, Row, State, Runs, Outcome, End, Normal, Exit, Continue, Returned, Raised, Stopped, Waiting, bare, with_memory, with_packages, done, broken}
+use Rattle.ebr_run.specs.Packages.{Made}
+use Rattle.ebr_run.specs.State.{Memory, State, Runs, Outcome, End, Normal, Exit, Continue, Returned, Raised, Stopped, Waiting, bare, with_memory, with_packages, broken}
 use Rattle.ebr_run.specs.Expressions.{Calls}
-use Rattle.ebr_run.specs.Calls.{Part, Making, Parts, left_on, fresh, first_state, body, entered, received, agrees, enter, too_deep, forget_if_failed, make, outdated, refer_to, refer_in, by_frames, by_makings, calls_of, most_calls, most_makings}
+use Rattle.ebr_run.specs.Calls.{Part, Making, Parts, left_on, fresh, first_state, body, entered, received, agrees, enter, too_deep, forget_if_failed, make, refer_in, by_frames, by_makings, calls_of, most_calls}
 use Rattle.ebr_run.specs.Run.{run_part}
 
 abbrev pub bared : Part → Part
@@ -19,7 +18,7 @@ abbrev pub bared_making : Making → Making
 bared_making m = record m { run = λ calls σ. m.run calls (bare σ) }
 
 abbrev pub bared_parts : Parts → Parts
-bared_parts ps = record { part = λ f. option_map bared (ps.part f); making = λ p. option_map bared_making (ps.making p); made = ps.made }
+bared_parts ps = record { part = λ f. option_map bared (ps.part f); making = λ p. option_map bared_making (ps.making p); made = ps.made; objects = ps.objects }
 
 -- ---- calls
 
@@ -53,19 +52,6 @@ make_bared (Some m) made p calls σ =
     let o = m.run calls (bare σ') in
     ap (forget_if_failed p) (left_on_bared o.end part σ.memory o)
 
-outdated_bared : (b : Bool) (ps : Parts) (p : Word) (calls : Calls) (σ : State) → outdated b (bared_parts ps) p calls σ ≡ outdated b ps p calls σ
-outdated_bared true ps p calls σ = refl
-outdated_bared false ps p calls σ = make_bared (ps.making p) (ps.made p) p calls σ
-
-refer_to_bared : (s : Option PackageState) (ps : Parts) (p : Word) (calls : Calls) (σ : State) → refer_to s (bared_parts ps) p calls σ ≡ refer_to s ps p calls σ
-refer_to_bared None ps p calls σ = make_bared (ps.making p) (ps.made p) p calls σ
-refer_to_bared (Some s) ps p calls σ = ap (λ o. if same_made s.made (ps.made p) then done σ else o) (outdated_bared s.stateful ps p calls (with_packages (forget p σ.packages) σ))
-
-refer_in_bared : (row : Option Row) (r : Reference) (ps : Parts) (p : Word) (calls : Calls) (σ : State) → refer_in row r (bared_parts ps) p calls σ ≡ refer_in row r ps p calls σ
-refer_in_bared None r ps p calls σ = refer_to_bared (state_of p σ.packages) ps p calls σ
-refer_in_bared (Some row) reference.Other ps p calls σ = refl
-refer_in_bared (Some row) reference.Data ps p calls σ = refl
-
 -- ---- frames and makings
 
 by_frames_bared : (ps : Parts) (refer : ℕ → Reference → Word → Runs) (n : ℕ) → by_frames (bared_parts ps) refer n ≡ by_frames ps refer n
@@ -77,14 +63,15 @@ by_frames_bared ps refer (suc n) =
 by_makings_bared : (ps : Parts) (m n : ℕ) (r : Reference) (p : Word) (σ : State) → by_makings (bared_parts ps) m n r p σ ≡ by_makings ps m n r p σ
 by_makings_bared ps zero n r p σ = refl
 by_makings_bared ps (suc m) n r p σ =
-    refer_in_bared σ.row r ps p (by_frames (bared_parts ps) (by_makings (bared_parts ps) m) n) σ
-    ∙ ap (λ calls. refer_in σ.row r ps p calls σ) (by_frames_bared ps (by_makings (bared_parts ps) m) n ∙ ap (λ refer. by_frames ps refer n) (λ i k r p τ. by_makings_bared ps m k r p τ i))
+    ap (λ making. refer_in σ.row r (ps.made p) p making σ)
+    ((λ i τ. make_bared (ps.making p) (ps.made p) p (by_frames (bared_parts ps) (by_makings (bared_parts ps) m) n) τ i)
+    ∙ ap (λ calls. make (ps.making p) (ps.made p) p calls) (by_frames_bared ps (by_makings (bared_parts ps) m) n ∙ ap (λ refer. by_frames ps refer n) (λ i k r p τ. by_makings_bared ps m k r p τ i)))
 
 frames_bared : (ps : Parts) (m n : ℕ) → by_frames (bared_parts ps) (by_makings (bared_parts ps) m) n ≡ by_frames ps (by_makings ps m) n
 frames_bared ps m n = by_frames_bared ps (by_makings (bared_parts ps) m) n ∙ ap (λ refer. by_frames ps refer n) (λ i k r p τ. by_makings_bared ps m k r p τ i)
 
 pub calls_bared : (ps : Parts) → calls_of (bared_parts ps) ≡ calls_of ps
-calls_bared ps = frames_bared ps most_makings most_calls
+calls_bared ps = frames_bared ps ps.objects most_calls
 
 -- ---- runs
 

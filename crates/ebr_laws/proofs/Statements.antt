@@ -15,9 +15,8 @@ use Rattle.ebr_ast.specs.declared.statement.Stmt.TheFolds.{fold-Branch, fold-rol
 use Rattle.ebr_ast.specs.declared.statement.Stmt.TheBlock.{the_family, member-Stmt, member-Block, member-Branch, member-Handler}
 use denote.Hole.Holds.{Such}
 use Rattle.ebr_value.specs.Texts.{printed}
-use Rattle.ebr_run.specs.Faults.{ora}
 use Rattle.ebr_run.specs.State.{State, Row, Exit, Continue, Returned, bare, ended, with_operands, done, raises, no_room, room_of, line}
-use Rattle.ebr_run.specs.Scope.{Env}
+use Rattle.ebr_run.specs.Scope.{Env, application_error}
 use Rattle.ebr_run.specs.Values.{unfit, when_fit}
 use Rattle.ebr_run.specs.Expressions.{Calls}
 use Rattle.ebr_run.specs.Statements.{Meaning, Handling, target_place, assigned, give, while_true, source_of, act, in_block, with_decls, branch, handler, meaning_of, block_meaning, handling_of}
@@ -132,8 +131,8 @@ act_same (stmt.PutLine e) = record {
 }
 act_same (stmt.RaiseApplicationError k e) = record {
   by = λ env calls σ.
-      reading_same e env calls (bare σ) [] (Do does.Drop ∷ Do (does.Raise (ora k)) ∷ []) (λ text. raises (ora k)) (λ v τ.
-      sym (first_does does.Drop (Do (does.Raise (ora k)) ∷ []) calls (with_operands (v ∷ []) τ) ∙ only_does (does.Raise (ora k)) calls (bare τ)));
+      reading_same e env calls (bare σ) [] (Do does.Drop ∷ Do (does.Raise (application_error k)) ∷ []) (λ text. raises (application_error k)) (λ v τ.
+      sym (first_does does.Drop (Do (does.Raise (application_error k)) ∷ []) calls (with_operands (v ∷ []) τ) ∙ only_does (does.Raise (application_error k)) calls (bare τ)));
 }
 
 -- ---- blocks, branches and handlers

@@ -135,6 +135,7 @@ parts_same v book a = λ i. record {
   part = λ f. called_same v book a f i;
   making = λ p. (ap (λ s. option_map bared_making (code.making_with book p s)) (a.stamp (body_key p)) ∙ making_same v book a p (stamp_in v (body_key p))) i;
   made = λ p. record { specification = a.stamp (unit_key p) i; body = a.stamp (body_key p) i };
+  objects = a.objects i;
 }
 
 pub calls_same : (v : EditionView) (book : Book) → HasCodeOf v book → calls_of (code.parts_of book) ≡ calls_of (trees.parts_of v)
