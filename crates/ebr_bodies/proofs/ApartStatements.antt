@@ -15,6 +15,7 @@ use Rattle.ebr_sqlcheck.specs.Checked.{must, on}
 use Rattle.ebr_sqlcheck.specs.Statements.{checked_with}
 use Rattle.ebr_tx.specs.Calls.{after_begin}
 use Rattle.ebr_query.specs.Queries.{Query}
+use Rattle.ebr_dml.specs.Steps.{DmlState}
 use Rattle.ebr_database.specs.Base.{Base}
 use Rattle.ebr_database.specs.Outcome.{Outcome, go_on}
 use Rattle.ebr_exec.specs.Places.{Names, Place, target, questions_on}
@@ -23,12 +24,12 @@ use Rattle.ebr_bodies.specs.Agree.{AppliesAlike}
 use Rattle.ebr_bodies.specs.Bodies.{Doing}
 use Rattle.ebr_bodies.specs.OtherWorlds.{at_used}
 use Rattle.ebr_bodies.specs.Rows.{rows_of}
-use Rattle.ebr_bodies.specs.Statements.{Start, is_mutating, changing_in, started_with, work_of, run_rows, first_doing, finished, begun, begun_ran, change_ran, checked_ran, unless_refused, name_tests, at_level, Stmt}
-use Rattle.ebr_bodies.proofs.Apart.{Apart, still, both, behind}
+use Rattle.ebr_bodies.specs.Statements.{Start, is_mutating, changing_in, rows_started, triggers_ready, work_of, run_rows, first_doing, finished, begun, fired_ran, begun_ran, change_ran, checked_ran, unless_refused, name_tests, at_level, Stmt}
+use Rattle.ebr_bodies.proofs.Apart.{Apart, still, both, behind, goes}
 use Rattle.ebr_bodies.proofs.ApartBodies.{StatementsApart, doing_at, there}
 use Rattle.ebr_bodies.proofs.ApartRows.{rows_of_apart}
 use Rattle.ebr_bodies.proofs.ReadyAlike.{SeesSame, ReadySame}
-use Rattle.ebr_bodies.proofs.StartsAlike.{FiredBoth, StartSame, fired_both, started_sees, started_same}
+use Rattle.ebr_bodies.proofs.StartsAlike.{StartSame, fired_both, rows_same, ready_both_see, ready_both_same}
 
 module _ (m n : Names) where
   ended_apart : (r : Result Ran Code) (b : Base) (u : ℕ) → Apart m n at_used (ended b r) (ended (at_used u b) r)
@@ -55,19 +56,25 @@ module _ (m n : Names) where
     start_apart (Ok k) h σ u = run_rows_apart k h.0 h.1 σ u
     start_apart (Err code) h σ u = still m n doing_at σ u (Err code)
 
-    begun_apart : FiredBoth m n p sees s → (σ : Doing) (u : ℕ) → Apart m n doing_at (begun_ran d m p s binds left σ) (begun_ran e n p s binds left (doing_at u σ))
-    begun_apart h σ u =
-        subst (λ (x : Result Start Code). Apart m n doing_at (begun_ran d m p s binds left σ) (go_on (run_rows e n p s left) x (doing_at u σ))) (started_same m n p sees s binds σ.base.data_now h)
-        (start_apart (started_with m p s binds σ.base.data_now) (started_sees m n p sees s binds σ.base.data_now h) σ u)
+    fired_apart : AppliesAlike m n p s → (st : DmlState) (σ : Doing) (u : ℕ) → Apart m n doing_at (fired_ran d m p s left st σ) (fired_ran e n p s left st (doing_at u σ))
+    fired_apart applied st σ u = behind m n doing_at (questions_on p (target s)) (go_on (run_rows d m p s left) (triggers_ready m p s st) σ) (go_on (run_rows e n p s left) (triggers_ready n p s st) (doing_at u σ)) (λ h.
+        let fired = fired_both m n p sees s h applied in
+        subst (λ (x : Result Start Code). Apart m n doing_at (go_on (run_rows d m p s left) (triggers_ready m p s st) σ) (go_on (run_rows e n p s left) x (doing_at u σ))) (ready_both_same m n p sees s st fired)
+        (start_apart (triggers_ready m p s st) (ready_both_see m n p sees s st fired) σ u))
 
-    change_apart : FiredBoth m n p sees s → (room : ℕ) (b : Base) (u : ℕ) → Apart m n at_used (change_ran d m p s binds left room b) (change_ran e n p s binds left room (at_used u b))
-    change_apart h room b u = both m n doing_at at_used (begun_ran d m p s binds left (first_doing (begun p b) room)) (begun_ran e n p s binds left (first_doing (begun p (at_used u b)) room)) (finished p.tx b) (finished p.tx (at_used u b))
-        (begun_apart h (first_doing (begun p b) room) u) (λ r σ u'. finished_apart p.tx b u r σ u')
+    begun_apart : AppliesAlike m n p s → (σ : Doing) (u : ℕ) → Apart m n doing_at (begun_ran d m p s binds left σ) (begun_ran e n p s binds left (doing_at u σ))
+    begun_apart applied σ u =
+        subst (λ (x : Result DmlState Code). Apart m n doing_at (begun_ran d m p s binds left σ) (go_on (fired_ran e n p s left) x (doing_at u σ))) (rows_same m n p sees s binds σ.base.data_now)
+        (goes m n doing_at (fired_ran d m p s left) (fired_ran e n p s left) (fired_apart applied) (rows_started m p s binds σ.base.data_now) σ u)
+
+    change_apart : AppliesAlike m n p s → (room : ℕ) (b : Base) (u : ℕ) → Apart m n at_used (change_ran d m p s binds left room b) (change_ran e n p s binds left room (at_used u b))
+    change_apart applied room b u = both m n doing_at at_used (begun_ran d m p s binds left (first_doing (begun p b) room)) (begun_ran e n p s binds left (first_doing (begun p (at_used u b)) room)) (finished p.tx b) (finished p.tx (at_used u b))
+        (begun_apart applied (first_doing (begun p b) room) u) (λ r σ u'. finished_apart p.tx b u r σ u')
 
   module _ (d e : Statements) (deeper : StatementsApart m n d e) (p : Place) (sees : SeesSame m n p.edition) where
     -- ---- behind the tests of names
 
-    checked_apart : (s : SqlTree) → FiredBoth m n p sees s → (binds : List Value) (left room : ℕ) (b : Base) (u : ℕ) → Apart m n at_used (checked_ran d m p s binds left room b) (checked_ran e n p s binds left room (at_used u b))
+    checked_apart : (s : SqlTree) → AppliesAlike m n p s → (binds : List Value) (left room : ℕ) (b : Base) (u : ℕ) → Apart m n at_used (checked_ran d m p s binds left room b) (checked_ran e n p s binds left room (at_used u b))
     checked_apart (sql.Query q) h binds left room b u =
         subst (λ (v : EditionView). Apart m n at_used (checked_ran d m p (sql.Query q) binds left room b) (ended (at_used u b) (query_ran p room (Query q (after_begin b.data_now p.tx) p.tx v binds)))) sees
         (ended_apart (query_ran p room (Query q (after_begin b.data_now p.tx) p.tx (m.view p.edition) binds)) b u)
@@ -82,9 +89,9 @@ module _ (m n : Names) where
     tests_same s binds = ap (λ (v : EditionView). on (λ u. must (Ora 4091) (not (is_mutating v p s))) (checked_with v binds s)) sees
 
     level_apart : (s : SqlTree) → AppliesAlike m n p s → (binds : List Value) (left room : ℕ) (b : Base) (u : ℕ) → Apart m n at_used (at_level d m p s binds left room b) (at_level e n p s binds left room (at_used u b))
-    level_apart s applied binds left room b u = behind m n at_used (questions_on p (target s)) _ _ (λ h.
-        subst (λ (r : Result (Unit {0}) Code). Apart m n at_used (unless_refused (name_tests m p s binds) b (checked_ran d m p s binds left room b)) (unless_refused r (at_used u b) (checked_ran e n p s binds left room (at_used u b)))) (tests_same s binds)
-        (unless_apart (name_tests m p s binds) b u _ _ (checked_apart s (fired_both m n p sees s h applied) binds left room b u)))
+    level_apart s applied binds left room b u =
+        subst (λ (r : Result (Unit {0}) Code). Apart m n at_used (at_level d m p s binds left room b) (unless_refused r (at_used u b) (checked_ran e n p s binds left room (at_used u b)))) (tests_same s binds)
+        (unless_apart (name_tests m p s binds) b u _ _ (checked_apart s applied binds left room b u))
 
   pub stmt_apart : (levels : ℕ) → StatementsApart m n (Stmt m levels) (Stmt n levels)
   stmt_apart zero p sees s applied binds left room b u = still m n at_used b u (refused (Ora 36))

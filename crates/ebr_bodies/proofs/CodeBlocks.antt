@@ -13,7 +13,7 @@ use Rattle.ebr_ast.specs.declared.statement.Stmt.TheFolds.{fold-Branch, fold-rol
 use Rattle.ebr_ast.specs.declared.statement.Stmt.TheBlock.{the_family, member-Stmt, member-Block, member-Branch, member-Handler}
 use denote.Hole.Holds.{Such}
 use Rattle.ebr_value.specs.Texts.{printed}
-use Rattle.ebr_run.specs.Faults.{ora}
+use Rattle.ebr_run.specs.Scope.{application_error}
 use Rattle.ebr_run.specs.State.{Exit, Continue, done, raises, line}
 use Rattle.ebr_run.specs.Statements.{Meaning, Handling, target_place, assigned, while_true, source_of, run_all, act, in_block, guarded, with_decls, branch, handler, meaning_of, block_meaning, handling_of}
 use Rattle.ebr_bodies.proofs.CodeStates.{loop_keeps, line_keeps}
@@ -91,7 +91,7 @@ act_keeps (stmt.Call path es) env calls kc σ h = call_keeps path es env calls k
 act_keeps (stmt.Sql s) env calls kc σ h = sql_keeps s env calls kc σ h
 act_keeps (stmt.Cursor c) env calls kc σ h = cursor_keeps c env calls kc σ h
 act_keeps (stmt.PutLine e) env calls kc σ h = reading_keeps e env calls kc (λ v. line (printed v)) (λ v. line_keeps (printed v)) σ h
-act_keeps (stmt.RaiseApplicationError k e) env calls kc σ h = reading_keeps e env calls kc (λ text. raises (ora k)) (λ text τ l. l) σ h
+act_keeps (stmt.RaiseApplicationError k e) env calls kc σ h = reading_keeps e env calls kc (λ text. raises (application_error k)) (λ text τ l. l) σ h
 
 -- ---- blocks
 

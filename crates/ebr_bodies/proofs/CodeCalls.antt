@@ -9,7 +9,7 @@ use Rattle.ebr_run.specs.Packages.{PackageState, Made, state_of, forget, same_ma
 use Rattle.ebr_run.specs.State.{Memory, Row, Runs, Outcome, End, Normal, Raised, Stopped, Waiting, with_memory, with_packages, bare, done, broken}
 use Rattle.ebr_run.specs.Values.{unfit, when_fit}
 use Rattle.ebr_run.specs.Expressions.{Calls}
-use Rattle.ebr_run.specs.Calls.{Formal, Part, Making, Parts, returned_on, returned, left_on, left, fresh, body, entered, received, agrees, enter, too_deep, forget_on, first_state, make, outdated, refer_to, refer_in, by_frames, by_makings, most_makings, most_calls, calls_of}
+use Rattle.ebr_run.specs.Calls.{Formal, Part, Making, Parts, returned_on, returned, left_on, left, fresh, body, entered, received, agrees, enter, too_deep, forget_on, first_state, make, outdated, refer_to, refer_in, by_frames, by_makings, most_calls, calls_of}
 use Rattle.ebr_bodies.proofs.CodeStates.{Kept, Keeps, if_keeps, by_itself_keeps}
 use Rattle.ebr_bodies.proofs.CodeValues.{when_fit_keeps}
 use Rattle.ebr_bodies.proofs.CodeOperators.{CallsKeep}
@@ -84,30 +84,33 @@ make_keeps (Some m) mk made p calls kc σ h =
     let o = left q σ.memory (m.run calls start) in
     kept_on_keeps o.end p o (left_on_keeps (m.run calls start).end q σ.memory (m.run calls start) (mk calls kc start h))
 
+outdated_keeps : (stateful : Bool) (making : Runs) → Keeps making → Keeps (outdated stateful making)
+outdated_keeps true making k σ h = h
+outdated_keeps false making k σ h = k σ h
+
+refer_to_keeps : (s : Option PackageState) (made : Made) (p : Word) (making : Runs) → Keeps making → Keeps (refer_to s made p making)
+refer_to_keeps None made p making k σ h = k σ h
+refer_to_keeps (Some s) made p making k σ h =
+    if_keeps (same_made s.made made) (done σ) (outdated s.stateful making (with_packages (forget p σ.packages) σ)) h (outdated_keeps s.stateful making k (with_packages (forget p σ.packages) σ) h)
+
+refer_in_keeps : (row : Option Row) (r : Reference) (made : Made) (p : Word) (making : Runs) → Keeps making → Keeps (refer_in row r made p making)
+refer_in_keeps None r made p making k σ h = refer_to_keeps (state_of p σ.packages) made p making k σ h
+refer_in_keeps (Some row) reference.Other made p making k σ h = h
+refer_in_keeps (Some row) reference.Data made p making k σ h = h
+
+-- ---- the calls
+
 module _ (parts : Parts) (pk : PartsKeep parts) where
-  outdated_keeps : (stateful : Bool) (p : Word) (calls : Calls) → CallsKeep calls → Keeps (outdated stateful parts p calls)
-  outdated_keeps true p calls kc σ h = h
-  outdated_keeps false p calls kc σ h = make_keeps (parts.making p) (pk.making p) (parts.made p) p calls kc σ h
-
-  refer_to_keeps : (s : Option PackageState) (p : Word) (calls : Calls) → CallsKeep calls → Keeps (refer_to s parts p calls)
-  refer_to_keeps None p calls kc σ h = make_keeps (parts.making p) (pk.making p) (parts.made p) p calls kc σ h
-  refer_to_keeps (Some s) p calls kc σ h =
-      if_keeps (same_made s.made (parts.made p)) (done σ) (outdated s.stateful parts p calls (with_packages (forget p σ.packages) σ)) h (outdated_keeps s.stateful p calls kc (with_packages (forget p σ.packages) σ) h)
-
-  refer_in_keeps : (row : Option Row) (r : Reference) (p : Word) (calls : Calls) → CallsKeep calls → Keeps (refer_in row r parts p calls)
-  refer_in_keeps None r p calls kc σ h = refer_to_keeps (state_of p σ.packages) p calls kc σ h
-  refer_in_keeps (Some row) reference.Other p calls kc σ h = h
-  refer_in_keeps (Some row) reference.Data p calls kc σ h = h
-
-  -- ---- the calls
-
   by_frames_keep : (refer : ℕ → Reference → Word → Runs) → ((n : ℕ) (r : Reference) (p : Word) → Keeps (refer n r p)) → (n : ℕ) → CallsKeep (by_frames parts refer n)
   by_frames_keep refer rk zero = record { call = λ f vs σ h. too_deep_keeps (parts.part f) σ h; refer = rk zero }
   by_frames_keep refer rk (suc n) = record { call = λ f vs σ h. enter_keeps (parts.part f) (pk.part f) f (by_frames parts refer n) (by_frames_keep refer rk n) vs σ h; refer = rk (suc n) }
 
   by_makings_keep : (m n : ℕ) (r : Reference) (p : Word) → Keeps (by_makings parts m n r p)
-  by_makings_keep zero n r p σ h = h
-  by_makings_keep (suc m) n r p σ h = refer_in_keeps σ.row r p (by_frames parts (by_makings parts m) n) (by_frames_keep (by_makings parts m) (by_makings_keep m) n) σ h
+  by_makings_keep zero n r p σ h = refer_in_keeps σ.row r (parts.made p) p broken (λ τ k. k) σ h
+  by_makings_keep (suc m) n r p σ h =
+      let calls = by_frames parts (by_makings parts m) n in
+      refer_in_keeps σ.row r (parts.made p) p (make (parts.making p) (parts.made p) p calls)
+      (make_keeps (parts.making p) (pk.making p) (parts.made p) p calls (by_frames_keep (by_makings parts m) (by_makings_keep m) n)) σ h
 
   pub calls_keep : CallsKeep (calls_of parts)
-  calls_keep = by_frames_keep (by_makings parts most_makings) (by_makings_keep most_makings) most_calls
+  calls_keep = by_frames_keep (by_makings parts parts.objects) (by_makings_keep parts.objects) most_calls

@@ -1,5 +1,5 @@
 -- Lists of statements, IF, loops, declarations and handlers ask what code may ask.
-use Rattle.std.proofs.Common.{ℕ, suc, Bool, ℤ, List, [], ◌∷◌, map, Option, Some, None}
+use Rattle.std.proofs.Common.{ℕ, suc, Bool, true, false, ℤ, List, [], ◌∷◌, map, Option, Some, None}
 use Rattle.std.specs.Prelude.{◌-ℤ◌, int_lt, unsigned_abs, if◌then◌else◌}
 use Rattle.std.specs.List.{AllByRecursion}
 use Rattle.ebr_base.specs.declared.value.Value.{Value}
@@ -9,13 +9,14 @@ use Rattle.ebr_ast.specs.declared.statement.Decl.{Decl}
 use Rattle.ebr_ast.specs.declared.statement.Decl.TheVariants as decl
 use Rattle.ebr_ast.specs.declared.statement.Range.{Range}
 use Rattle.ebr_ast.specs.declared.statement.Rows.{Rows}
+use Rattle.ebr_run.specs.declared.place.Location.{Location}
 use Rattle.ebr_run.specs.Faults.{is_caught}
 use Rattle.ebr_run.specs.Cursors.{Closed}
 use Rattle.ebr_run.specs.State.{State, Runs, End, Returned, bare, with_operands, ended, done, then_run, step, loop, counting, finally}
 use Rattle.ebr_run.specs.Values.{unfit, is_true, with_variable, assign, with_cursor}
 use Rattle.ebr_run.specs.Scope.{Env, part, within_handler, next_variable, next_cursor, declared_type, with_counter, known_fields}
 use Rattle.ebr_run.specs.Expressions.{Calls, reading_of}
-use Rattle.ebr_run.specs.Statements.{Meaning, Source, Handling, run_all, condition, choose, leave, exits, while_true, number_of_turn, in_turn, between, over_numbers, for_range, field_type, with_fields, over_rows, in_rows, for_rows_of, fetch_at, result_given, give, initial, declare, declare_among, declare_all, with_decl, handling, catches, handled, guarded}
+use Rattle.ebr_run.specs.Statements.{Meaning, Source, Handling, run_all, condition, choose, leave, exits, while_true, number_of_turn, in_turn, between, over_numbers, for_range, field_type, with_fields, declared_by, over_rows, in_rows, for_rows_of, fetch_at, result_given, give, initial, declare, declare_among, declare_all, with_decl, handling, catches, handled, guarded}
 use Rattle.ebr_bodies.proofs.CodeStates.{Keep, Keeps, FaultsKeep, if_keeps, then_run_keeps, step_keeps, loop_keeps, counting_keeps, caught_keeps, finally_keeps}
 use Rattle.ebr_bodies.proofs.CodeValues.{when_fit_keeps, assign_keeps, with_cursor_keep}
 use Rattle.ebr_bodies.proofs.CodeOperators.{CallsKeep, ReadingKeeps}
@@ -77,6 +78,10 @@ with_fields_keep : (k : ℕ) (vs : List Value) (σ : State) → Keep σ → Keep
 with_fields_keep k [] σ h = h
 with_fields_keep k (v ∷ vs) σ h = with_fields_keep (suc k) vs (with_variable k v σ) h
 
+declared_keep : (own : Bool) (l : Location) (σ : State) → Keep σ → Keep (if own then with_cursor l Closed σ else σ)
+declared_keep true l σ h = with_cursor_keep l Closed σ h
+declared_keep false l σ h = h
+
 over_rows_keeps : (s : Source) (body : Meaning) → MeaningKeeps body → (env : Env) (calls : Calls) → CallsKeep calls → Keeps (over_rows s body env calls)
 over_rows_keeps s body b env calls kc σ h =
     let ts = map field_type (known_fields s.fields) in
@@ -84,7 +89,7 @@ over_rows_keeps s body b env calls kc σ h =
     open_at_keeps s.location s.query env calls kc (λ τ. finally (loop head (body env calls) τ) (with_cursor s.location Closed))
     (λ τ k. finally_keeps (loop head (body env calls) τ) (with_cursor s.location Closed)
     (loop_keeps head (body env calls) (fetch_at_keeps s.location ts calls kc (λ vs υ. done (with_fields env.variables vs υ)) exits (λ vs υ l. with_fields_keep env.variables vs υ l) (λ υ l. l)) (b env calls kc) τ k)
-    (λ υ l. with_cursor_keep s.location Closed υ l)) σ h
+    (λ υ l. with_cursor_keep s.location Closed υ l)) (declared_by s σ) (declared_keep s.own s.location σ h)
 
 pub for_rows_keeps : (s : Option Source) (r : Rows) (body : Meaning) → MeaningKeeps body → MeaningKeeps (for_rows_of s r body)
 for_rows_keeps None r body b env calls kc σ h = h

@@ -1,5 +1,5 @@
 -- What some of the definitions compute to.
-use Rattle.std.proofs.Common.{ℕ, ◌≡◌, List, [], ◌∷◌, Option, Ok, Err, refl}
+use Rattle.std.proofs.Common.{ℕ, suc, ◌≡◌, List, [], ◌∷◌, Option, Ok, Err, refl, ap}
 use Rattle.ebr_base.specs.declared.code.Code.{Code}
 use Rattle.ebr_base.specs.declared.code.Code.TheVariants.{Ora, Ebr}
 use Rattle.ebr_base.specs.declared.value.Value.{Value}
@@ -14,11 +14,16 @@ use Rattle.ebr_exec.specs.Statements.{refused}
 use Rattle.ebr_bodies.specs.Ready.{Ready}
 use Rattle.ebr_bodies.specs.Bodies.{Site, Doing, bodies, put, row_left, serve}
 use Rattle.ebr_bodies.specs.Rows.{Work, rows_of}
-use Rattle.ebr_bodies.specs.Statements.{Stmt}
+use Rattle.ebr_bodies.specs.Statements.{Stmt, checked_ran, name_tests, unless_refused}
 
 -- no level is left
 no_level : (names : Names) (p : Place) (s : SqlTree) (binds : List Value) (left room : ℕ) (b : Base) → Stmt names 0 p s binds left room b ≡ gives b (refused (Ora 36))
 no_level names p s binds left room b = refl
+
+-- A statement that its checks or ORA-04091 refuse doesn't ask which triggers fire.
+asks_nothing : (names : Names) (n : ℕ) (p : Place) (s : SqlTree) (binds : List Value) (left room : ℕ) (b : Base) (code : Code) → name_tests names p s binds ≡ Err code
+    → (Stmt names (suc n) p s binds left room b).asked ≡ []
+asks_nothing names n p s binds left room b code e = ap (λ r. (unless_refused r b (checked_ran (Stmt names n) names p s binds left room b)).asked) e
 
 -- the columns of a body, put back into the table's row
 put_back : (x y z a b : Value) → put (0 ∷ 2 ∷ []) (a ∷ b ∷ []) (x ∷ y ∷ z ∷ []) ≡ a ∷ y ∷ b ∷ []

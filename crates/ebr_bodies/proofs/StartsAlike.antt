@@ -11,14 +11,14 @@ use Rattle.ebr_ast.specs.declared.sql.SqlTree.{SqlTree}
 use Rattle.ebr_ast.specs.declared.sql.SqlTree.TheVariants as sql
 use Rattle.ebr_ast.specs.declared.view.EditionView.{EditionView}
 use Rattle.ebr_ast.specs.declared.view.Object.{Object}
-use Rattle.ebr_sqlcheck.specs.Checked.{Checked, must, on}
+use Rattle.ebr_sqlcheck.specs.Checked.{must, on}
 use Rattle.ebr_tx.specs.Data.{Data}
 use Rattle.ebr_dml.specs.Steps.{DmlState, started}
 use Rattle.ebr_exec.specs.Places.{Names, Place, target, questions_on}
 use Rattle.ebr_fire.specs.declared.firing.Firing.{Firing}
 use Rattle.ebr_bodies.specs.Agree.{RunAlike, AnswerAlike, AppliesAlike, applied_firings}
 use Rattle.ebr_bodies.specs.Ready.{Ready, alone, applied, firings, is_timed, applied_firing, all_ready, ready_at}
-use Rattle.ebr_bodies.specs.Statements.{Start, start_of, is_appliable, started_with}
+use Rattle.ebr_bodies.specs.Statements.{Start, start_of, is_appliable, rows_started, triggers_ready}
 use Rattle.ebr_bodies.proofs.ReadyAlike.{SeesSame, ReadySame, AllSame, fired_same, all_sees, all_same}
 
 module _ (m n : Names) (p : Place) (sees : SeesSame m n p.edition) where
@@ -64,20 +64,19 @@ module _ (m n : Names) (p : Place) (sees : SeesSame m n p.edition) where
   StartSame (Ok k) = AllByRecursion (ReadySame m n) k.before × AllByRecursion (ReadySame m n) k.after
   StartSame (Err code) = Unit {0}
 
-  start_sees : (x : Checked) (y : Result DmlState Code) (before after : Result (List Ready) Code) → AllSame m n before → AllSame m n after
-      → StartSame (on (λ u. on (λ st. on (λ b. on (start_of st b) after) before) y) x)
-  start_sees (Ok u) (Ok st) (Ok b) (Ok a) h g = (h, g)
-  start_sees (Ok u) (Ok st) (Ok b) (Err code) h g = tt
-  start_sees (Ok u) (Ok st) (Err code) after h g = tt
-  start_sees (Ok u) (Err code) before after h g = tt
-  start_sees (Err code) y before after h g = tt
+  start_sees : (st : DmlState) (before after : Result (List Ready) Code) → AllSame m n before → AllSame m n after → StartSame (on (λ b. on (start_of st b) after) before)
+  start_sees st (Ok b) (Ok a) h g = (h, g)
+  start_sees st (Ok b) (Err code) h g = tt
+  start_sees st (Err code) after h g = tt
 
-  pub started_sees : (s : SqlTree) (binds : List Value) (d : Data) → FiredBoth s → StartSame (started_with m p s binds d)
-  started_sees s binds d h = start_sees (must (Ora 4043) (is_appliable (m.view p.edition) s)) (started d p.tx (m.view p.edition) s binds) (ready_at m p timing.Before s) (ready_at m p timing.After s)
-      (ready_sees s timing.Before h.0) (ready_sees s timing.After h.1)
+  pub rows_same : (s : SqlTree) (binds : List Value) (d : Data) → rows_started m p s binds d ≡ rows_started n p s binds d
+  rows_same s binds d = λ i. on (λ u. started d p.tx (sees i) s binds) (must (Ora 4043) (is_appliable (sees i) s))
 
-  pub started_same : (s : SqlTree) (binds : List Value) (d : Data) → FiredBoth s → started_with m p s binds d ≡ started_with n p s binds d
-  started_same s binds d h =
+  pub ready_both_see : (s : SqlTree) (st : DmlState) → FiredBoth s → StartSame (triggers_ready m p s st)
+  ready_both_see s st h = start_sees st (ready_at m p timing.Before s) (ready_at m p timing.After s) (ready_sees s timing.Before h.0) (ready_sees s timing.After h.1)
+
+  pub ready_both_same : (s : SqlTree) (st : DmlState) → FiredBoth s → triggers_ready m p s st ≡ triggers_ready n p s st
+  ready_both_same s st h =
       let before = ready_same s timing.Before h.0 in
       let after = ready_same s timing.After h.1 in
-      λ i. on (λ u. on (λ st. on (λ b. on (start_of st b) (after i)) (before i)) (started d p.tx (sees i) s binds)) (must (Ora 4043) (is_appliable (sees i) s))
+      λ i. on (λ b. on (start_of st b) (after i)) (before i)

@@ -69,11 +69,14 @@ pub record Start : Type 0 where
 abbrev pub start_of : DmlState → List Ready → List Ready → Result Start Code
 start_of standing before after = Ok (record { standing = standing; before = before; after = after })
 
--- In a transaction that has begun, in this order: ORA-04043; EBR-0013; ORA-04098 where a trigger of either timing is invalid.
-abbrev pub started_with : Names → Place → SqlTree → List Value → Data → Result Start Code
-started_with names p s binds d =
-    on (λ u. on (λ st. on (λ before. on (start_of st before) (ready_at names p timing.After s)) (ready_at names p timing.Before s))
-    (started d p.tx (names.view p.edition) s binds)) (must (Ora 4043) (is_appliable (names.view p.edition) s))
+-- Its rows, in a transaction that has begun: refused with ORA-04043, and then with EBR-0013.
+abbrev pub rows_started : Names → Place → SqlTree → List Value → Data → Result DmlState Code
+rows_started names p s binds d =
+    on (λ u. started d p.tx (names.view p.edition) s binds) (must (Ora 4043) (is_appliable (names.view p.edition) s))
+
+-- Its triggers: ORA-04098 where one of either timing is invalid.
+abbrev pub triggers_ready : Names → Place → SqlTree → DmlState → Result Start Code
+triggers_ready names p s standing = on (λ before. on (start_of standing before) (ready_at names p timing.After s)) (ready_at names p timing.Before s)
 
 abbrev pub site_of : Statements → Names → Place → SqlTree → ℕ → Site
 site_of deeper names p s left = record {
@@ -107,9 +110,14 @@ finished t before (Err code) σ = gives (undone t before σ.base) (Refused code 
 abbrev pub begun : Place → Base → Base
 begun p b = with_data (after_begin b.data_now p.tx) b
 
+-- The triggers of a change whose rows have started, and its rows. It is asked here which triggers fire, and nowhere before.
+abbrev pub fired_ran : Statements → Names → Place → SqlTree → ℕ → DmlState → Doing → Outcome Doing (Result ℕ Code)
+fired_ran deeper names p s left standing σ =
+    after [] (questions_on p (target s)) (go_on (run_rows deeper names p s left) (triggers_ready names p s standing) σ)
+
 -- what starts in the transaction, and its rows
 abbrev pub begun_ran : Statements → Names → Place → SqlTree → List Value → ℕ → Doing → Outcome Doing (Result ℕ Code)
-begun_ran deeper names p s binds left σ = go_on (run_rows deeper names p s left) (started_with names p s binds σ.base.data_now) σ
+begun_ran deeper names p s binds left σ = go_on (fired_ran deeper names p s left) (rows_started names p s binds σ.base.data_now) σ
 
 abbrev pub change_ran : Statements → Names → Place → SqlTree → List Value → ℕ → ℕ → Base → Outcome Base Answer
 change_ran deeper names p s binds left room b = and_then (begun_ran deeper names p s binds left (first_doing (begun p b) room)) (finished p.tx b)
@@ -133,11 +141,10 @@ name_tests names p s binds =
     on (λ u. must (Ora 4091) (not (is_mutating (names.view p.edition) p s))) (checked_with (names.view p.edition) binds s)
 
 -- The tests of a statement come in this order: its checks; ORA-04091; ORA-04043, which is of APPLY TRIGGER alone; EBR-0013, which
--- APPLY TRIGGER never meets; ORA-04098. Then come its rows. The transaction begins with it, and a statement that is refused takes
--- this back.
+-- APPLY TRIGGER never meets; ORA-04098, for which it is asked which triggers fire. Then come its rows. The transaction begins with it,
+-- and a statement that is refused takes this back.
 abbrev pub at_level : Statements → Names → Statements
-at_level deeper names p s binds left room b =
-    after [] (questions_on p (target s)) (unless_refused (name_tests names p s binds) b (checked_ran deeper names p s binds left room b))
+at_level deeper names p s binds left room b = unless_refused (name_tests names p s binds) b (checked_ran deeper names p s binds left room b)
 
 -- With so many levels left. A statement that finds none is ORA-00036. The bodies of its triggers run statements one level deeper.
 abbrev pub Stmt : Names → ℕ → Statements

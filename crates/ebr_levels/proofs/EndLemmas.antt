@@ -1,5 +1,5 @@
 -- An autonomous transaction above is closed; and all are at a body's end.
-use Rattle.std.proofs.Common.{◌≡◌, ℕ, zero, suc, ◌+◌, ◌-◌, ◌<◌, ◌≤◌, Bool, true, false, not, cond, ◌||◌, List, [], ◌∷◌, ◌++◌, length, refl, sym, ap, subst, ◌∙◌, append-nil, arith}
+use Rattle.std.proofs.Common.{◌≡◌, ℕ, zero, suc, ◌+◌, ◌-◌, ◌<◌, ◌≤◌, Bool, true, false, not, cond, ◌||◌, List, [], ◌∷◌, ◌++◌, refl, sym, ap, subst, ◌∙◌, append-nil, arith}
 use Rattle.std.specs.Prelude.{filter}
 use Rattle.std.specs.List.{list_any}
 use Rattle.std.proofs.lemmas.Bool.{both_ways, eq-eqb, or_from, or_parts}
@@ -7,7 +7,7 @@ use Rattle.std.proofs.lemmas.List.Elements.{filter-append}
 use Rattle.std.proofs.lemmas.List.Folds.{list_any-append}
 use Rattle.ebr_base.specs.declared.numbers.SessionId.{SessionId}
 use Rattle.ebr_base.specs.declared.row.TxId.{TxId}
-use Rattle.ebr_locks.specs.Locks.{Lock, same_tx}
+use Rattle.ebr_locks.specs.Locks.{same_tx}
 use Rattle.ebr_locks.proofs.Taken.{tx-same}
 use Rattle.ebr_tx.specs.Data.{Data, is_of_session, names_of, stack_of, named_at}
 use Rattle.ebr_tx.specs.Calls.{HasLevel, after_pop, levels, top}
@@ -17,9 +17,9 @@ use Rattle.ebr_seats.specs.Ends.{closed_from_top}
 use Rattle.ebr_seats.specs.Seats.{stack_to}
 use Rattle.ebr_seats.proofs.Levels.{pop_stack}
 use Rattle.ebr_seats.proofs.Others.{above as depths_differ, locks_other}
-use Rattle.ebr_levels.specs.Keeps.{AreEarly, IsOutside, UnderChange}
+use Rattle.ebr_levels.specs.Keeps.{AreEarly, IsNoHigher, IsOutside, UnderChange}
 use Rattle.ebr_levels.specs.Levels.{Inside, IsTop, Leaves, opened, above}
-use Rattle.ebr_levels.proofs.OthersLemmas.{IsNoHigher, outside_differs}
+use Rattle.ebr_levels.proofs.OthersLemmas.{outside_differs}
 use Rattle.ebr_levels.proofs.EarlyLemmas.{early_popped, own_popped}
 use Rattle.ebr_levels.proofs.KeepsLemmas.{keeps_spared}
 use Rattle.ebr_levels.proofs.InsideLemmas.{inside_open, inside_top_is, plus_one}
@@ -111,7 +111,7 @@ module _ (a d : Data) (t : TxId) (under : UnderChange) (n : ℕ) (i : Inside a t
       committed = [];
       commits = sym (append-nil d.commits);
       owns = λ u low. own_popped d t.session u (far u low);
-      locks = λ u low. ap (λ (ls : List Lock). length ls) (locks_other (top d t.session) u (far u low) 0 d.locks);
+      locks = λ u low. locks_other (top d t.session) u (far u low) 0 d.locks;
       early = early_popped d (after_pop d t.session) t.session refl;
     });
   }

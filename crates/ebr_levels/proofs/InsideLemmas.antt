@@ -8,7 +8,6 @@ use Rattle.ebr_base.specs.declared.code.Code.TheVariants.{Ebr}
 use Rattle.ebr_base.specs.declared.row.Change.{Change}
 use Rattle.ebr_base.specs.declared.row.TxId.{TxId}
 use Rattle.ebr_base.specs.declared.table.TableDef.{TableDef}
-use Rattle.ebr_locks.specs.Locks.{Lock}
 use Rattle.ebr_tx.specs.declared.savepoints.Savepoint.{Savepoint}
 use Rattle.ebr_tx.specs.Data.{Transaction, Data, IsLive, is_of_session, names_of, stack_of, named_at, not_begun, own}
 use Rattle.ebr_tx.specs.Calls.{HasLevel, HasSession, IsKnown, ended, kept_to, with_savepoint, savepoint_at, savepoint_named, levels, max_levels, with_commit, after_back_to, back_to_savepoint, after_push, after_rollback, after_savepoint, after_settle, push_refusal, top}
@@ -18,11 +17,11 @@ use Rattle.ebr_seats.specs.Seats.{stack_to}
 use Rattle.ebr_seats.proofs.Live.{has_level, own_live}
 use Rattle.ebr_seats.proofs.Others.{Touches, rolled_back, settled, saved, went_back}
 use Rattle.ebr_seats.proofs.Stacks.{levels_are, stack_length, top_is}
-use Rattle.ebr_levels.specs.Keeps.{AreEarly, IsOutside, UnderChange}
+use Rattle.ebr_levels.specs.Keeps.{AreEarly, IsNoHigher, IsOutside, Spares, UnderChange}
 use Rattle.ebr_levels.specs.Levels.{Inside, IsTop, Leaves, opened, above}
-use Rattle.ebr_levels.proofs.OthersLemmas.{IsNoHigher, outside_differs}
+use Rattle.ebr_levels.proofs.OthersLemmas.{outside_differs}
 use Rattle.ebr_levels.proofs.EarlyLemmas.{early_pushed, early_rolled_back, early_saved, early_settled, early_went_back, own_pushed}
-use Rattle.ebr_levels.proofs.KeepsLemmas.{Spares, keeps_keeps, keeps_same, keeps_spared}
+use Rattle.ebr_levels.proofs.KeepsLemmas.{keeps_keeps, keeps_same, keeps_spared}
 use Rattle.ebr_levels.proofs.LeavesLemmas.{known_on}
 use Rattle.ebr_levels.proofs.TopLemmas.{top_live}
 
@@ -132,7 +131,7 @@ module _ (d d' : Data) (t : TxId) (n : ℕ) (some : 0 < n) where
     committed = more;
     commits = commits;
     owns = λ u low. o.owns u (outside_differs (above t n) u (outside_above t n u some low));
-    locks = λ u low. ap (λ (ls : List Lock). length ls) (o.locks u (outside_differs (above t n) u (outside_above t n u some low)));
+    locks = λ u low. o.locks u (outside_differs (above t n) u (outside_above t n u some low));
     early = early;
   }
 

@@ -1,5 +1,5 @@
 -- What a statement in a transaction leaves: one step, one after the other, and back to the mark of before.
-use Rattle.std.proofs.Common.{◌≡◌, ℕ, ◌+◌, ◌<◌, ◌≤◌, ⊎_elim, Bool, true, false, List, [], ◌∷◌, ◌++◌, Option, Some, None, get_or, length, refl, sym, ap, subst, ◌∙◌, length-append, arith}
+use Rattle.std.proofs.Common.{◌≡◌, ℕ, ◌+◌, ◌<◌, ◌≤◌, ⊎_elim, Bool, true, false, List, [], ◌∷◌, ◌++◌, Option, Some, None, get_or, length, refl, sym, ap, subst, ◌∙◌, append-nil, length-append, arith}
 use Rattle.std.specs.Prelude.{◌==◌, is_some, All, if◌then◌else◌}
 use Rattle.std.specs.List.{list_any}
 use Rattle.std.proofs.lemmas.Bool.{and_from, both_ways, cases_lt, eq-eqb}
@@ -15,7 +15,7 @@ use Rattle.ebr_versions.specs.Data.{changes_row, last_change, Latest}
 use Rattle.ebr_versions.specs.Keys.{is_added, key_places}
 use Rattle.ebr_versions.proofs.DataLemmas.{or_else, last_change-append}
 use Rattle.ebr_versions.proofs.LawLemmas.{changes_row_is}
-use Rattle.ebr_locks.specs.Locks.{after_take, holder_of, same_tx}
+use Rattle.ebr_locks.specs.Locks.{Lock, after_take, holder_of, locks_of, same_tx}
 use Rattle.ebr_tx.specs.declared.savepoints.TxMark.{TxMark}
 use Rattle.ebr_tx.specs.Data.{Transaction, Data, IsLive, named_at, changed, own}
 use Rattle.ebr_tx.specs.Reads.{Sees, seen_by, over, committed}
@@ -23,8 +23,8 @@ use Rattle.ebr_tx.specs.Calls.{IsKnown, IsMarkOf, after_begin, begun_at, after_c
 use Rattle.ebr_tx.proofs.Stays.{stacks-stay}
 use Rattle.ebr_tx.proofs.SoundLemmas.{names}
 use Rattle.ebr_levels.specs.Keeps.{AreEarly, IsEarly, Keeps, UnderChange}
-use Rattle.ebr_levels.specs.Levels.{Leaves}
-use Rattle.ebr_levels.proofs.KeepsLemmas.{keeps_same, keeps_keeps, keeps_fewer, keeps_begun, keeps_changed, keeps_locks, keeps_back, with_locks}
+use Rattle.ebr_levels.specs.Levels.{GoesBack, Leaves}
+use Rattle.ebr_levels.proofs.KeepsLemmas.{keeps_same, keeps_keeps, keeps_fewer, keeps_begun, keeps_changed, keeps_locks, keeps_back, spares_back, with_locks}
 
 pub leaves_same : (d : Data) (t : TxId) (under : UnderChange) → Leaves d t under d
 leaves_same d t under = record { names = refl; keeps = keeps_same d t under }
@@ -58,12 +58,17 @@ pub leaves_known : (a b : Data) (t : TxId) (under : UnderChange) (tables : List 
 leaves_known a b t under tables l all k e h = leaves_known_one a b t under (get_or tables k e) l (all k e h)
 
 pub leaves_mark : (a b : Data) (t : TxId) (under : UnderChange) (m : TxMark) → IsMarkOf a t m → Leaves a t under b → IsMarkOf b t m
-leaves_mark a b t under m h l = record { begun = h.begun; changes = as_many; locks = omega (arith, h.locks, l.keeps.locks) }
+leaves_mark a b t under m h l = record { begun = h.begun; changes = as_many; locks = as_locked }
   where
     as_many : m.changes ≤ length (own b t).changes
     as_many =
         let n : length (own b t).changes ≡ length (own a t).changes + length l.keeps.added = ap (λ (cs : List Change). length cs) l.keeps.changes ∙ length-append (own a t).changes l.keeps.added in
         omega (arith, n, h.changes)
+
+    as_locked : m.locks ≤ length (locks_of t b.locks)
+    as_locked =
+        let n : length (locks_of t b.locks) ≡ length (locks_of t a.locks) + length l.keeps.locked = ap (λ (ls : List Lock). length ls) l.keeps.locks ∙ length-append (locks_of t a.locks) l.keeps.locked in
+        omega (arith, n, h.locks)
 
 -- a mark of a session's own transaction, as one of its call
 pub leaves_own_mark : (a b : Data) (t : TxId) (under : UnderChange) (r : SessionId) (m : TxMark) → IsMarkOf a (named_at r 0) m → Leaves a t under b → IsMarkOf b (named_at r 0) m
@@ -73,7 +78,7 @@ leaves_own_mark a b t under r m h l =
     (λ (far : same_tx t (named_at r 0) ≡ false). record {
       begun = h.begun;
       changes = subst (λ (x : Transaction). m.changes ≤ length x.changes) (sym (l.keeps.others (named_at r 0) (below far))) h.changes;
-      locks = subst (λ n. m.locks ≤ n) (sym (l.keeps.other_locks (named_at r 0) (below far))) h.locks;
+      locks = subst (λ (ls : List Lock). m.locks ≤ length ls) (sym (l.keeps.other_locks (named_at r 0) (below far))) h.locks;
     })
     (names t (named_at r 0))
   where
@@ -114,6 +119,20 @@ leaves_back before now after t under m taken there l is =
     subst (Leaves before t under) (sym (is ∙ ap (after_mark now t) taken)) (record {
       names = stacks-stay t (marked (mark_of before t)) (λ x. refl) now.live (changed t (marked (mark_of before t)) now.live) refl ∙ l.names;
       keeps = keeps_back before now t under (leaves_live before now t t under l there) l.keeps;
+    })
+
+-- it has gone back to its beginning
+pub goes_back_same : (d : Data) (t : TxId) → GoesBack d t d
+goes_back_same d t = record {
+  names = refl;
+  spares = record { tables = refl; committed = []; commits = sym (append-nil d.commits); owns = λ u low. refl; locks = λ u low. refl; early = λ e. e };
+}
+
+pub goes_back : (before now after : Data) (t : TxId) (under : UnderChange) (m : TxMark) → m ≡ mark_of before t → IsLive before t → Leaves before t under now → after ≡ after_mark now t m → GoesBack before t after
+goes_back before now after t under m taken there l is =
+    subst (GoesBack before t) (sym (is ∙ ap (after_mark now t) taken)) (record {
+      names = stacks-stay t (marked (mark_of before t)) (λ x. refl) now.live (changed t (marked (mark_of before t)) now.live) refl ∙ l.names;
+      spares = spares_back before now t under (leaves_live before now t t under l there) l.keeps;
     })
 
 -- ---- what the transaction sees

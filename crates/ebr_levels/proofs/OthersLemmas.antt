@@ -1,17 +1,14 @@
 -- What a step on one transaction leaves of the others.
-use Rattle.std.proofs.Common.{◌≡◌, ◌+◌, ◌<◌, ◌≤◌, ⊎_elim, false, List, [], ◌∷◌, ◌++◌, length, map, refl, sym, ap, ◌∙◌, append-nil, length-append, arith, cond}
-use Rattle.std.specs.Prelude.{find, unwrap_or}
+use Rattle.std.proofs.Common.{◌≡◌, ◌<◌, ◌≤◌, ◌⊎◌, inl, inr, ⊎_elim, false, List, [], ◌∷◌, ◌++◌, map, refl, sym, ap, ◌∙◌, append-nil, arith, cond}
+use Rattle.std.specs.Prelude.{◌==◌, find, unwrap_or}
+use Rattle.std.proofs.lemmas.Bool.{and_from, both_ways, cases_lt, eq-eqb}
 use Rattle.std.proofs.lemmas.List.Elements.{filter-append}
 use Rattle.ebr_base.specs.declared.row.RowId.{RowId}
 use Rattle.ebr_base.specs.declared.row.TxId.{TxId}
 use Rattle.ebr_locks.specs.Locks.{Lock, same_tx, is_of, locks_of}
 use Rattle.ebr_tx.specs.Data.{Transaction, Data, is_named, not_begun, changed, own}
 use Rattle.ebr_tx.proofs.SoundLemmas.{find-other, names}
-use Rattle.ebr_levels.specs.Keeps.{IsOutside}
-
--- the second transaction stands no higher than the first in its stack
-abbrev pub IsNoHigher : TxId → TxId → Type 0
-IsNoHigher t u = u.session.0 ≡ t.session.0 → u.depth ≤ t.depth
+use Rattle.ebr_levels.specs.Keeps.{IsNoHigher, IsOutside}
 
 pub itself_no_higher : (t : TxId) → IsNoHigher t t
 itself_no_higher t e = omega arith
@@ -47,8 +44,17 @@ module _ (t u : TxId) (far : same_tx t u ≡ false) where
   pub others_locks : (rows : List RowId) (ls : List Lock) → locks_of u (ls ++ locked_by t rows) ≡ locks_of u ls
   others_locks rows ls = filter-append (is_of u) ls (locked_by t rows) ∙ ap (λ more. locks_of u ls ++ more) (none_locked rows) ∙ append-nil (locks_of u ls)
 
-pub own_locks : (t : TxId) (rows : List RowId) (ls : List Lock) → length (locks_of t ls) ≤ length (locks_of t (ls ++ locked_by t rows))
-own_locks t rows ls =
-    let joined : length (locks_of t (ls ++ locked_by t rows)) ≡ length (locks_of t ls) + length (locks_of t (locked_by t rows)) =
-    ap (λ (xs : List Lock). length xs) (filter-append (is_of t) ls (locked_by t rows)) ∙ length-append (locks_of t ls) (locks_of t (locked_by t rows)) in
-    omega (arith, joined)
+pub own_locks : (t : TxId) (rows : List RowId) (ls : List Lock) → locks_of t (ls ++ locked_by t rows) ≡ locks_of t ls ++ locks_of t (locked_by t rows)
+own_locks t rows ls = filter-append (is_of t) ls (locked_by t rows)
+
+-- ---- which transactions stand no higher
+
+-- one that stands no higher is the transaction itself, or stands outside
+pub itself_or_outside : (t u : TxId) → IsNoHigher t u → (t ≡ u) ⊎ IsOutside t u
+itself_or_outside t u low = ⊎_elim (λ (same : t ≡ u). inl same) (λ (far : same_tx t u ≡ false). inr (below far)) (names t u)
+  where
+    below : same_tx t u ≡ false → u.session.0 ≡ t.session.0 → u.depth < t.depth
+    below far e = ⊎_elim (λ (h : u.depth < t.depth). h) (λ (h : t.depth ≤ u.depth). absurd (both_ways (same_tx t u) far (and_from (t.session.0 == u.session.0) (t.depth == u.depth) (eq-eqb t.session.0 u.session.0 (sym e)) (eq-eqb t.depth u.depth (as_deep h (low e)))))) (cases_lt u.depth t.depth)
+      where
+        as_deep : t.depth ≤ u.depth → u.depth ≤ t.depth → t.depth ≡ u.depth
+        as_deep h k = omega (arith, h, k)

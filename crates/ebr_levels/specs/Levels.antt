@@ -4,7 +4,7 @@ use Rattle.std.specs.Prelude.{◌≡◌, ℕ, zero, suc, ◌+◌, List, [], ◌�
 use Rattle.ebr_base.specs.declared.row.TxId.{TxId}
 use Rattle.ebr_tx.specs.Data.{Data, names_of, stack_of, named_at}
 use Rattle.ebr_seats.specs.Seats.{stack_to}
-use Rattle.ebr_levels.specs.Keeps.{AreEarly, UnderChange, Keeps}
+use Rattle.ebr_levels.specs.Keeps.{AreEarly, UnderChange, Keeps, Spares}
 
 -- The transaction is on top of its session's stack, at its depth; and no transaction began later than now.
 pub record IsTop (d : Data) (t : TxId) : Type 0 where
@@ -16,6 +16,12 @@ pub record IsTop (d : Data) (t : TxId) : Type 0 where
 pub record Leaves (before : Data) (t : TxId) (under : UnderChange) (now : Data) : Type 0 where
   pub names : names_of now.live ≡ names_of before.live
   pub keeps : Keeps before t under now
+
+-- What a statement in the transaction leaves that went back to its beginning: the same transactions are live, and all are as they were.
+-- What autonomous transactions committed stays.
+pub record GoesBack (before : Data) (t : TxId) (now : Data) : Type 0 where
+  pub names : names_of now.live ≡ names_of before.live
+  pub spares : Spares before t now
 
 -- the autonomous transaction so many levels above; the transaction itself at none
 abbrev pub above : TxId → ℕ → TxId
