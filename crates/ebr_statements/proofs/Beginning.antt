@@ -22,7 +22,7 @@ use Rattle.ebr_statements.specs.inside.Held.{IsServed, ready_of}
 use Rattle.ebr_statements.specs.inside.Sites.{IsBegun}
 
 pub has_code : (v : EditionView) → HasCodeOf v (served v)
-has_code v = record { unit = λ key. refl; stamp = λ key. refl }
+has_code v = record { unit = λ key. refl; stamp = λ key. refl; objects = refl }
 
 module _ (w : Site) (o : Op) (h : Held) (old new : List Value) (σ : Doing) (s : IsServed w.view h) where
   abbrev view : EditionView

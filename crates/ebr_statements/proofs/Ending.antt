@@ -24,6 +24,8 @@ use Rattle.ebr_cross.specs.Catalogue.{Lists, View}
 use Rattle.ebr_asks.specs.declared.answer.Answer.{Answer}
 use Rattle.ebr_asks.specs.declared.answer.Answer.TheVariants as answer
 use Rattle.ebr_query.specs.Queries.{Query}
+use Rattle.ebr_dml.specs.Steps.{DmlState}
+use Rattle.ebr_sqlcheck.specs.Checked.{on}
 use Rattle.ebr_tx.specs.declared.savepoints.TxMark.{TxMark}
 use Rattle.ebr_tx.specs.Data.{Data}
 use Rattle.ebr_tx.specs.Calls.{after_begin, after_mark, mark_of}
@@ -34,7 +36,7 @@ use Rattle.ebr_database.specs.declared.failure.Halt.{Halt}
 use Rattle.ebr_database.specs.Base.{Base, with_data}
 use Rattle.ebr_database.specs.Outcome.{Outcome, gives, after, go_on}
 use Rattle.ebr_database.specs.Shows.{GaveUp, Said, Shows, Tells, base_of}
-use Rattle.ebr_database.proofs.Goes.{says, steps, tells_whole, then_gives, then_gave_up}
+use Rattle.ebr_database.proofs.Goes.{Goes, says, shown, then_gives, then_gave_up}
 use Rattle.ebr_database.proofs.Keeping.{grew_same, stays}
 use Rattle.ebr_exec.specs.Places.{Names, Place, Under, is_changing, names_of, target, questions_on}
 use Rattle.ebr_exec.specs.Shows.{Runs}
@@ -48,52 +50,68 @@ use Rattle.ebr_bodies.specs.Ready.{operation}
 use Rattle.ebr_bodies.specs.Rows.{rows_of}
 use Rattle.ebr_bodies.specs.Statements as spec
 use Rattle.ebr_statements.specs.inside.Answered.{Tests, as_failure, as_refusal, as_refused}
-use Rattle.ebr_statements.specs.inside.Held.{Starts}
+use Rattle.ebr_statements.specs.inside.Held.{Starts, started_with}
 use Rattle.ebr_statements.specs.inside.Sites.{doing_at, site_at, work_at}
 use Rattle.ebr_statements.specs.inside.Views.{place_at}
-use Rattle.ebr_bodies.specs.Statements.{Start, Stmt, begun_ran, change_ran, checked_ran, finished, first_doing, begun, name_tests, run_rows, site_of, started_with, tables_of, unless_refused, work_of}
+use Rattle.ebr_bodies.specs.Statements.{Start, Stmt, begun_ran, change_ran, checked_ran, finished, fired_ran, first_doing, begun, name_tests, rows_started, run_rows, site_of, tables_of, triggers_ready, unless_refused, work_of}
 
 -- 1. Tests
 
+module _ (names : Names) (p : Place) (s : SqlTree) (binds : List Value) (left room : ℕ) (b : Base) (k : Keeper) where
+  -- with so many levels left, and one more
+  abbrev behind : ℕ → Outcome Base Answer
+  behind n = checked_ran (Stmt names n) names p s binds left room b
+
+  refuses_at : (n : ℕ) (code : Code) → name_tests names p s binds ≡ Err code → Said (Stmt names (suc n) p s binds left room b) b k k (refused code)
+  refuses_at n code e = subst (λ r. Said (unless_refused r b (behind n)) b k k (refused code)) (sym e) (says b (refused code) k)
+
+  passes_at : (n : ℕ) → name_tests names p s binds ≡ Ok tt → (now : Keeper) (b' : Base) (r : Result Answer Halt) → Tells (behind n) b' k now r → Tells (Stmt names (suc n) p s binds left room b) b' k now r
+  passes_at n e now b' r t = subst (λ x. Tells (unless_refused x b (behind n)) b' k now r) (sym e) t
+
 module _ (names : Names) (levels : ℕ) (p : Place) (s : SqlTree) (binds : List Value) (left room : ℕ) (b : Base) (k : Keeper) where
-  abbrev whole : Outcome Base Answer
-  whole = Stmt names levels p s binds left room b
-
-  abbrev behind : Outcome Base Answer
-  behind = checked_ran (Stmt names (levels - 1)) names p s binds left room b
-
-  abbrev from_tests : Result (Unit {0}) Code → Outcome Base Answer
-  from_tests r = after [] (questions_on p (target s)) (unless_refused r b behind)
-
-  one_level : 0 < levels → whole ≡ from_tests (name_tests names p s binds)
-  one_level h = let one : levels ≡ suc (levels - 1) = omega (arith, h) in ap (λ n. Stmt names n p s binds left room b) one
+  one_more : 0 < levels → suc (levels - 1) ≡ levels
+  one_more h = omega (arith, h)
 
   -- no level is left
-  pub too_deep : levels ≡ 0 → Said whole b k k (refused (Ora 36))
+  pub too_deep : levels ≡ 0 → Said (Stmt names levels p s binds left room b) b k k (refused (Ora 36))
   too_deep e = subst (λ n. Said (Stmt names n p s binds left room b) b k k (refused (Ora 36))) (sym e) (says b (refused (Ora 36)) k)
 
   -- a test of names refuses
-  pub test_refuses : 0 < levels → (code : Code) → name_tests names p s binds ≡ Err code → Said whole b k k (refused code)
-  test_refuses h code e =
-      let is : whole ≡ after [] (questions_on p (target s)) (gives b (refused code)) = one_level h ∙ ap from_tests e in
-      subst (λ o. Said o b k k (refused code)) (sym is) (record { state = refl; grew = grew_same k; value = refl })
+  pub test_refuses : 0 < levels → (code : Code) → name_tests names p s binds ≡ Err code → Said (Stmt names levels p s binds left room b) b k k (refused code)
+  test_refuses h code e = subst (λ n. Said (Stmt names n p s binds left room b) b k k (refused code)) (one_more h) (refuses_at names p s binds left room b k (levels - 1) code e)
 
   -- none refuses
-  pub passes : 0 < levels → name_tests names p s binds ≡ Ok tt → (now : Keeper) (b' : Base) (r : Result Answer Halt) → Tells behind b' k now r → Tells whole b' k now r
-  passes h e now b' r t =
-      let is : whole ≡ after [] (questions_on p (target s)) behind = one_level h ∙ ap from_tests e in
-      tells_whole whole behind k k now b' r (record { made = []; asked = questions_on p (target s); is = is; grew = grew_same k }) t
+  pub passes : 0 < levels → name_tests names p s binds ≡ Ok tt → (now : Keeper) (b' : Base) (r : Result Answer Halt)
+      → Tells (checked_ran (Stmt names (levels - 1)) names p s binds left room b) b' k now r → Tells (Stmt names levels p s binds left room b) b' k now r
+  passes h e now b' r t = subst (λ n. Tells (Stmt names n p s binds left room b) b' k now r) (one_more h) (passes_at names p s binds left room b k (levels - 1) e now b' r t)
 
 -- 2. The start of a change
 
 module _ (deeper : Statements) (names : Names) (p : Place) (s : SqlTree) (binds : List Value) (left : ℕ) (σ : Doing) where
-  pub starts : (it : Start) → started_with names p s binds σ.base.data_now ≡ Ok it → begun_ran deeper names p s binds left σ ≡ run_rows deeper names p s left it σ
-  starts it e = ap (λ r. go_on (run_rows deeper names p s left) r σ) e
+  -- from its rows on
+  abbrev from_rows : Result DmlState Code → Outcome Doing (Result ℕ Code)
+  from_rows rows = go_on (fired_ran deeper names p s left) rows σ
+
+  abbrev from_triggers : Result Start Code → Outcome Doing (Result ℕ Code)
+  from_triggers start = after [] (questions_on p (target s)) (go_on (run_rows deeper names p s left) start σ)
+
+  starts_from : (rows : Result DmlState Code) (it : Start) → on (triggers_ready names p s) rows ≡ Ok it → from_rows rows ≡ from_triggers (Ok it)
+  starts_from (Ok standing) it e = ap from_triggers e
+  starts_from (Err code) it e = absurd cc
+
+  pub starts : (it : Start) → started_with names p s binds σ.base.data_now ≡ Ok it → begun_ran deeper names p s binds left σ ≡ from_triggers (Ok it)
+  starts it e = starts_from (rows_started names p s binds σ.base.data_now) it e
+
+  not_started_from : (rows : Result DmlState Code) (code : Code) (k : Keeper) → on (triggers_ready names p s) rows ≡ Err code → Said (from_rows rows) σ k k (Err code)
+  not_started_from (Ok standing) code k e =
+      let is : from_rows (Ok standing) ≡ from_triggers (Err code) = ap from_triggers e in
+      subst (λ o. Said o σ k k (Err code)) (sym is) (record { state = refl; grew = grew_same k; value = refl })
+  not_started_from (Err first) code k e =
+      let is : from_rows (Err first) ≡ gives σ (Err code) = ap (λ (start : Result Start Code). go_on (run_rows deeper names p s left) start σ) e in
+      subst (λ o. Said o σ k k (Err code)) (sym is) (says σ (Err code) k)
 
   pub not_started : (code : Code) (k : Keeper) → started_with names p s binds σ.base.data_now ≡ Err code → Said (begun_ran deeper names p s binds left σ) σ k k (Err code)
-  not_started code k e =
-      let is : begun_ran deeper names p s binds left σ ≡ gives σ (Err code) = ap (λ r. go_on (run_rows deeper names p s left) r σ) e in
-      subst (λ o. Said o σ k k (Err code)) (sym is) (says σ (Err code) k)
+  not_started code k e = not_started_from (rows_started names p s binds σ.base.data_now) code k e
 
 -- 3. Its end
 
@@ -163,14 +181,23 @@ module _ (lists : Lists) (v : EditionView) (origin : Origin) (w : Standpoint) (c
   same_site : site_of deeper_ones (names_of lists) place s w.left ≡ site_at (names_of lists) w
   same_site = ap (λ (c : List Under). site_at (names_of lists) (record w { changing = c })) (ap (λ y. changing ++ map (spec.under w.t) (tables_of y s)) (sym seen) ∙ sym split)
 
-  pub change_begins : (it : CodeStart) → Starts (View lists) (operation s) (Ok it) (started_with (names_of lists) place s binds x)
-      → begun_change ≡ rows_of (site_at (names_of lists) w) (work_at it.rows it.work) it.rows.rest σ
+  change_begins : (it : CodeStart) → Starts (View lists) (operation s) (Ok it) (started_with (names_of lists) place s binds x)
+      → Goes begun_change (rows_of (site_at (names_of lists) w) (work_at it.rows it.work) it.rows.rest σ) k k
   change_begins it h =
       let same_work : work_of s h.0 ≡ work_at it.rows it.work =
       λ i. record { plan = (h.2 i).plan; binds = (h.2 i).binds; operation = sym h.3.operation i; before = h.3.before_is i; after = h.3.after_is i } in
       let there : run_rows deeper_ones (names_of lists) place s w.left h.0 σ ≡ rows_of (site_at (names_of lists) w) (work_at it.rows it.work) it.rows.rest σ =
       λ i. rows_of (same_site i) (same_work i) (h.2 i).rest σ in
-      starts deeper_ones (names_of lists) place s binds w.left σ h.0 h.1 ∙ there
+      record {
+        made = [];
+        asked = questions_on place (target s);
+        is = starts deeper_ones (names_of lists) place s binds w.left σ h.0 h.1 ∙ ap (after [] (questions_on place (target s))) there;
+        grew = grew_same k;
+      }
+
+  pub change_shows : (it : CodeStart) → Starts (View lists) (operation s) (Ok it) (started_with (names_of lists) place s binds x) → (τ : Doing) (now : Keeper) (r : Result ℕ Failure)
+      → Shows (rows_of (site_at (names_of lists) w) (work_at it.rows it.work) it.rows.rest σ) τ k now r → Shows begun_change τ k now r
+  change_shows it h τ now r shows = shown begun_change (rows_of (site_at (names_of lists) w) (work_at it.rows it.work) it.rows.rest σ) k k now τ r (change_begins it h) shows
 
   pub change_not_begun : (stop : Stop) → Starts (View lists) (operation s) (Err stop) (started_with (names_of lists) place s binds x) → Shows begun_change σ k k (Err (as_failure stop))
   change_not_begun (Raised code) h = not_started deeper_ones (names_of lists) place s binds w.left σ code k h

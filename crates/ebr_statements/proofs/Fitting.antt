@@ -1,10 +1,17 @@
 -- What calls ask for after other calls.
-use Rattle.std.proofs.Common.{◌≡◌, ◌<◌, ◌-◌, ℕ, true, false, List, [], ◌∷◌, All, get_or, length, sym, ap, subst, ◌∙◌}
+use Rattle.std.proofs.Common.{◌≡◌, ◌<◌, ◌-◌, ℕ, true, false, List, [], ◌∷◌, Result, Ok, Err, All, get_or, length, refl, sym, ap, subst, ◌∙◌}
+use Rattle.std.specs.Prelude.{OnErr}
 use Rattle.std.specs.List.{AllByRecursion}
 use Rattle.std.proofs.lemmas.List.Elements.{All-from_recursion}
+use Rattle.ebr_base.specs.declared.code.Code.{Code}
+use Rattle.ebr_base.specs.declared.code.Stop.{Stop}
+use Rattle.ebr_base.specs.declared.code.Stop.TheVariants.{Raised, NoMemory}
 use Rattle.ebr_base.specs.declared.numbers.TableId.{TableId}
 use Rattle.ebr_base.specs.declared.table.TableDef.{TableDef}
 use Rattle.ebr_base.specs.declared.row.TxId.{TxId}
+use Rattle.ebr_ast.specs.declared.query.Query.{Query as Select}
+use Rattle.ebr_ast.specs.declared.sql.SqlTree.{SqlTree}
+use Rattle.ebr_ast.specs.declared.sql.SqlTree.TheVariants as sql
 use Rattle.ebr_ast.specs.declared.view.EditionView.{EditionView}
 use Rattle.ebr_versions.specs.declared.table.Table.{Table}
 use Rattle.ebr_versions.specs.Keys.{is_added, key_places}
@@ -16,16 +23,18 @@ use Rattle.ebr_dml.specs.Steps.{CanStep, DmlState}
 use Rattle.ebr_database.specs.Storable.{AllStorable}
 use Rattle.ebr_database.proofs.AllStays as stays_storable
 use Rattle.ebr_exec.specs.Places.{Under}
+use Rattle.ebr_exec.specs.Shows.{Runs}
+use Rattle.ebr_exec.specs.Statements.{Ran}
 use Rattle.ebr_levels.specs.Keeps.{UnderChange}
-use Rattle.ebr_levels.specs.Levels.{Inside, IsTop, Leaves, above}
+use Rattle.ebr_levels.specs.Levels.{GoesBack, Inside, IsTop, Leaves, above}
 use Rattle.ebr_levels.proofs.TopLemmas.{top_live, top_stays}
-use Rattle.ebr_levels.proofs.LeavesLemmas.{leaves_back, leaves_begun, leaves_fewer, leaves_known, leaves_leaves, leaves_same}
+use Rattle.ebr_levels.proofs.LeavesLemmas.{goes_back, goes_back_same, leaves_back, leaves_begun, leaves_fewer, leaves_known, leaves_leaves, leaves_same}
 use Rattle.ebr_levels.proofs.EndLemmas.{inside_closed}
 use Rattle.ebr_levels.proofs.InsideLemmas.{inside_begins, inside_open, inside_statement, inside_top, inside_top_is}
 use Rattle.ebr_levels.proofs.StepLemmas.{can_still_step}
 use Rattle.ebr_seats.specs.Ends.{closed_from_top}
 use Rattle.ebr_statements.proofs.Naming.{among_itself}
-use Rattle.ebr_statements.specs.Fits.{Fits, Remains, StayCurrent, IsCurrent}
+use Rattle.ebr_statements.specs.Fits.{Fits, IsAsBefore, Remains, StayCurrent, IsCurrent}
 use Rattle.ebr_statements.specs.inside.Fits.{FitsOpen, RemainsOpen, Spares, under_by}
 use Rattle.ebr_statements.specs.inside.Opened.{Stays}
 
@@ -174,6 +183,35 @@ module _ (now : Catalogue) (t : TxId) (under : UnderChange) where
     leaves = leaves_back x y z t under m marked (top_live x t top) r.leaves is;
     storable = subst AllStorable (sym is) (stays_storable.to_mark y t m r.storable);
   }
+
+-- ---- what is as before
+
+pub whatever_answer : {A E P : Type 0} (r : Result A E) → P → OnErr r P
+whatever_answer (Ok a) p = tt
+whatever_answer (Err e) p = p
+
+pub changed_back : (now : Catalogue) (t : TxId) (under : UnderChange) (a b : List EditionView) (x y z : Data) (m : TxMark) → IsTop x t → Remains now t under a x b y → m ≡ mark_of x t → z ≡ after_mark y t m → GoesBack x t z
+changed_back now t under a b x y z m top r marked is = goes_back x y z t under m marked (top_live x t top) r.leaves is
+
+module _ {K : Type 0} (k : K) where
+  pub nothing_done : (s : SqlTree) (t : TxId) (d : Data) → IsAsBefore s t d d k k
+  nothing_done (sql.Query q) t d = (refl, refl)
+  nothing_done (sql.Insert i) t d = goes_back_same d t
+  nothing_done (sql.Update u) t d = goes_back_same d t
+  nothing_done (sql.Delete x) t d = goes_back_same d t
+  nothing_done (sql.Apply name) t d = goes_back_same d t
+
+  pub change_as_before : (k' : K) (s : SqlTree) (t : TxId) (d d' : Data) → ((q : Select) → s ≡ sql.Query q → ⊥) → GoesBack d t d' → IsAsBefore s t d d' k k'
+  change_as_before k' (sql.Query q) t d d' none h = absurd (none q refl)
+  change_as_before k' (sql.Insert i) t d d' none h = h
+  change_as_before k' (sql.Update u) t d d' none h = h
+  change_as_before k' (sql.Delete x) t d d' none h = h
+  change_as_before k' (sql.Apply name) t d d' none h = h
+
+-- a query that doesn't answer
+pub query_as_before : (stop : Stop) (old new : Data) (defined : Result Ran Code) → Runs (Err stop) old new defined → new ≡ old
+query_as_before (Raised code) old new defined h = h.1
+query_as_before NoMemory old new defined h = h
 
 pub this_one : {A : Type 0} (P : A → Type 0) (xs : List A) (i : ℕ) (x : A) → x ≡ get_or xs i x → i < length xs → AllByRecursion P xs → P x
 this_one P xs i x is h all = subst P (sym is) (one_of P xs i x h all)

@@ -70,7 +70,7 @@ module _ (q : Select) (t : TxId) (v : EditionView) (binds : List Value) (changin
       → (p : Place) → p.changing ≡ changing → Runs (Err stop) old new (query_ran p room (Query q (after_begin old t) t v binds))
   query_refused (Raised code) new h e p own =
       (answers_code changing room p own (Query q (after_begin old t) t v binds) d2 code (subst (λ d. GivesRows changing room (Query q d t v binds) d2 (Err (Raised code))) is h), e)
-  query_refused NoMemory new h e p own = tt
+  query_refused NoMemory new h e p own = e
 
 pub over_query : (old d1 d2 : Data) (t : TxId) → d1 ≡ after_begin old t → AddsLocks d1 t d2 → Over old t d2
 over_query old d1 d2 t is l = over_over old d1 d2 t (subst (Over old t) (sym is) (over_begun old t)) (over_locks d1 d2 t l)

@@ -20,8 +20,8 @@ use Rattle.ebr_exec.specs.Places.{Names, Place}
 use Rattle.ebr_statements.specs.declared.ready.Ready.{Ready as Held}
 use Rattle.ebr_statements.specs.declared.start.Work.{Work as Triggers}
 use Rattle.ebr_bodies.specs.Ready.{Ready, ready_at}
-use Rattle.ebr_bodies.specs.Statements.{Start, is_appliable, start_of, started_with}
-use Rattle.ebr_statements.specs.inside.Held.{GiveReady, ServesAt, Starts, ready_of}
+use Rattle.ebr_bodies.specs.Statements.{Start, is_appliable, start_of}
+use Rattle.ebr_statements.specs.inside.Held.{GiveReady, ServesAt, Starts, ready_of, started_with}
 use Rattle.ebr_statements.proofs.Targets.{Begins, start_in}
 
 -- ---- the triggers of both timings
@@ -57,7 +57,7 @@ module _ (names : Names) (p : Place) (s : SqlTree) (binds : List Value) (d : Dat
   behind r = on (λ st. on (λ b. on (start_of st b) after) before) r
 
   abbrev tested : Bool → Result Start Code
-  tested b = on (λ u. behind (started d p.tx (names.view p.edition) s binds)) (must (Ora 4043) b)
+  tested b = behind (on (λ u. started d p.tx (names.view p.edition) s binds) (must (Ora 4043) b))
 
   pub not_appliable : is_appliable v s ≡ false → started_with names p s binds d ≡ Err (Ora 4043)
   not_appliable e = ap tested (ap (λ x. is_appliable x s) (sym seen) ∙ e)

@@ -1,6 +1,8 @@
 -- What a session's statement asks for, and what it leaves, whatever it answers.
 use Rattle.std.specs.Prelude.{◌≡◌, List}
 use Rattle.ebr_base.specs.declared.row.TxId.{TxId}
+use Rattle.ebr_ast.specs.declared.sql.SqlTree.{SqlTree}
+use Rattle.ebr_ast.specs.declared.sql.SqlTree.TheVariants as sql
 use Rattle.ebr_ast.specs.declared.view.EditionView.{EditionView}
 use Rattle.ebr_cross.specs.declared.catalogue.Catalogue.{Catalogue}
 use Rattle.ebr_cross.specs.Catalogue.{Lists, HaveOwnKeys, View, as_catalogue}
@@ -9,7 +11,7 @@ use Rattle.ebr_dml.specs.Steps.{AreKnown}
 use Rattle.ebr_database.specs.Storable.{AllStorable}
 use Rattle.ebr_exec.specs.Narrow.{AreNarrow}
 use Rattle.ebr_levels.specs.Keeps.{UnderChange}
-use Rattle.ebr_levels.specs.Levels.{IsTop, Leaves}
+use Rattle.ebr_levels.specs.Levels.{GoesBack, IsTop, Leaves}
 use Rattle.ebr_units.specs.Living.{AreCurrent, ForBooks}
 
 -- There are lists that the catalogue keeps, in which objects stand under their own keys, and the books are of what editions see of
@@ -45,3 +47,9 @@ pub record Remains (now : Catalogue) (t : TxId) (under : UnderChange) (views : L
   pub current : StayCurrent now views views'
   pub leaves : Leaves d t under d'
   pub storable : AllStorable d'
+
+-- What is as before where a statement gives up: of a query all data, and its keeper, which wasn't asked; of a change its transaction and
+-- all others, but for what autonomous transactions committed.
+abbrev pub IsAsBefore : {K : Type 0} → SqlTree → TxId → Data → Data → K → K → Type 0
+IsAsBefore (sql.Query q) t old new keeper keeper' = (new ≡ old) × (keeper' ≡ keeper)
+IsAsBefore s t old new keeper keeper' = GoesBack old t new

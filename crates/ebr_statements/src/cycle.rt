@@ -13,7 +13,7 @@ ghost use Rattle.ebr_dml.specs.declared.taken.Taken.{Taken};
 ghost use Rattle.ebr_exec.specs.Narrow.{IsNarrow};
 ghost use Rattle.ebr_exec.specs.Places.{Names, Place, Under as Changing, is_changing, names_of};
 ghost use Rattle.ebr_levels.specs.Keeps.{UnderChange};
-ghost use Rattle.ebr_levels.specs.Levels.{Leaves};
+ghost use Rattle.ebr_levels.specs.Levels.{GoesBack, Leaves};
 ghost use Rattle.ebr_machine.specs.Has.{new_row_of, standing_of_end};
 ghost use Rattle.ebr_run.specs.Run.{Seen};
 ghost use Rattle.ebr_tx.specs.Data.{own};
@@ -25,7 +25,7 @@ ghost use Rattle.ebr_bodies.specs.Bodies as bodies_spec;
 ghost use Rattle.ebr_bodies.specs.Rows as rows_spec;
 ghost use Rattle.ebr_bodies.specs.Statements as spec;
 ghost use Rattle.ebr_statements.specs.inside.Answered as said;
-ghost use Rattle.ebr_statements.specs.Fits.{Fits, Remains, ForViews};
+ghost use Rattle.ebr_statements.specs.Fits.{Fits, Remains, ForViews, IsAsBefore};
 ghost use Rattle.ebr_statements.specs.inside.Fits.{Covers, FitsOpen, HasTables, HaveTables, RemainsOpen, Spares, under_by};
 ghost use Rattle.ebr_statements.specs.inside.Held.{AreServed, IsServed, ready_of};
 ghost use Rattle.ebr_statements.specs.inside.Sites.{Ends, HasPassed, IsBegun, IsBetween, doing_at, site_at, work_at};
@@ -503,7 +503,7 @@ fn changed<K: Keep>(
     }
 }
 
-/// A change that has passed its tests of names. Where it is refused, its transaction is as before.
+/// A change that has passed its tests of names. Where it is refused or gives up, its transaction is as before.
 #[cycle(statement)]
 fn change<K: Keep>(
     alloc: Global,
@@ -526,6 +526,7 @@ fn change<K: Keep>(
         → Tells (spec.change_ran (spec.Stmt (names_of lists) site.now.levels) (names_of lists) (place_at v.now.edition origin site.now.t changing) s.now binds.now site.now.left room (base_of tx.old.contents (K.as_keeper keeper.old)))
         (base_of tx.new.contents (K.as_keeper keeper.new)) (K.as_keeper keeper.old) (K.as_keeper keeper.new) result) }
     ensures remains { (under : UnderChange) → Spares under site.now.t site.now.changing (spec.tables_of v.now s.now) → Remains c.now site.now.t under units.old tx.old.contents units.new tx.new.contents }
+    ensures as_before { OnErr result (GoesBack tx.old.contents site.now.t tx.new.contents) }
 {
     let mark = tx.mark(site.t)?;
     tx.begin(site.t);
@@ -574,6 +575,7 @@ fn tested<K: Keep>(
         Tells (spec.checked_ran (spec.Stmt (names_of lists) levels) (names_of lists) (place_at v.now.edition origin t changing.now) s.now binds.now left room (base_of tx.old.contents (K.as_keeper keeper.old)))
         (base_of tx.new.contents (K.as_keeper keeper.new)) (K.as_keeper keeper.old) (K.as_keeper keeper.new) result) }
     ensures remains { Remains c.now t (under_by changing.now) units.old tx.old.contents units.new tx.new.contents }
+    ensures as_before { OnErr result (IsAsBefore s.now t tx.old.contents tx.new.contents keeper.old keeper.new) }
 {
     match s {
         SqlTree::Query(query) => {
@@ -626,6 +628,7 @@ pub fn statement<K: Keep>(
         Tells (spec.Stmt (names_of lists) levels (place_at v.now.edition origin t changing.now) s.now binds.now left room (base_of tx.old.contents (K.as_keeper keeper.old)))
         (base_of tx.new.contents (K.as_keeper keeper.new)) (K.as_keeper keeper.old) (K.as_keeper keeper.new) result) }
     ensures remains { Remains c.now t (under_by changing.now) units.old tx.old.contents units.new tx.new.contents }
+    ensures as_before { OnErr result (IsAsBefore s.now t tx.old.contents tx.new.contents keeper.old keeper.new) }
 {
     if levels == 0 {
         return Ok(refused(alloc, Code::Ora(36)));

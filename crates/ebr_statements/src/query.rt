@@ -26,7 +26,7 @@ use ebr_tx::Transactions;
 use std::alloc::Global;
 
 /// A query, which has passed its checks. That of a session is EBR-0011 where there is no room for its rows; those of a body's aren't
-/// carried. Where it is refused, all is as before.
+/// carried. Where it is refused or finds no memory, all is as before.
 pub fn run_query(
     alloc: Global,
     tx: &mut Transactions,

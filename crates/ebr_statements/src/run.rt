@@ -1,12 +1,12 @@
 //! The statement of a session.
 
-ghost use Rattle.std.specs.Prelude.{◌≡◌, false};
+ghost use Rattle.std.specs.Prelude.{◌≡◌, false, OnErr};
 ghost use Rattle.ebr_ast.specs.Views.{IsInOrder};
 ghost use Rattle.ebr_database.specs.Shows.{Tells, base_of};
 ghost use Rattle.ebr_exec.specs.Places.{names_of, own_place};
 ghost use Rattle.ebr_bodies.specs.OtherWorlds.{IsApart};
 ghost use Rattle.ebr_bodies.specs.Statements as spec;
-ghost use Rattle.ebr_statements.specs.Fits.{Fits, ForViews, Remains};
+ghost use Rattle.ebr_statements.specs.Fits.{Fits, ForViews, IsAsBefore, Remains};
 
 use crate::cycle::statement;
 use ebr_asks::Answer;
@@ -22,13 +22,14 @@ use std::alloc::Global;
 const MOST_LEVELS: u32 = 50;
 
 /// A session's statement in its transaction, against what its edition sees. The bodies of its triggers may take `left` steps, and
-/// there is room for so much that a session carries.
+/// there is room for so much that a session carries. Where it gives up, its transaction is as it was before, and what autonomous
+/// transactions committed stays; a query then changes nothing, and asks nothing of the keeper.
 ///
 /// Editions are apart: over every second catalogue that agrees with this one for the statement, it answers the same, leaves the same
 /// data and makes the same records. The second one agrees where the session's edition sees the same in both, and where the questions
 /// which triggers fire, as far as this statement asked them, are answered alike, by triggers whose bodies run in the edition of the
-/// statement that fires them or in one that sees the same in both. How many bytes the records take is no matter, unless EBR-0042
-/// arises in one of the two.
+/// statement that fires them or in one that sees the same in both. It asks them for ORA-04098: where an earlier test refuses it, it
+/// has asked nothing. How many bytes the records take is no matter, unless EBR-0042 arises in one of the two.
 pub fn run_sql<K: Keep>(
     alloc: Global,
     world: &mut World<K, Units>,
@@ -49,6 +50,7 @@ pub fn run_sql<K: Keep>(
         IsApart (names_of c) 50 (own_place v.now.edition t) s.now binds.now left room (base_of world.old.tx.contents (K.as_keeper world.old.keeper)) result world.new.tx.contents) }
     ensures catalogue { world.new.catalogue ≡ world.old.catalogue }
     ensures remains { Remains world.old.catalogue t (λ u table. false) world.old.book world.old.tx.contents world.new.book world.new.tx.contents }
+    ensures as_before { OnErr result (IsAsBefore s.now t world.old.tx.contents world.new.tx.contents world.old.keeper world.new.keeper) }
 {
     let changing = List::new(alloc);
     statement(

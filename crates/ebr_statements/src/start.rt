@@ -13,7 +13,7 @@ ghost use Rattle.ebr_exec.specs.Places.{Under as Changing, is_table, names_of};
 ghost use Rattle.ebr_units.specs.Living.{AreCurrent, ForBooks};
 ghost use Rattle.ebr_bodies.specs.Ready as ready;
 ghost use Rattle.ebr_bodies.specs.Statements as spec;
-ghost use Rattle.ebr_statements.specs.inside.Held.{ServesAt, Starts};
+ghost use Rattle.ebr_statements.specs.inside.Held.{ServesAt, Starts, started_with};
 ghost use Rattle.ebr_statements.specs.inside.Fits.{HaveTables};
 ghost use Rattle.ebr_statements.specs.Fits.{ForViews, IsCurrent};
 ghost use Rattle.ebr_statements.specs.inside.Views.{place_at};
@@ -61,7 +61,7 @@ pub fn started(
     requires begun { is_some (own tx.now.contents t).begun ≡ true }
     requires known { AreKnown tx.now.contents v.now.tables }
     ensures started { ForViews c.now units.old v.now (λ lists. (changing : Sequence Changing)
-        → Starts (View lists) (ready.operation s.now) result (spec.started_with (names_of lists) (place_at v.now.edition origin t changing) s.now binds.now tx.now.contents)) }
+        → Starts (View lists) (ready.operation s.now) result (started_with (names_of lists) (place_at v.now.edition origin t changing) s.now binds.now tx.now.contents)) }
     ensures current { ForBooks c.now units.old (λ lists. AreCurrent lists units.new) }
     ensures before { IfOk result (λ it. HaveTables c.now it.work.before) }
     ensures after { IfOk result (λ it. HaveTables c.now it.work.after) }

@@ -5,17 +5,21 @@ use Rattle.ebr_base.specs.declared.code.Code.{Code}
 use Rattle.ebr_base.specs.declared.code.Stop.{Stop}
 use Rattle.ebr_base.specs.declared.code.Stop.TheVariants.{Raised, NoMemory}
 use Rattle.ebr_base.specs.declared.numbers.EditionNo.{EditionNo}
+use Rattle.ebr_base.specs.declared.value.Value.{Value}
 use Rattle.ebr_exprtree.specs.declared.op.Op.{Op}
 use Rattle.ebr_ast.specs.declared.kinds.Origin.{Origin}
+use Rattle.ebr_ast.specs.declared.sql.SqlTree.{SqlTree}
 use Rattle.ebr_ast.specs.declared.unit.UnitTree.{UnitTree}
 use Rattle.ebr_ast.specs.declared.view.EditionView.{EditionView}
 use Rattle.ebr_sqlcheck.specs.Checked.{on}
+use Rattle.ebr_tx.specs.Data.{Data}
+use Rattle.ebr_exec.specs.Places.{Names, Place}
 use Rattle.ebr_code.specs.Units.{unit_code}
 use Rattle.ebr_statements.specs.declared.ready.Ready.{Ready as Held}
 use Rattle.ebr_statements.specs.declared.start.Start.{Start as CodeStart}
 use Rattle.ebr_statements.specs.declared.start.Work.{Work as Triggers}
 use Rattle.ebr_bodies.specs.Ready.{Ready, ready_unit}
-use Rattle.ebr_bodies.specs.Statements.{Start}
+use Rattle.ebr_bodies.specs.Statements.{Start, rows_started, triggers_ready}
 
 abbrev pub ready_of : Held → Ready
 ready_of h = record { edition = h.edition; origin = h.origin; tree = h.object.tree; places = h.places }
@@ -59,6 +63,10 @@ abbrev pub ServesAt : (EditionNo → EditionView) → Op → Result Triggers Sto
 ServesAt view o (Ok w) before after = (b : List Ready) × (a : List Ready) × (before ≡ Ok b) × (after ≡ Ok a) × Serves view o w b a
 ServesAt view o (Err (Raised code)) before after = on (λ b. after) before ≡ Err code
 ServesAt view o (Err NoMemory) before after = Unit {0}
+
+-- a change with its rows and its triggers
+abbrev pub started_with : Names → Place → SqlTree → List Value → Data → Result Start Code
+started_with names p s binds d = on (triggers_ready names p s) (rows_started names p s binds d)
 
 -- a change that starts, or the code
 abbrev pub Starts : (EditionNo → EditionView) → Op → Result CodeStart Stop → Result Start Code → Type 0

@@ -1,4 +1,5 @@
 use Rattle.std.proofs.Common.{Ok}
+use Rattle.ebr_database.proofs.Keeping.{stays}
 use Rattle.ebr_statements.proofs.Within.{back_within, pop_within, rollback_within, savepoint_within, stays_back, stays_committed, stays_rolled_back, stays_saved}
 use Rattle.ebr_statements.proofs.asks.within.Goals as goal
 
@@ -22,6 +23,9 @@ returns-in-Ok-clause-exact g c =
 pub returns-in-Ok-clause-opened : goal.returns-in-Ok-clause-opened
 returns-in-Ok-clause-opened g c = λ under.
     stays_saved c.args.t c.args.top c.args.opened.now c.requires.some c.requires.top c.args.tx.now.contents c.set_savepoint.new.tx.contents under c.in-Savepoint.name (Ok tt) c.in-Ok.ensures.left
+
+pub returns-in-Err-clause-exact : goal.returns-in-Err-clause-exact
+returns-in-Err-clause-exact g c = stays (g.K.Keep.as_keeper c.args.keeper.now) _
 
 pub returns-in-BackTo-clause-exact : goal.returns-in-BackTo-clause-exact
 returns-in-BackTo-clause-exact g c =

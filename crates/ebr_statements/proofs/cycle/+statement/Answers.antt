@@ -1,6 +1,7 @@
 -- Statements, their rows and bodies: each call's answer is that of the definition, and what it leaves.
 use Rattle.std.proofs.Common.{◌≡◌, ◌∙◌, ◌<◌, ◌+◌, true, false, [], ◌∷◌, ◌++◌, Some, Err, refl, sym, ap, subst, arith}
-use Rattle.std.proofs.lemmas.Result.{err_from_is_err_and}
+use Rattle.std.specs.Prelude.{OnErr}
+use Rattle.std.proofs.lemmas.Result.{err_from_is_err_and, on_err_weaker}
 use Rattle.ebr_asks.specs.declared.ask.Ask.TheVariants as ask
 use Rattle.ebr_ast.specs.Views.{IsInOrder}
 use Rattle.ebr_ast.specs.declared.sql.SqlTree.TheVariants as sql
@@ -14,21 +15,22 @@ use Rattle.ebr_database.proofs.Keeping.{stays}
 use Rattle.ebr_exec.specs.Narrow.{AreNarrow, IsNarrow}
 use Rattle.ebr_exec.specs.Places.{names_of}
 use Rattle.ebr_seats.specs.Ends.{closed_from_top}
-use Rattle.ebr_levels.proofs.LeavesLemmas.{leaves_live, leaves_mark}
+use Rattle.ebr_levels.specs.Levels.{GoesBack}
+use Rattle.ebr_levels.proofs.LeavesLemmas.{goes_back_same, leaves_live, leaves_mark}
 use Rattle.ebr_levels.proofs.TopLemmas.{top_live}
 use Rattle.ebr_units.specs.Served.{served}
 use Rattle.ebr_bodies.specs.Bodies.{body, run_of, serve}
 use Rattle.ebr_bodies.specs.Statements.{Stmt, checked_ran, tables_of, under}
 use Rattle.ebr_statements.specs.declared.course.Course.{Course}
 use Rattle.ebr_statements.specs.declared.site.Site.{Site as Standpoint}
-use Rattle.ebr_statements.specs.Fits.{Fits}
+use Rattle.ebr_statements.specs.Fits.{Fits, IsAsBefore}
 use Rattle.ebr_statements.specs.inside.Fits.{HasTables, HaveTables, Spares, under_by}
 use Rattle.ebr_statements.specs.inside.Held.{AreServed, IsServed, ready_of}
 use Rattle.ebr_statements.specs.inside.Sites.{doing_at, site_at, work_at}
 use Rattle.ebr_statements.specs.inside.Views.{place_at}
 use Rattle.ebr_statements.proofs.Asking.{ask_goes_on, ask_halts, begins_with, body_finishes, run_ends, seen_book, serves_statement}
-use Rattle.ebr_statements.proofs.Ending.{change_begins, change_done, change_fails, change_refused_first, change_tells, passes, query_answers, query_refuses, refuses, site_covers, site_remains, too_deep_as}
-use Rattle.ebr_statements.proofs.Fitting.{asked_remains, back_remains, begins_remains, can_go_on, closes, fits_then, left_remains, made_remains, open_is_top, open_then, open_top, opens, remains_open_same, remains_open_then, remains_same, remains_then, so_many, spared, step_remains, this_one, top_fits, top_remains}
+use Rattle.ebr_statements.proofs.Ending.{change_done, change_fails, change_refused_first, change_shows, change_tells, passes, query_answers, query_refuses, refuses, site_covers, site_remains, too_deep_as}
+use Rattle.ebr_statements.proofs.Fitting.{asked_remains, back_remains, begins_remains, can_go_on, change_as_before, changed_back, closes, fits_then, left_remains, made_remains, nothing_done, open_is_top, open_then, open_top, opens, query_as_before, remains_open_same, remains_open_then, remains_same, remains_then, so_many, spared, step_remains, this_one, top_fits, top_remains, whatever_answer}
 use Rattle.ebr_statements.proofs.Naming.{no_table, spares_none, spares_one}
 use Rattle.ebr_statements.proofs.Rowing.{as_many, begins_row, can_still, is_between, next_row, no_more, now_between, row_after_fails, row_before_fails, row_passes, rows_begin, rows_done, rows_stepped, rows_triggered, same_plan, same_tx_now, step_fails, whatever, write_fails, write_goes_on, write_not_before, write_passes}
 use Rattle.ebr_statements.proofs.Stepping.{step_same}
@@ -326,8 +328,9 @@ changed-rows-requires g t c =
 pub changed-returns-in-Ok-clause-exact : goal.changed-returns-in-Ok-clause-exact
 changed-returns-in-Ok-clause-exact g t c = λ lists keys current is seen changing split.
     let h = c.in-Ok.ensures.started lists keys current is seen changing in
-    subst (λ o. Shows o (doing_at c.rows.new.tx.contents (g.K.Keep.as_keeper c.rows.new.keeper) c.rows.new.tally) (g.K.Keep.as_keeper c.args.keeper.now) (g.K.Keep.as_keeper c.rows.new.keeper) c.rows.result)
-    (sym (change_begins lists c.args.v.now c.args.origin c.args.site.now changing c.args.s.now c.args.binds.now seen split c.args.tx.now.contents (g.K.Keep.as_keeper c.args.keeper.now) c.args.tally.now c.in-Ok.begun h)) (c.rows.ensures.exact lists keys (c.started.ensures.current lists keys current is) is h.3.before_served h.3.after_served)
+    change_shows lists c.args.v.now c.args.origin c.args.site.now changing c.args.s.now c.args.binds.now seen split c.args.tx.now.contents (g.K.Keep.as_keeper c.args.keeper.now) c.args.tally.now c.in-Ok.begun h
+    (doing_at c.rows.new.tx.contents (g.K.Keep.as_keeper c.rows.new.keeper) c.rows.new.tally) (g.K.Keep.as_keeper c.rows.new.keeper) c.rows.result
+    (c.rows.ensures.exact lists keys (c.started.ensures.current lists keys current is) is h.3.before_served h.3.after_served)
 
 pub changed-returns-in-Ok-clause-remains : goal.changed-returns-in-Ok-clause-remains
 changed-returns-in-Ok-clause-remains g t c = λ under spares.
@@ -380,6 +383,14 @@ pub change-returns-in-Err-clause-remains : goal.change-returns-in-Err-clause-rem
 change-returns-in-Err-clause-remains g t c = λ under spares.
     back_remains c.args.c.now c.args.site.now.t under c.args.units.now c.changed.new.units c.args.tx.now.contents c.changed.new.tx.contents c.back_to_mark.new.self.contents c.in_ok-mark.mark c.requires.fit.top (remains_then c.args.c.now c.args.site.now.t under c.args.units.now c.args.units.now c.changed.new.units c.args.tx.now.contents c.begin.new.self.contents c.changed.new.tx.contents (begins_remains c.args.c.now c.args.site.now.t under c.args.units.now c.args.tx.now.contents c.begin.new.self.contents c.requires.fit c.begin.ensures.contents) (c.changed.ensures.remains under spares)) c.in_ok-mark.ensures.mark c.back_to_mark.ensures.contents
 
+pub change-returns-in_err-mark-clause-as_before : goal.change-returns-in_err-mark-clause-as_before
+change-returns-in_err-mark-clause-as_before g t c = whatever_answer c.from_residual.result (goes_back_same c.args.tx.now.contents c.args.site.now.t)
+
+pub change-returns-in-Err-clause-as_before : goal.change-returns-in-Err-clause-as_before
+change-returns-in-Err-clause-as_before g t c =
+    whatever_answer c.refused_change.result
+    (changed_back c.args.c.now c.args.site.now.t no_table c.args.units.now c.changed.new.units c.args.tx.now.contents c.changed.new.tx.contents c.back_to_mark.new.self.contents c.in_ok-mark.mark c.requires.fit.top (remains_then c.args.c.now c.args.site.now.t no_table c.args.units.now c.args.units.now c.changed.new.units c.args.tx.now.contents c.begin.new.self.contents c.changed.new.tx.contents (begins_remains c.args.c.now c.args.site.now.t no_table c.args.units.now c.args.tx.now.contents c.begin.new.self.contents c.requires.fit c.begin.ensures.contents) (c.changed.ensures.remains no_table (spares_none _ _ _))) c.in_ok-mark.ensures.mark c.back_to_mark.ensures.contents)
+
 -- ---- tested
 
 pub tested-run_query-ran-requires-clause-live : goal.tested-run_query-ran-requires-clause-live
@@ -406,6 +417,15 @@ tested-returns-in_err-site-in_default-clause-exact g t c = let p = err_from_is_e
 pub tested-returns-in_err-site-in_default-clause-remains : goal.tested-returns-in_err-site-in_default-clause-remains
 tested-returns-in_err-site-in_default-clause-remains g t c = remains_same c.args.c.now c.args.t (under_by c.args.changing.now) c.args.units.now c.args.tx.now.contents c.requires.fit.fit.storable
 
+pub tested-returns-in-Err-clause-as_before : goal.tested-returns-in-Err-clause-as_before
+tested-returns-in-Err-clause-as_before g t c =
+    let place = place_at c.args.v.now.edition c.args.origin c.args.t c.args.changing.now in
+    let same = query_as_before c.in-Err.stop c.args.tx.now.contents c.run_query-ran.new.tx.contents _ (c.in-Err.ensures.answer place (sym c.as_slice.ensures)) in
+    whatever_answer c.refusal.result (subst (λ s. IsAsBefore s c.args.t c.args.tx.now.contents c.run_query-ran.new.tx.contents c.args.keeper.now c.args.keeper.now) (sym (c.in-Query.is ∙ ap (λ q. sql.Query q) (sym c.get.ensures))) (same, refl))
+
+pub tested-returns-in_err-site-in_default-clause-as_before : goal.tested-returns-in_err-site-in_default-clause-as_before
+tested-returns-in_err-site-in_default-clause-as_before g t c = whatever_answer c.from_residual.result (nothing_done c.args.keeper.now c.args.s.now c.args.t c.args.tx.now.contents)
+
 pub tested-change-requires : goal.tested-change-requires
 tested-change-requires g t c =
     let fit = subst (λ (w : Standpoint). Fits c.args.c.now c.args.units.now c.args.tx.now.contents w.t) (sym c.in_ok-site-in_default.ensures) c.requires.fit in
@@ -420,6 +440,11 @@ tested-returns-in_ok-site-in_default-clause-exact g t c = λ lists keys current 
 
 pub tested-returns-in_ok-site-in_default-clause-remains : goal.tested-returns-in_ok-site-in_default-clause-remains
 tested-returns-in_ok-site-in_default-clause-remains g t c = site_remains c.args.t c.args.changing.now c.args.tables.now (tables_of c.args.v.now c.args.s.now) c.args.left c.args.levels c.in_ok-site-in_default.site c.in_ok-site-in_default.ensures c.requires.tables c.args.c.now c.args.units.now c.change.new.units c.args.tx.now.contents c.change.new.tx.contents c.requires.free c.change.ensures.remains
+
+pub tested-returns-in_ok-site-in_default-clause-as_before : goal.tested-returns-in_ok-site-in_default-clause-as_before
+tested-returns-in_ok-site-in_default-clause-as_before g t c =
+    let on_site = subst (λ (w : Standpoint). OnErr c.change.result (GoesBack c.args.tx.now.contents w.t c.change.new.tx.contents)) c.in_ok-site-in_default.ensures c.change.ensures.as_before in
+    on_err_weaker c.change.result (change_as_before c.args.keeper.now c.change.new.keeper c.args.s.now c.args.t c.args.tx.now.contents c.change.new.tx.contents c.in_default.not-Query) on_site
 
 -- ---- statement
 
@@ -441,3 +466,6 @@ statement-returns-then-levels-eq0-clause-remains g t c = remains_same c.args.c.n
 
 pub statement-returns-in-Err-clause-remains : goal.statement-returns-in-Err-clause-remains
 statement-returns-in-Err-clause-remains g t c = remains_same c.args.c.now c.args.t (under_by c.args.changing.now) c.args.units.now c.args.tx.now.contents c.requires.fit.fit.storable
+
+pub statement-returns-in-Err-clause-as_before : goal.statement-returns-in-Err-clause-as_before
+statement-returns-in-Err-clause-as_before g t c = whatever_answer c.refusal.result (nothing_done c.args.keeper.now c.args.s.now c.args.t c.args.tx.now.contents)
