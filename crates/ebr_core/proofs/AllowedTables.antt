@@ -26,7 +26,7 @@ use Rattle.ebr_ast.specs.declared.view.Object.{Object}
 use Rattle.ebr_editions.specs.Editions.{create_answer, drop_answer}
 use Rattle.ebr_tables.specs.Definitions.{has_repetition}
 use Rattle.ebr_tables.specs.Definitions as tables
-use Rattle.ebr_tables.specs.Tables.{AllTables, IsTable, IdsAscend, no_tables, same_table_name, unless_refused, add_refusal, add_answer, remove_answer, next_id, kept_as, widened, with_column, without_table}
+use Rattle.ebr_tables.specs.Tables.{AllTables, IdsAscend, IsTable, add_answer, add_refusal, has_id, kept_as, next_id, no_tables, remove_answer, same_table_name, unless_refused, widened, with_column, with_definition, without_table}
 use Rattle.ebr_tables.proofs.Names.{has, none-any, others-none, map-none, distinct-filter, distinct-map, once-push, ascend-filter, ascend-map, ascend-push}
 use Rattle.ebr_tables.proofs.Allowed.{kept-is, widened-is}
 use Rattle.ebr_columns.specs.Columns.{column_type, column_of, is_bad_table, table_of}
@@ -36,7 +36,7 @@ use Rattle.ebr_cross.specs.declared.record.CatalogueRecord.TheVariants as made
 use Rattle.ebr_cross.specs.Catalogue.{Lists, visible, table_in}
 use Rattle.ebr_cross.specs.Definitions as spec
 use Rattle.ebr_cross.specs.Kinds.{kind_of, name_of, key_of}
-use Rattle.ebr_cross.specs.Records.{has_id, table_name, with_definition, with_record}
+use Rattle.ebr_cross.specs.Records.{table_name, with_record}
 use Rattle.ebr_exec.specs.Narrow.{AreNarrow, IsNarrow}
 use Rattle.ebr_core.specs.inside.Tables.{AreAllowed}
 use Rattle.ebr_core.proofs.ReadsBack.{recorded, unless, chosen}
@@ -89,7 +89,7 @@ above name a made (u ∷ ts) t h e = by (bytes_eq name u.name) (above name u.id.
 own_id : (n : ℕ) → (n == n) ≡ true
 own_id n = grind (arith, nat_tests)
 
-other_id : (n m : ℕ) → m < n → (n == m) ≡ false
+other_id : (n m : ℕ) → m < n → (m == n) ≡ false
 other_id n m h = grind (arith, nat_tests)
 
 abbrev name_found : Option TableDef → List ℕ

@@ -1,7 +1,8 @@
 -- The promise of an answer that editions are apart, from what it leaves.
-use Rattle.std.proofs.Common.{◌≡◌, Bool, true, false, [], ◌∷◌, ◌++◌, refl, sym, ap, subst, ◌∙◌}
+use Rattle.std.proofs.Common.{◌≡◌, Bool, true, false, List, [], ◌∷◌, ◌++◌, length, refl, sym, ap, subst, ◌∙◌}
 use Rattle.std.specs.Prelude.{Option, Some, None}
 use Rattle.ebr_base.specs.declared.numbers.SessionId.{SessionId}
+use Rattle.ebr_ast.specs.declared.view.EditionView.{EditionView}
 use Rattle.ebr_asks.specs.declared.ask.Ask.{Ask}
 use Rattle.ebr_asks.specs.declared.answer.Answer.{Answer}
 use Rattle.ebr_asks.specs.declared.answer.Answer.TheVariants as answer
@@ -12,6 +13,7 @@ use Rattle.ebr_core.specs.Apart.{EndsAlike, IsAnsweredApart, IsApart}
 use Rattle.ebr_core.specs.Engine.{AnswersAsk, EngineState, Gives, database_of, entry_of, first_of, has_given_up}
 use Rattle.ebr_core.specs.History.{After, edition_of, next}
 use Rattle.ebr_core.specs.Machine.{Build, Reply}
+use Rattle.ebr_core.proofs.Books.{as_many}
 use Rattle.ebr_core.proofs.Histories.{After-append}
 use Rattle.ebr_core.proofs.ReplyApart.{reply_alike}
 
@@ -27,16 +29,16 @@ replied_apart db s q a now answer left e other edition differ agree never never'
 
 module _ {K : Type 0} (as_keeper : K → Keeper) (old new : EngineState K) (s : SessionId) (q : Ask) where
   -- the database behind one more entry
-  behind : (x : Entry) → new.history ≡ old.history ++ x ∷ [] → new.sessions ≡ old.sessions → database_of new ≡ next (database_of old) x
-  behind x entry sessions = ap (λ n. After (Build [] n) new.history) sessions ∙ ap (After (first_of old)) entry ∙ After-append (first_of old) old.history x
+  behind : (x : Entry) → new.history ≡ old.history ++ x ∷ [] → new.recovered ≡ old.recovered → length new.books ≡ length old.books → database_of new ≡ next (database_of old) x
+  behind x entry recovered books = (λ i. After (Build (recovered i) (books i)) new.history) ∙ ap (After (first_of old)) entry ∙ After-append (first_of old) old.history x
 
-  by_answer : (given_up : Bool) (a : Answer) → new.history ≡ old.history ++ entry_of s q a ∷ [] → new.sessions ≡ old.sessions → Gives as_keeper given_up old.keeper new.keeper a (Reply (database_of old) s q)
+  by_answer : (given_up : Bool) (a : Answer) → new.history ≡ old.history ++ entry_of s q a ∷ [] → new.recovered ≡ old.recovered → length new.books ≡ length old.books → Gives as_keeper given_up old.keeper new.keeper a (Reply (database_of old) s q)
       → IsApart (database_of old) s q a (database_of new)
-  by_answer true a entry sessions g = subst (λ y. IsApart (database_of old) s q y (database_of new)) (sym g.0) tt
-  by_answer false answer.DiskFault entry sessions g = tt
-  by_answer false answer.NoMemory entry sessions g = tt
-  by_answer false answer.Stopped entry sessions g = absurd g
-  by_answer false a entry sessions g = replied_apart (database_of old) s q a (database_of new) g.0 (behind (entry_of s q a) entry sessions)
+  by_answer true a entry recovered books g = subst (λ y. IsApart (database_of old) s q y (database_of new)) (sym g.0) tt
+  by_answer false answer.DiskFault entry recovered books g = tt
+  by_answer false answer.NoMemory entry recovered books g = tt
+  by_answer false answer.Stopped entry recovered books g = absurd g
+  by_answer false a entry recovered books g = replied_apart (database_of old) s q a (database_of new) g.0 (behind (entry_of s q a) entry recovered books)
 
   pub answer_apart : (a : Answer) → AnswersAsk as_keeper old new s q a → IsApart (database_of old) s q a (database_of new)
-  answer_apart a h = by_answer (has_given_up old.history) a h.entry h.sessions h.gives
+  answer_apart a h = by_answer (has_given_up old.history) a h.entry h.recovered (ap (λ (bs : List (Option EditionView)). length bs) h.books ∙ as_many old.books s.0 h.book) h.gives

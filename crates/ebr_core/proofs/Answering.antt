@@ -1,6 +1,7 @@
 -- What an answer leaves of the engine's parts.
-use Rattle.std.proofs.Common.{◌≡◌, ◌≢◌, ℕ, zero, suc, ◌-◌, ◌+◌, ◌<◌, ◌≤◌, Bool, true, false, List, [], ◌∷◌, ◌++◌, length, refl, sym, ap, subst, ◌∙◌, append-nil, arith}
-use Rattle.std.specs.Prelude.{◌↔◌, IsTrue, Option, Some, None, IsSome, is_some, Result, Ok, Err, slice_set, vec_len, vec_capacity}
+use Rattle.std.proofs.Common.{◌≡◌, ◌≢◌, ◌-◌, ◌+◌, ◌<◌, ◌≤◌, Bool, true, false, List, [], ◌∷◌, ◌++◌, length, refl, sym, ap, subst, ◌∙◌, append-nil, Vec, Global, arith}
+use Rattle.std.proofs.lemmas.Result.{err_from_is_err_and}
+use Rattle.std.specs.Prelude.{◌↔◌, IsErrAnd, IsTrue, Option, Some, None, IsSome, is_some, Result, Ok, Err, slice_set, vec_len, vec_capacity}
 use Rattle.ebr_base.specs.declared.numbers.EditionNo.{EditionNo}
 use Rattle.ebr_base.specs.declared.numbers.SessionId.{SessionId}
 use Rattle.ebr_ast.specs.declared.view.EditionView.{EditionView}
@@ -11,19 +12,20 @@ use Rattle.ebr_asks.specs.declared.answer.Answer.TheVariants as answer
 use Rattle.ebr_asks.specs.declared.entry.Entry.{Entry}
 use Rattle.ebr_laws.specs.Served.{HasCodeOf}
 use Rattle.ebr_record.specs.Keeper.{Keeper}
-use Rattle.ebr_record.specs.declared.record.Record.{Record}
 use Rattle.ebr_database.specs.declared.failure.Halt.{Halt}
 use Rattle.ebr_database.specs.declared.failure.Halt.TheVariants as why
 use Rattle.ebr_database.specs.Database.{Session, Database, Replied, session_at}
 use Rattle.ebr_database.specs.Shows.{Grew, GaveUp}
+use Rattle.ebr_database.proofs.Keeping.{kept_stops, stays}
 use Rattle.ebr_units.specs.Served.{served}
 use Rattle.ebr_core.specs.declared.current.Current.{Current}
 use Rattle.ebr_core.specs.declared.parts.Parts.{Parts}
 use Rattle.ebr_core.specs.Machine.{Build, Reply}
 use Rattle.ebr_core.specs.History.{After, AllStopped, IsLive, Legal, edition_of, next, session_edition}
-use Rattle.ebr_core.specs.Engine.{AnswersAsk, Gives, HasBook, HasLegalHistory, IsAnswer, database_of, entry_of, has_given_up, is_last, with_book}
+use Rattle.ebr_core.specs.Engine.{AnswersAsk, Gives, HasBook, HasLegalHistory, IsAnswer, database_of, entry_of, has_given_up, is_last}
 use Rattle.ebr_core.specs.inside.Held.{ComesWith, Holds, IsHeld, IsReplied}
 use Rattle.ebr_core.specs.inside.Parts.{Adds, Copies, GivesUp, Tries, HasRoom, HasStopped, IsSound, Keeps, Runs, Stands, database, entry, first, last_answer, live_count, lives, lives_at, state_of}
+use Rattle.ebr_core.proofs.Books.{length_set, placed}
 use Rattle.ebr_core.proofs.Lives.{Replies, Suits, at_there, count_most, lives_is, lives_left, one_left, other_lives, reply_suits, within}
 use Rattle.ebr_core.proofs.Histories.{After-append, gives_up, given_up_before, given_up_now, goes_on, is_stopped, never_given_up}
 
@@ -45,20 +47,6 @@ live_session db s live = by (session_at db.sessions s.0) refl live
     by : (o : Option Session) → session_at db.sessions s.0 ≡ o → IsSome (edition_of o) → LiveSession db s
     by None is some = cc
     by (Some x) is some = in_edition x x.edition is refl some
-
--- ---- lists
-
-length_set : {X : Type 0} (xs : List X) (n : ℕ) (y : X) → length (slice_set xs n y) ≡ length xs
-length_set [] n y = refl
-length_set (x ∷ xs) zero y = refl
-length_set (x ∷ xs) (suc n) y = ap suc (length_set xs n y)
-
-pub placed : (books : List (Option EditionView)) (n : ℕ) (book : Option EditionView) → 1 ≤ n → slice_set books (n - 1) book ≡ with_book books n book
-placed books zero book low = absurd (omega (arith, low))
-placed books (suc n) book low = ap (λ k. slice_set books k book) (less n)
-  where
-    less : (k : ℕ) → suc k - 1 ≡ k
-    less k = omega arith
 
 -- ---- answers
 
@@ -88,7 +76,7 @@ is_answer ask answer.Stopped r old new h same grew = absurd h
 is_answer ask a r old new h same grew = (same, grew)
 
 with_code : (v : EditionView) → HasCodeOf v (served v)
-with_code v = record { unit = λ key. refl; stamp = λ key. refl }
+with_code v = record { unit = λ key. refl; stamp = λ key. refl; objects = refl }
 
 has_book : (ask : Ask) (a : Answer) (book : Option EditionView) → Replies ask a → ComesWith ask a book → HasBook a book
 has_book Begin (answer.View v) book h comes = (comes.0, comes.1, with_code v)
@@ -120,14 +108,18 @@ is_last_answer why.Stopped r old new goes g = absurd (differ (sym goes ∙ g.cau
     differ e = cc
 is_last_answer why.NoMemory r old new goes g = g
 
-pub wanted : (old new : Keeper) (made : List Record) → Grew old new made → GaveUp old new made why.NoMemory
-wanted old new made g = record { faults = g.faults; moment = g.moment; holds = g.holds; cause = tt }
-
 module _ {K : Type 0} (as_keeper : K → Keeper) where
   -- a reply with a copy of its answer, or without memory for one
   pub tried : (old new : Current K) (given : Answer × Option EditionView) (result : Result ((Answer × Option EditionView) × Answer) Halt) (r : Replied) → IsReplied as_keeper old new given.0 r → Copies given result → Tries as_keeper old new result r
   tried old new given (Ok pair) r h c = (subst (λ (g : Answer × Option EditionView). IsReplied as_keeper old new g.0 r) (sym c.0) h, c.1 ∙ ap (λ (g : Answer × Option EditionView). g.0) (sym c.0))
-  tried old new given (Err why) r h c = subst (GaveUp (as_keeper old.world.keeper) (as_keeper new.world.keeper) r.records) (sym c) (wanted (as_keeper old.world.keeper) (as_keeper new.world.keeper) r.records h.grew)
+  tried old new given (Err why) r h c = subst (GaveUp (as_keeper old.world.keeper) (as_keeper new.world.keeper) r.records) (sym c) (kept_stops (as_keeper old.world.keeper) (as_keeper new.world.keeper) r.records h.grew)
+
+  -- there was no room for an entry
+  pub not_tried : (old new : Current K) (r : Replied) → new ≡ old → (result : Result ((Answer × Option EditionView) × Answer) Halt) → IsErrAnd result (λ w. w ≡ why.NoMemory) → Tries as_keeper old new result r
+  not_tried old new r same result none =
+      let p = err_from_is_err_and result none in
+      subst (λ x. Tries as_keeper old new x r) (sym (p.1 ∙ ap (λ w. Err w) p.2))
+      (subst (λ (c : Current K). GaveUp (as_keeper old.world.keeper) (as_keeper c.world.keeper) r.records why.NoMemory) (sym same) (stays (as_keeper old.world.keeper) r.records))
 
   -- the history is legal at any time
   pub legal_now : (p : Parts K) → IsSound as_keeper p → HasLegalHistory (state_of as_keeper p)
@@ -136,6 +128,31 @@ module _ {K : Type 0} (as_keeper : K → Keeper) where
       by : (b : Bool) → Stands as_keeper b p → HasLegalHistory (state_of as_keeper p)
       by false r = subst (Legal (first as_keeper p)) (append-nil p.history.items) (r.legal [] tt)
       by true r = subst (Legal (first as_keeper p)) (append-nil p.history.items) (r.legal [] tt)
+
+  -- a book was set aside, or taken
+  pub sound_on : (p : Parts K) (books : Vec (Option EditionView) Global) → length books.items ≡ length p.books.items → IsSound as_keeper p → IsSound as_keeper (record p { books = books })
+  sound_on p books same h = record {
+    living = subst (λ n. p.living.items ≡ lives (After (Build [] n) p.history.items)) (sym same) h.living;
+    books = same ∙ h.books;
+    stopped = h.stopped;
+    stands = by p.stopped h.stands;
+  }
+    where
+      by : (b : Bool) → Stands as_keeper b p → Stands as_keeper b (record p { books = books })
+      by false r = record {
+        legal = subst (λ n. (more : List Entry) → Legal (After (Build [] n) p.history.items) more → Legal (Build [] n) (p.history.items ++ more)) (sym same) r.legal;
+        holds = subst (λ n. Holds as_keeper p.current (After (Build [] n) p.history.items)) (sym same) r.holds;
+        goes = r.goes;
+        room = r.room;
+      }
+      by true r = record {
+        legal = subst (λ n. (more : List Entry) → AllStopped (After (Build [] n) p.history.items) more → Legal (Build [] n) (p.history.items ++ more)) (sym same) r.legal;
+        room = r.room;
+      }
+
+  -- a session that lives is one of those that have books
+  pub in_range : (p : Parts K) (s : SessionId) (b : Bool) → IsSound as_keeper p → b ≡ lives_at p.living.items s.0 → IsTrue b → (1 ≤ s.0) × (s.0 ≤ length p.books.items)
+  in_range p s b h is there = let w = within p.living.items s.0 (sym is ∙ there) in (w.0, subst (λ n. s.0 ≤ n) (sym h.books) w.1)
 
   pub live_is : (p : Parts K) (s : SessionId) (b : Bool) → IsSound as_keeper p → b ≡ lives_at p.living.items s.0 → IsTrue b ↔ IsLive (database_of (state_of as_keeper p)) s
   live_is p s b h is =
@@ -186,16 +203,19 @@ module _ {K : Type 0} (as_keeper : K → Keeper) where
       same_len : length new.living.items ≡ length old.living.items
       same_len = ap (λ (bs : List Bool). length bs) a.living_is ∙ len
 
+      as_many_books : length new.books.items ≡ length old.books.items
+      as_many_books = ap (λ (bs : List (Option EditionView)). length bs) a.books ∙ length_set old.books.items (s.0 - 1) book
+
       after : database as_keeper new ≡ next db x
-      after = ap (λ n. After (Build [] n) new.history.items) same_len ∙ ap (After (first as_keeper old)) a.entry ∙ After-append (first as_keeper old) old.history.items x
+      after = ap (λ n. After (Build [] n) new.history.items) as_many_books ∙ ap (After (first as_keeper old)) a.entry ∙ After-append (first as_keeper old) old.history.items x
 
       books_len : length new.books.items ≡ length new.living.items
-      books_len = ap (λ (bs : List (Option EditionView)). length bs) a.books ∙ length_set old.books.items (s.0 - 1) book ∙ h.books ∙ sym same_len
+      books_len = as_many_books ∙ h.books ∙ sym same_len
 
       legal_on : (P : Database → List Entry → Type 0) → ((more : List Entry) → P (next db x) more → Legal (first as_keeper old) ((old.history.items ++ x ∷ []) ++ more))
           → (more : List Entry) → P (database as_keeper new) more → Legal (first as_keeper new) (new.history.items ++ more)
       legal_on P f more p =
-          subst (λ n. Legal (Build [] n) (new.history.items ++ more)) (sym same_len)
+          subst (λ n. Legal (Build [] n) (new.history.items ++ more)) (sym as_many_books)
           (subst (λ es. Legal (first as_keeper old) (es ++ more)) (sym a.entry) (f more (subst (λ d. P d more) after p)))
 
       whole : (P : Database → List Entry → Type 0) → ((more : List Entry) → P (database as_keeper new) more → Legal (first as_keeper new) (new.history.items ++ more)) → P (database as_keeper new) [] → HasLegalHistory (state_of as_keeper new)
@@ -215,7 +235,7 @@ module _ {K : Type 0} (as_keeper : K → Keeper) where
       answers_by ask y same sound others stays legal has leaves gives = record {
         entry = a.entry ∙ ap (λ e. old.history.items ++ e ∷ []) same;
         legal = legal;
-        sessions = same_len;
+        recovered = refl;
         book = book;
         books = a.books ∙ placed old.books.items s.0 book first_place;
         has_book = has;

@@ -1,6 +1,7 @@
 -- A definition is carried out over the database that the engine holds.
 use Rattle.std.proofs.Common.{◌≡◌, ℕ, zero, suc, ◌+◌, Bool, true, false, List, [], ◌∷◌, ◌++◌, refl, sym, ap, subst, ◌∙◌, append-nil, arith}
-use Rattle.std.specs.Prelude.{Option, Some, None, IfSome, Result, Ok, Err, OnOk, slice_get, slice_set, ◌-◌, ◌&&◌, sum_by, if◌then◌else◌}
+use Rattle.std.proofs.lemmas.Result.{err_from_is_err_and}
+use Rattle.std.specs.Prelude.{Option, Some, None, IfSome, IsErrAnd, Result, Ok, Err, OnOk, slice_get, slice_set, ◌-◌, ◌&&◌, sum_by, if◌then◌else◌}
 use Rattle.std.specs.List.{filter_map, cons_option}
 use Rattle.ebr_base.specs.declared.code.Code.{Code}
 use Rattle.ebr_base.specs.declared.code.Code.TheVariants.{Ora}
@@ -29,7 +30,7 @@ use Rattle.ebr_database.specs.Storable.{AllStorable}
 use Rattle.ebr_database.specs.Transact.{commit}
 use Rattle.ebr_database.specs.Database.{Session, Database, Replied, data_of, base_in, session_at, at_end, own_on_top, on_top, reply_commit}
 use Rattle.ebr_database.specs.Database.{is_done as done_by}
-use Rattle.ebr_database.proofs.Keeping.{grew_grew, grew_gave_up, gave_up_more, kept_stops, grew_same}
+use Rattle.ebr_database.proofs.Keeping.{grew_grew, grew_gave_up, gave_up_more, kept_stops, grew_same, stays}
 use Rattle.ebr_seats.specs.declared.seat.Seat.{Seat}
 use Rattle.ebr_seats.specs.Ends.{own_of}
 use Rattle.ebr_seats.proofs.Seated.{at, at_here}
@@ -39,13 +40,14 @@ use Rattle.ebr_levels.proofs.ReplyLemmas.{early_records}
 use Rattle.ebr_core.specs.declared.current.Current.{Current}
 use Rattle.ebr_core.specs.Machine.{lists_of, editions_in_use, recorded, defined_by, definition_answer, behind, then_reply, answer_in, defined, is_held, table_changed}
 use Rattle.ebr_core.specs.Records.{record_of}
-use Rattle.ebr_core.specs.inside.Defined.{Defines, IsNew, with_definition_of}
-use Rattle.ebr_core.specs.inside.Defining.{Applied, Carries, HoldsSome, AnswersIn, IsMade, IsRefused, KeepsOutcome, MakesNew, Recorded}
+use Rattle.ebr_core.specs.inside.Defined.{Defines, with_definition_of}
+use Rattle.ebr_core.specs.inside.Defining.{Applied, Carries, HoldsSome, AnswersIn, IsKept, IsMade, IsRefused, KeepsPlanned, NotKept, Recorded}
 use Rattle.ebr_core.specs.Asked.{IsTextOf}
 use Rattle.ebr_core.specs.inside.Held.{Holds, HasSession, IsReplied, Replies}
 use Rattle.ebr_core.specs.inside.Tables.{with_table_of}
 use Rattle.ebr_core.proofs.HeldAgain.{holds_on}
 use Rattle.ebr_core.proofs.MadeRecords.{defines}
+use Rattle.ebr_core.proofs.Recording.{not_planned}
 
 -- ---- the editions in use
 
@@ -118,77 +120,77 @@ seated_on r db used used' d d' seats made h grown is = record {
 
 -- ---- what a definition leaves
 
-abbrev may_be : CatalogueRecord → Result CatalogueRecord Code
-may_be r = Ok r
-
-same_made : (x y : CatalogueRecord) → may_be x ≡ may_be y → x ≡ y
-same_made x y e = cc
+-- the same but for the keeper
+abbrev pub with_keeper : {K : Type 0} → Current K → K → Current K
+with_keeper now k = record now { world = record now.world { keeper = k } }
 
 module _ {K : Type 0} (as_keeper : K → Keeper) where
-  -- the same but for the keeper
-  abbrev with_keeper : Current K → K → Current K
-  with_keeper now k = record now { world = record now.world { keeper = k } }
+  held_on : (now : Current K) (k : K) (db : Database) → Holds as_keeper now db → Grew (as_keeper now.world.keeper) (as_keeper k) [] → Holds as_keeper (with_keeper now k) db
+  held_on now k db h grew = holds_on as_keeper now (with_keeper now k) db h refl refl refl db refl h.reached h.early (record {
+    data_is = h.seated.data_is;
+    used_is = omega (arith, grew.used, h.seated.used_is);
+    storable = h.seated.storable;
+    sit = h.seated.sit;
+  })
 
-  held_on : (old new : Current K) (db : Database) → Holds as_keeper old db → new ≡ with_keeper old new.world.keeper → Grew (as_keeper old.world.keeper) (as_keeper new.world.keeper) [] → Holds as_keeper new db
-  held_on old new db h same grew =
-      subst (λ c. Holds as_keeper c db) (sym same)
-      (holds_on as_keeper old (with_keeper old new.world.keeper) db h refl refl refl db refl h.reached h.early (record {
-        data_is = h.seated.data_is;
-        used_is = omega (arith, grew.used, h.seated.used_is);
-        storable = h.seated.storable;
-        sit = h.seated.sit;
-      }))
+  -- there was no memory, and nothing was kept
+  pub not_begun : (now : Current K) (db : Database) (o : Recorded) (res : Result (Unit {0}) Failure) → IsErrAnd res (λ f. f ≡ Halted why.NoMemory) → Carries as_keeper now now res db o
+  not_begun now db o res h =
+      let p = err_from_is_err_and res h in subst (λ x. Carries as_keeper now now x db o) (sym (p.1 ∙ ap (λ f. Err f) p.2)) (stays (as_keeper now.world.keeper) o.made)
 
-  pub not_carried : (old new : Current K) (db : Database) (out : Result CatalogueRecord Code) (f : Failure) → Holds as_keeper old db → new ≡ with_keeper old new.world.keeper
-      → KeepsOutcome (as_keeper old.world.keeper) (as_keeper new.world.keeper) (Err f) out (recorded out (used_by db.records)) → Carries as_keeper old new (Err f) db (recorded out (used_by db.records))
-  not_carried old new db out (Refused code) h same k = record { is = k; holds = held_on old new db h same k.grew }
-  not_carried old new db out (Halted why) h same k = k
+  -- the definition was refused
+  pub not_planned_so : (now : Current K) (db : Database) (out : Result CatalogueRecord Code) (code : Code) → Holds as_keeper now db → out ≡ Err code → IsRefused as_keeper now now db (recorded out (used_by db.records)) code
+  not_planned_so now db out code h is = record { is = not_planned out code (used_by db.records) (as_keeper now.world.keeper) is; holds = h }
 
-  -- there was no memory behind the record
-  pub carried_short : (old mid new : Current K) (db : Database) (out : Result CatalogueRecord Code) (u : Unit {0}) → new.world.keeper ≡ mid.world.keeper
-      → KeepsOutcome (as_keeper old.world.keeper) (as_keeper mid.world.keeper) (Ok u) out (recorded out (used_by db.records))
-      → GaveUp (as_keeper old.world.keeper) (as_keeper new.world.keeper) (recorded out (used_by db.records)).made why.NoMemory
-  carried_short old mid new db out u same k =
-      subst (λ x. GaveUp (as_keeper old.world.keeper) (as_keeper x) (recorded out (used_by db.records)).made why.NoMemory) (sym same)
-      (subst (λ m. GaveUp (as_keeper old.world.keeper) (as_keeper mid.world.keeper) m why.NoMemory) (sym k.2.made) (kept_stops _ _ _ k.2.grew))
+  -- a planned definition may be carried out
+  pub defines_so : (now : Current K) (db : Database) (e : EditionNo) (sessions : List EditionNo) (what : Definition) (text : List ℕ) (r : CatalogueRecord) → Holds as_keeper now db → IsTextOf what text
+      → outcome (lists_of db) e sessions what text ≡ Ok r → Defines db r
+  defines_so now db e sessions what text r h fit is = defines db e sessions what text r fit.spelled fit.small is h.reached
 
-  module _ (old : Current K) (db : Database) (e : EditionNo) (sessions : List EditionNo) (what : Definition) (text : List ℕ) (h : Holds as_keeper old db) (fit : IsTextOf what text) where
-    defines_so : (r : CatalogueRecord) → outcome (lists_of db) e sessions what text ≡ Ok r → Defines db r
-    defines_so r is = defines db e sessions what text r fit.spelled fit.small is h.reached
+  module _ (old : Current K) (db : Database) (h : Holds as_keeper old db) (r : CatalogueRecord) (k : K) where
+    abbrev pub planned : Recorded
+    planned = recorded (Ok r) (used_by db.records)
 
-    pub makes_new : (mid : Current K) → mid ≡ with_keeper old mid.world.keeper → MakesNew mid e sessions what text
-    makes_new mid same = subst (λ c. MakesNew c e sessions what text) (sym same) (record {
-      lists = lists_of db;
-      is = h.catalogue_is;
-      new = λ r is. subst (λ d. IsNew d r) (sym h.seated.data_is) (defines_so r is).new;
-    })
+    -- the bytes that the keeper counts are those of the records
+    counted : (P : Recorded → Type 0) → P (recorded (Ok r) (as_keeper old.world.keeper).used) → P planned
+    counted P so = subst (λ used. P (recorded (Ok r) used)) h.seated.used_is so
 
-    -- it was carried out
-    pub carried : (mid new : Current K) (u : Unit {0}) → mid ≡ with_keeper old mid.world.keeper → new.world.keeper ≡ mid.world.keeper
-        → KeepsOutcome (as_keeper old.world.keeper) (as_keeper mid.world.keeper) (Ok u) (outcome (lists_of db) e sessions what text) (recorded (outcome (lists_of db) e sessions what text) (used_by db.records))
-        → ((r : CatalogueRecord) → outcome (lists_of db) e sessions what text ≡ Ok r → Applied (lists_of db) r mid new)
-        → IsMade as_keeper old new db (recorded (outcome (lists_of db) e sessions what text) (used_by db.records))
-    carried mid new u same keeper k applied =
-        let r = k.0 in
-        let m = defines_so r k.1 in
-        let a = applied r k.1 in
-        let grown = subst (λ x. Grew (as_keeper old.world.keeper) (as_keeper x) (record_of r ∷ [])) (sym keeper) k.2.grew in
-        let seats : new.seats.items ≡ old.seats.items = ap (λ v. v.items) (a.noticed.seats ∙ ap (λ (c : Current K). c.seats) same) in
-        let after : new.world.tx.contents ≡ with_table_of old.world.tx.contents r = a.noticed.tables ∙ ap (λ (c : Current K). with_table_of c.world.tx.contents r) same in
-        record {
-          definition = r;
-          is = record { made = k.2.made; value = k.2.value; grew = grown };
-          holds = record {
-            catalogue_is = a.catalogue ∙ ap as_catalogue (sym m.lists);
-            own_keys = subst HaveOwnKeys (sym m.lists) a.own_keys;
-            views_are = subst (λ c. AreCurrent c new.views) (sym m.lists) a.noticed.views;
-            books_are = subst (λ c. AreCurrent c new.world.book) (sym m.lists) a.noticed.books;
-            seated = subst (λ l. Seated (as_keeper new.world.keeper).used new.world.tx.contents l (with_definition_of db r)) (sym seats)
-                (seated_on r db (as_keeper old.world.keeper).used (as_keeper new.world.keeper).used old.world.tx.contents new.world.tx.contents old.seats.items m h.seated grown.used after);
-            reached = m.reached;
-            early = early_records db (record_of r ∷ []) h.early;
-          };
-        }
+    -- its record wasn't kept
+    pub not_carried : (f : Failure) → KeepsPlanned (as_keeper old.world.keeper) (as_keeper k) (Err f) r (recorded (Ok r) (as_keeper old.world.keeper).used) → Carries as_keeper old (with_keeper old k) (Err f) db planned
+    not_carried (Refused code) kept = let so = counted (λ x. NotKept (as_keeper old.world.keeper) (as_keeper k) x code) kept in record { is = so; holds = held_on old k db h so.grew }
+    not_carried (Halted why) kept = counted (λ x. GaveUp (as_keeper old.world.keeper) (as_keeper k) x.made why) kept
+
+    module _ (new : Current K) (keeper : new.world.keeper ≡ k) (kept : IsKept (as_keeper old.world.keeper) (as_keeper k) (recorded (Ok r) (as_keeper old.world.keeper).used) r) where
+      is_kept : IsKept (as_keeper old.world.keeper) (as_keeper k) planned r
+      is_kept = counted (λ x. IsKept (as_keeper old.world.keeper) (as_keeper k) x r) kept
+
+      -- there was no memory behind its record
+      pub carried_short : (res : Result (Unit {0}) Failure) → IsErrAnd res (λ f. f ≡ Halted why.NoMemory) → Carries as_keeper old new res db planned
+      carried_short res none =
+          let p = err_from_is_err_and res none in
+          subst (λ x. Carries as_keeper old new x db planned) (sym (p.1 ∙ ap (λ f. Err f) p.2))
+          (subst (λ x. GaveUp (as_keeper old.world.keeper) (as_keeper x) planned.made why.NoMemory) (sym keeper)
+          (subst (λ m. GaveUp (as_keeper old.world.keeper) (as_keeper k) m why.NoMemory) (sym is_kept.made) (kept_stops _ _ _ is_kept.grew)))
+
+      -- it was carried out
+      pub carried : Defines db r → Applied (lists_of db) r (with_keeper old k) new → IsMade as_keeper old new db planned
+      carried m a =
+          let grown = subst (λ x. Grew (as_keeper old.world.keeper) (as_keeper x) (record_of r ∷ [])) (sym keeper) is_kept.grew in
+          let seats : new.seats.items ≡ old.seats.items = ap (λ v. v.items) a.noticed.seats in
+          record {
+            definition = r;
+            is = record { made = is_kept.made; value = is_kept.value; grew = grown };
+            holds = record {
+              catalogue_is = a.catalogue ∙ ap as_catalogue (sym m.lists);
+              own_keys = subst HaveOwnKeys (sym m.lists) a.own_keys;
+              views_are = subst (λ c. AreCurrent c new.views) (sym m.lists) a.noticed.views;
+              books_are = subst (λ c. AreCurrent c new.world.book) (sym m.lists) a.noticed.books;
+              seated = subst (λ l. Seated (as_keeper new.world.keeper).used new.world.tx.contents l (with_definition_of db r)) (sym seats)
+                  (seated_on r db (as_keeper old.world.keeper).used (as_keeper new.world.keeper).used old.world.tx.contents new.world.tx.contents old.seats.items m h.seated grown.used a.noticed.tables);
+              reached = m.reached;
+              early = early_records db (record_of r ∷ []) h.early;
+            };
+          }
 
   -- what holds behind a definition that was carried out
   pub held_behind : (old new : Current K) (db : Database) (o : Recorded) (res : Result (Unit {0}) Failure) → Carries as_keeper old new res db o → OnOk res (HoldsSome as_keeper new)

@@ -21,15 +21,15 @@ use Rattle.ebr_ast.specs.declared.unit.UnitTree.TheVariants as unit
 use Rattle.ebr_ast.specs.declared.view.EditionView.{EditionView}
 use Rattle.ebr_ast.specs.declared.view.Object.{Object}
 use Rattle.ebr_editions.specs.Objects.{with_entry, max_objects}
-use Rattle.ebr_tables.specs.Tables.{AllTables, first_refusal, unless_refused, add_answer, remove_answer, next_id, kept_as, with_column, without_table}
+use Rattle.ebr_tables.specs.Tables.{AllTables, add_answer, first_refusal, kept_as, next_id, remove_answer, unless_refused, with_column, with_definition, without_table}
 use Rattle.ebr_columns.specs.Columns.{column_type, is_bad_table, table_of}
 use Rattle.ebr_cross.specs.declared.record.CatalogueRecord.{CatalogueRecord}
 use Rattle.ebr_cross.specs.declared.record.CatalogueRecord.TheVariants as made
 use Rattle.ebr_cross.specs.Catalogue.{Lists, HaveOwnKeys, View, table_in, visible}
 use Rattle.ebr_cross.specs.Definitions as spec
 use Rattle.ebr_cross.specs.Kinds.{kind_of, name_of, key_of, unit_key, is_unit_class}
-use Rattle.ebr_cross.specs.Records.{table_name, with_definition, with_object}
-use Rattle.ebr_cross.proofs.OwnKeys.{own-kept}
+use Rattle.ebr_cross.specs.Records.{table_name, with_object}
+use Rattle.ebr_cross.proofs.OwnKeys.{own_kept}
 use Rattle.ebr_script.specs.Pieces.{stored_definition}
 use Rattle.ebr_core.specs.Apart.{AgreeToDefine, SeesAlike, StampsAlike}
 use Rattle.ebr_core.specs.Records.{after_record, record_of, with_named, with_stored}
@@ -141,7 +141,7 @@ module _ (c d : Lists) (e : EditionNo) (own : HaveOwnKeys c) (own' : HaveOwnKeys
     package_by : (name : List ℕ) (b : Bool) → SeesAlike (without_package c e name b) (without_package d e name b) e
     package_by name true =
         let head : ObjectKey = key_of kind.Package name in
-        after-same (with_object c e head None) (with_object d e head None) e (own-kept c (made.ObjectGone e head) own) (own-kept d (made.ObjectGone e head) own') (gone_left head) (key_of kind.PackageBody name) None
+        after-same (with_object c e head None) (with_object d e head None) e (own_kept c (made.ObjectGone e head) own) (own_kept d (made.ObjectGone e head) own') (gone_left head) (key_of kind.PackageBody name) None
     package_by name false = gone_left (key_of kind.Package name)
 
     package_left : (name : List ℕ) → LeftAlike (made.PackageGone e name)

@@ -1,13 +1,13 @@
 mod AllowedTables
 mod KeptViews
-mod KnownTables
+pub mod KnownTables
 mod MadeRecords
 mod Payloads
 mod ReachedRecords
 mod ReadExamples
-mod ReadsBack
+pub mod ReadsBack
 mod SmallRecords
-mod Spellings
+pub mod Spellings
 mod HeldAgain
 mod CallBeginning
 mod Switched
@@ -19,6 +19,7 @@ mod Recording
 mod Carrying
 mod Lives
 mod Histories
+mod Books
 mod Answering
 mod HasLeft
 mod Starting

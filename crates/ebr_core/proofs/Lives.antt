@@ -36,7 +36,7 @@ use Rattle.ebr_bodies.specs.Statements.{Stmt, begun, begun_ran, change_ran, chec
 use Rattle.ebr_seats.proofs.Seated.{at, at_there as at_other}
 use Rattle.ebr_seats.specs.Tests.{first_tests}
 use Rattle.ebr_seats.specs.Ends.{begun_in, own_of}
-use Rattle.ebr_core.specs.Machine.{Reply, answer_in, behind, counted_in, counting, creation_answer, defined, editions_in_use, lists_of, recorded, definition_answer, edition_found, edition_set, reply_define, reply_in, reply_to, reply_while, then_reply, unless_refused}
+use Rattle.ebr_core.specs.Machine.{Reply, answer_in, counted_in, counting, creation_answer, defined, editions_in_use, lists_of, recorded, definition_answer, edition_found, edition_set, reply_define, reply_in, reply_to, reply_while, then_reply, unless_refused}
 use Rattle.ebr_core.specs.History.{edition_of}
 use Rattle.ebr_core.specs.inside.Parts.{is_there, lives, live_count, lives_at, lives_in}
 

@@ -21,7 +21,7 @@ use Rattle.ebr_cross.specs.Catalogue.{Lists, HaveOwnKeys, first_lists, visible}
 use Rattle.ebr_cross.specs.Definitions.{object_of}
 use Rattle.ebr_cross.specs.Kinds.{kind_of, name_of, key_of}
 use Rattle.ebr_cross.specs.declared.record.CatalogueRecord.TheVariants as made
-use Rattle.ebr_cross.proofs.OwnKeys.{key-same, own-kept}
+use Rattle.ebr_cross.proofs.OwnKeys.{key-same, own_kept}
 use Rattle.ebr_script.specs.Pieces.{stored_definition}
 use Rattle.ebr_record.specs.declared.record.DroppedClass.{DroppedClass}
 use Rattle.ebr_record.specs.declared.record.DroppedClass.TheVariants as dropped
@@ -174,7 +174,7 @@ small_after c r here all = after HasSmallText c r (keeps r here) all
 -- each object stands under its own key
 own_named : (c : Lists) (e : EditionNo) (enabled : Bool) (text : List ℕ) (u : UnitTree) (k : Option ObjectKind) (name : Option (List ℕ))
     → HaveOwnKeys c → HaveOwnKeys (with_named c e enabled text u k name)
-own_named c e enabled text u (Some k) (Some name) own = own-kept c (made.Object (object_of c e (key_of k name) text u enabled)) own
+own_named c e enabled text u (Some k) (Some name) own = own_kept c (made.Object (object_of c e (key_of k name) text u enabled)) own
 own_named c e enabled text u (Some k) None own = own
 own_named c e enabled text u None name own = own
 
@@ -185,7 +185,7 @@ own_stored c e enabled text (Some d) own = own
 
 own_after : (c : Lists) (r : Record) → HaveOwnKeys c → HaveOwnKeys (after_record c r)
 own_after c (left.Object e enabled text) own = own_stored c e enabled text (stored_definition text) own
-own_after c (left.Gone e k name) own = own-kept c (gone e k name) own
+own_after c (left.Gone e k name) own = own_kept c (gone e k name) own
 own_after c (left.Commit changes) own = own
 own_after c (left.Edition name parent) own = own
 own_after c (left.EditionGone e) own = own

@@ -45,8 +45,11 @@ module _ {K : Type 0} (as_keeper : K → Keeper) (p : Parts K) (n : ℕ) (living
   living_len : length p.living.items ≡ n
   living_len = ap length living ∙ length_of n true
 
+  books_len : length p.books.items ≡ n
+  books_len = ap (λ (bs : List (Option EditionView)). length bs) books ∙ length_of n _
+
   is_first : database as_keeper p ≡ Build [] n
-  is_first = ap (λ k. After (Build [] k) p.history.items) living_len ∙ ap (After (Build [] n)) empty
+  is_first = ap (λ k. After (Build [] k) p.history.items) books_len ∙ ap (After (Build [] n)) empty
 
   module _ (room : vec_len p.history + (n + 1) ≤ vec_capacity p.history) (holds : Holds as_keeper p.current (Build [] n)) (goes : (as_keeper p.current.world.keeper).stopped ≡ false) where
     runs : Runs as_keeper p
@@ -60,7 +63,7 @@ module _ {K : Type 0} (as_keeper : K → Keeper) (p : Parts K) (n : ℕ) (living
     pub starts : IsSound as_keeper p
     starts = record {
       living = living ∙ sym (all_there n _) ∙ ap lives (sym is_first);
-      books = ap (λ (bs : List (Option EditionView)). length bs) books ∙ length_of n _ ∙ sym living_len;
+      books = books_len ∙ sym living_len;
       stopped = running ∙ ap has_given_up (sym empty);
       stands = subst (λ b. Stands as_keeper b p) (sym running) runs;
     }

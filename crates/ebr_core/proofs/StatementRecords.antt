@@ -32,6 +32,7 @@ use Rattle.ebr_query.specs.Results.{chosen, result_rows}
 use Rattle.ebr_query.specs.Rows.{Row, max_product, product, product_size}
 use Rattle.ebr_query.specs.Seen.{rows_of_sources}
 use Rattle.ebr_dml.specs.declared.taken.Taken.{Taken}
+use Rattle.ebr_dml.specs.Steps.{DmlState}
 use Rattle.ebr_dml.specs.Images.{old_values, new_values, after_values}
 use Rattle.ebr_dml.specs.Tests.{written}
 use Rattle.ebr_record.specs.declared.record.Record.{Record}
@@ -50,7 +51,7 @@ use Rattle.ebr_run.specs.Run.{Seen}
 use Rattle.ebr_bodies.specs.Ready.{Ready}
 use Rattle.ebr_bodies.specs.Bodies.{Doing, Site, after_run, answered, at_own, bodies, body, max_asks, next_ask, on_ask, on_top, place_in, run_of, serve, served}
 use Rattle.ebr_bodies.specs.Rows.{Work, all_rows, at_data, changed, one_row, rows, rows_of}
-use Rattle.ebr_bodies.specs.Statements.{Stmt, begun, begun_ran, change_ran, checked_ran, finished, first_doing, name_tests, run_rows, site_of, started_with, unless_refused, work_of}
+use Rattle.ebr_bodies.specs.Statements.{Stmt, begun, begun_ran, change_ran, checked_ran, finished, first_doing, name_tests, fired_ran, rows_started, run_rows, site_of, triggers_ready, unless_refused, work_of}
 use Rattle.ebr_core.specs.inside.Reached.{IsCommit}
 use Rattle.ebr_core.proofs.MadeRecords.{same_tables}
 
@@ -261,8 +262,11 @@ finished_makes t before (Ok n) σ = same σ.base
 finished_makes t before (Err code) σ = none σ.base _ refl refl refl
 
 module _ (deeper : Statements) (all : AllMake deeper) (names : Names) (p : Place) (binds : List Value) (left room : ℕ) where
+  fired_makes : (s : SqlTree) (standing : DmlState) (σ : Doing) → MakesDoing σ.base (fired_ran deeper names p s left standing σ)
+  fired_makes s standing σ = goes_on (run_rows deeper names p s left) (triggers_ready names p s standing) σ (λ k. all_make (site_of deeper names p s left) all (work_of s k) k.standing.rest σ)
+
   begun_makes : (s : SqlTree) (σ : Doing) → MakesDoing σ.base (begun_ran deeper names p s binds left σ)
-  begun_makes s σ = goes_on (run_rows deeper names p s left) (started_with names p s binds σ.base.data_now) σ (λ k. all_make (site_of deeper names p s left) all (work_of s k) k.standing.rest σ)
+  begun_makes s σ = goes_on (fired_ran deeper names p s left) (rows_started names p s binds σ.base.data_now) σ (λ standing. fired_makes s standing σ)
 
   change_makes : (s : SqlTree) (b : Base) → MakesOf b (change_ran deeper names p s binds left room b)
   change_makes s b =

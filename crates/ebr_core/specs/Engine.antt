@@ -1,5 +1,5 @@
 -- The engine as its callers see it, and what its answers are.
-use Rattle.std.specs.Prelude.{◌≡◌, ◌≢◌, ℕ, zero, suc, ◌||◌, Bool, true, false, List, [], ◌∷◌, ◌++◌, Option, Some, None, slice_get, slice_set, replicate}
+use Rattle.std.specs.Prelude.{◌≡◌, ◌≢◌, ℕ, zero, suc, ◌||◌, Bool, true, false, List, [], ◌∷◌, ◌++◌, Option, Some, None, length, slice_get, slice_set, replicate}
 use Rattle.ebr_base.specs.declared.numbers.SessionId.{SessionId}
 use Rattle.ebr_ast.specs.declared.view.EditionView.{EditionView}
 use Rattle.ebr_ast.specs.Views.{IsInOrder}
@@ -9,6 +9,7 @@ use Rattle.ebr_asks.specs.declared.answer.Answer.{Answer}
 use Rattle.ebr_asks.specs.declared.answer.Answer.TheVariants.{View, Done, DiskFault, NoMemory, Stopped}
 use Rattle.ebr_asks.specs.declared.entry.Entry.{Entry}
 use Rattle.ebr_laws.specs.Served.{HasCodeOf}
+use Rattle.ebr_record.specs.declared.record.Record.{Record}
 use Rattle.ebr_record.specs.Keeper.{Keeper, used_by}
 use Rattle.ebr_database.specs.declared.failure.Halt.TheVariants as why
 use Rattle.ebr_database.specs.Database.{Database, Replied}
@@ -17,11 +18,11 @@ use Rattle.ebr_units.specs.Served.{served}
 use Rattle.ebr_core.specs.Machine.{Build, Reply}
 use Rattle.ebr_core.specs.History.{After, IsLive, Legal}
 
--- The history, the number of sessions, which are numbered from 1, for each of them the book that is set aside, by what its edition
--- sees, and the keeper.
+-- The history, the records of the database with which it began, for each session the book that is set aside, by what its edition sees,
+-- and the keeper. The sessions are numbered from 1, and there are as many as books.
 pub record EngineState (K : Type 0) : Type 0 where
   pub history : List Entry
-  pub sessions : ℕ
+  pub recovered : List Record
   pub books : List (Option EditionView)
   pub keeper : K
 
@@ -45,7 +46,7 @@ with_book books (suc n) book = slice_set books n book
 module _ {K : Type 0} where
   -- the database with which the history began
   abbrev pub first_of : EngineState K → Database
-  first_of e = Build [] e.sessions
+  first_of e = Build e.recovered (length e.books)
 
   -- the database that the history leaves
   abbrev pub database_of : EngineState K → Database
@@ -101,7 +102,7 @@ Gives as_keeper true old new a r = (a ≡ Stopped) × (new ≡ old)
 pub record AnswersAsk {K : Type 0} (as_keeper : K → Keeper) (old new : EngineState K) (s : SessionId) (ask : Ask) (a : Answer) : Type 0 where
   pub entry : new.history ≡ old.history ++ entry_of s ask a ∷ []
   pub legal : HasLegalHistory new
-  pub sessions : new.sessions ≡ old.sessions
+  pub recovered : new.recovered ≡ old.recovered
   pub book : Option EditionView
   pub books : new.books ≡ with_book old.books s.0 book
   pub has_book : HasBook a book

@@ -4,17 +4,16 @@ ghost use Rattle.std.specs.Prelude.{◌≡◌, IfOk, OnOk, Ok, option_map};
 ghost use Rattle.std.specs.Option.{option_copied};
 ghost use Rattle.ebr_ast.specs.Views.{IsInOrder};
 ghost use Rattle.ebr_check.specs.Verdict.{is_valid};
-ghost use Rattle.ebr_base.specs.Answers.{Answers};
-ghost use Rattle.ebr_cross.specs.declared.record.CatalogueRecord.{CatalogueRecord as CatalogueMade};
 ghost use Rattle.ebr_cross.specs.Catalogue.{ForLists, HaveOwnKeys, Lists, View, as_catalogue};
 ghost use Rattle.ebr_cross.specs.Definitions.{outcome};
+ghost use Rattle.ebr_cross.specs.Following.{MayFollow};
 ghost use Rattle.ebr_cross.specs.Records.{with_record};
 ghost use Rattle.ebr_database.specs.Database.{data_of};
 ghost use Rattle.ebr_record.specs.Keeper.{used_by};
-ghost use Rattle.ebr_record.specs.Payload.{HasPayload};
 ghost use Rattle.ebr_units.specs.Living.{AreCurrent};
-ghost use Rattle.ebr_core.specs.inside.Defined.{IsNew};
-ghost use Rattle.ebr_core.specs.inside.Defining.{Applied, Carries, ForHeld, ForLists as ForKept, HoldsSome, KeepsOutcome, AnswersIn, MakesNew, Noticed, record_made};
+ghost use Rattle.ebr_core.specs.inside.Defined.{Defines, IsNew};
+ghost use Rattle.ebr_core.specs.inside.Defining.{Applied, Carries, ForHeld, ForLists as ForKept, HoldsSome, KeepsPlanned, AnswersIn, Noticed};
+ghost use Rattle.ebr_core.specs.inside.Stored.{IsSmall};
 ghost use Rattle.ebr_core.specs.inside.Tables.{with_table_of};
 ghost use Rattle.ebr_exec.specs.Places.{id_of};
 ghost use Rattle.ebr_tx.specs.Data.{IsLive, named_at};
@@ -32,7 +31,7 @@ use ebr_base::{Bytes, CloneIn, Code, EditionNo, NoMemory, SessionId, Stop, Table
 use ebr_check::check;
 use ebr_cross::{Catalogue, CatalogueRecord};
 use ebr_database::{Failure, Halt, keep_record};
-use ebr_record::{Keep, Record};
+use ebr_record::Keep;
 use ebr_seats::{editions_in_use, own_of};
 use ebr_tx::Transactions;
 use std::alloc::Global;
@@ -98,7 +97,7 @@ fn define<K: Keep>(
     carry_out(alloc, current, s, e, sessions.as_slice(), what, text)
 }
 
-/// Carries out a definition: its record is kept first, and then the catalogue is as the record says.
+/// Carries out a definition: it is planned, its record is kept, and then the catalogue is as the record says.
 fn carry_out<K: Keep>(
     alloc: Global,
     current: &mut Current<K>,
@@ -112,9 +111,11 @@ fn carry_out<K: Keep>(
     requires text { IsTextOf what.now text.now }
     ensures { ForSession K.as_keeper current.old s (λ db d x. Carries K.as_keeper current.old current.new result db (spec.recorded (outcome (spec.lists_of db) e sessions.now what.now text.now) (used_by db.records))) }
 {
-    keep_outcome(alloc, current, s, e, sessions, what, text)?;
-    apply(alloc, current, e, sessions, what, text)?;
-    Ok(())
+    match current.world.catalogue.plan(alloc, e, sessions, what, text) {
+        Ok(planned) => keep_and_apply(alloc, current, &planned),
+        Err(Stop::Raised(code)) => Err(Failure::Refused(code)),
+        Err(Stop::NoMemory) => Err(Failure::Halted(Halt::NoMemory)),
+    }
 }
 
 /// Whether another live transaction has changes or locks in the table that a definition alters or drops.
@@ -148,71 +149,48 @@ fn id_of(table: Option<&TableDef>) -> Option<TableId>
     }
 }
 
-/// Has the record kept that a definition makes, or answers what refuses it.
-fn keep_outcome<K: Keep>(
+/// Has the record of a planned definition kept, and then carries it out.
+fn keep_and_apply<K: Keep>(
     alloc: Global,
     current: &mut Current<K>,
-    s: SessionId,
-    e: EditionNo,
-    sessions: &[EditionNo],
-    what: &Definition,
-    text: &Bytes,
+    planned: &CatalogueRecord,
 ) -> Result<(), Failure>
-    requires held { IsHeld K.as_keeper current.old s }
-    requires text { IsTextOf what.now text.now }
-    ensures kept { ForSession K.as_keeper current.old s (λ db d x. KeepsOutcome (K.as_keeper current.old.world.keeper) (K.as_keeper current.new.world.keeper) result (outcome (spec.lists_of db) e sessions.now what.now text.now) (spec.recorded (outcome (spec.lists_of db) e sessions.now what.now text.now) (used_by db.records))) }
-    ensures others { current.new ≡ record current.old { world = record current.old.world { keeper = current.new.world.keeper } } }
+    requires small { IsSmall planned.now }
+    requires follows { MayFollow current.old.world.catalogue planned.now }
+    requires new { IsNew current.old.world.tx.contents planned.now }
+    ensures { ForHeld K.as_keeper current.old (λ db. Defines db planned.now → Carries K.as_keeper current.old current.new result db (spec.recorded (Ok planned.now) (used_by db.records))) }
 {
-    match record_for(alloc, current, s, e, sessions, what, text) {
-        Ok(r) => keep_record(&mut current.world.keeper, &r),
-        Err(Stop::Raised(code)) => Err(Failure::Refused(code)),
-        Err(Stop::NoMemory) => Err(Failure::from(NoMemory)),
-    }
+    keep_planned(alloc, &mut current.world.keeper, planned)?;
+    apply(alloc, current, planned)?;
+    Ok(())
 }
 
-/// The record that a definition would make.
-fn record_for<K: Keep>(
+/// Has the record of a planned definition kept; EBR-0042 where the journal has no room for it.
+fn keep_planned<K: Keep>(
     alloc: Global,
-    current: &Current<K>,
-    s: SessionId,
-    e: EditionNo,
-    sessions: &[EditionNo],
-    what: &Definition,
-    text: &Bytes,
-) -> Result<Record, Stop>
-    requires held { IsHeld K.as_keeper current.now s }
-    requires text { IsTextOf what.now text.now }
-    ensures answer { ForSession K.as_keeper current.now s (λ db d x. Answers result (record_made (outcome (spec.lists_of db) e sessions.now what.now text.now))) }
-    ensures payload { IfOk result (λ r. HasPayload r) }
+    keeper: &mut K,
+    planned: &CatalogueRecord,
+) -> Result<(), Failure>
+    requires { IsSmall planned.now }
+    ensures { KeepsPlanned (K.as_keeper keeper.old) (K.as_keeper keeper.new) result planned.now (spec.recorded (Ok planned.now) (K.as_keeper keeper.old).used) }
 {
-    let made = current
-        .world
-        .catalogue
-        .outcome(alloc, e, sessions, what, text)?;
-    Ok(record_of(alloc, &made)?)
+    let r = record_of(alloc, planned)?;
+    keep_record(keeper, &r)
 }
 
-/// Changes the catalogue as a definition says that nothing refuses, and all that takes notice of it.
+/// Changes the catalogue as a record says that was kept, and all that takes notice of it.
 fn apply<K: Keep>(
     alloc: Global,
     current: &mut Current<K>,
-    e: EditionNo,
-    sessions: &[EditionNo],
-    what: &Definition,
-    text: &Bytes,
+    planned: &CatalogueRecord,
 ) -> Result<(), NoMemory>
-    requires { MakesNew current.old e sessions.now what.now text.now }
-    ensures applied { ForKept current.old (λ lists. (r : CatalogueMade) → outcome lists e sessions.now what.now text.now ≡ Ok r → OnOk result (Applied lists r current.old current.new)) }
+    requires follows { MayFollow current.old.world.catalogue planned.now }
+    requires new { IsNew current.old.world.tx.contents planned.now }
+    ensures applied { ForKept current.old (λ lists. OnOk result (Applied lists planned.now current.old current.new)) }
     ensures keeper { current.new.world.keeper ≡ current.old.world.keeper }
 {
-    match current
-        .world
-        .catalogue
-        .apply(alloc, e, sessions, what, text)
-    {
-        Ok(made) => notice(alloc, current, &made),
-        Err(_) => Err(NoMemory),
-    }
+    current.world.catalogue.carry_out(alloc, planned)?;
+    notice(alloc, current, planned)
 }
 
 /// Takes notice of a definition that was carried out.

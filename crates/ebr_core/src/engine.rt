@@ -1,6 +1,6 @@
 //! The engine, with the history of all asks.
 
-ghost use Rattle.std.specs.Prelude.{◌≡◌, ◌↔◌, [], IsTrue, IfOk, None};
+ghost use Rattle.std.specs.Prelude.{◌≡◌, ◌≤◌, ◌↔◌, [], length, IsTrue, IfOk, None};
 ghost use Rattle.ebr_core.specs.Apart.{IsApart};
 ghost use Rattle.ebr_core.specs.Asked.{IsFit};
 ghost use Rattle.ebr_core.specs.Engine.{AnswersAsk, HasLegalHistory, IsEmpty, book_at, database_of, no_books, with_book};
@@ -16,7 +16,8 @@ use ebr_units::Book;
 use std::alloc::Global;
 use std::marker::Model;
 
-/// The edition machine: a database, its sessions, numbered from 1, and the history of their asks. Every answer makes one entry.
+/// The edition machine: a database, its sessions, numbered from 1, and the history of their asks, which begins with the database of
+/// the records that were recovered, none as yet. Every answer makes one entry.
 #[derive(Drop)]
 pub struct Engine<K: Keep> {
     parts: Parts<K>,
@@ -27,12 +28,13 @@ impl<K: Keep> Model for Engine<K> {
     ghost use Rattle.ebr_asks.specs.contracts.ask.Ask as a;
     ghost use Rattle.ebr_asks.specs.contracts.entry.Entry as x;
     ghost use Rattle.ebr_ast.specs.contracts.view.EditionView as v;
+    ghost use Rattle.ebr_record.specs.contracts.record.Record as r;
     ghost use Rattle.ebr_core.specs.Engine.{EngineState};
     ghost use Rattle.ebr_core.specs.inside.Parts.{IsSound, state_of};
 
     ghost Value = { EngineState K };
 
-    ghost coded = { Prim.hlevel (codes, a.the_row.coded, x.the_row.coded, v.the_row.coded, K.code) };
+    ghost coded = { Prim.hlevel (codes, a.the_row.coded, x.the_row.coded, r.the_row.coded, v.the_row.coded, K.code) };
 
     ghost view = { λ e. state_of K.as_keeper e.parts };
 
@@ -43,7 +45,7 @@ impl<K: Keep> Engine<K> {
     /// An engine with an empty database and so many live sessions, over a keeper that has kept nothing.
     pub fn start(alloc: Global, keeper: K, sessions: u32) -> Result<Engine<K>, NoMemory>
         requires { IsEmpty (K.as_keeper keeper) }
-        ensures { IfOk result (λ e. e ≡ record { history = []; sessions = sessions; books = no_books sessions; keeper = keeper }) }
+        ensures { IfOk result (λ e. e ≡ record { history = []; recovered = []; books = no_books sessions; keeper = keeper }) }
     {
         let parts = Parts::start(alloc, keeper, sessions)?;
         Ok(Engine { parts })
@@ -68,9 +70,10 @@ impl<K: Keep> Engine<K> {
         self.parts.answer(s, ask)
     }
 
-    /// Whether a session is there, and hasn't left.
+    /// Whether a session is there, and hasn't left. Sessions are numbered from 1, and each has a place for a book.
     pub fn live(&self, s: SessionId) -> bool
-        ensures { IsTrue result ↔ IsLive (database_of self.now) s }
+        ensures live { IsTrue result ↔ IsLive (database_of self.now) s }
+        ensures range { IsTrue result → (1 ≤ s.0) × (s.0 ≤ length self.now.books) }
     {
         self.parts.live(s)
     }

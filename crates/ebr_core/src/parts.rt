@@ -44,7 +44,7 @@ impl<K: Keep> Parts<K> {
     pub fn start(alloc: Global, keeper: K, sessions: u32) -> Result<Parts<K>, NoMemory>
         requires { IsEmpty (K.as_keeper keeper) }
         ensures sound { IfOk result (λ p. IsSound K.as_keeper p) }
-        ensures state { IfOk result (λ p. state_of K.as_keeper p ≡ record { history = []; sessions = sessions; books = no_books sessions; keeper = keeper }) }
+        ensures state { IfOk result (λ p. state_of K.as_keeper p ≡ record { history = []; recovered = []; books = no_books sessions; keeper = keeper }) }
     {
         let mut history = Vec::new(alloc);
         history.reserve(sessions as usize + 1)?;
@@ -201,10 +201,7 @@ impl<K: Keep> Parts<K> {
         ensures book { result ≡ book_at self.old.books.items s.0 }
         ensures state { state_of K.as_keeper self.new ≡ record (state_of K.as_keeper self.old) { books = with_book self.old.books.items s.0 None } }
     {
-        if s.0 == 0 || place(s) >= self.books.len() {
-            return None;
-        }
-        mem::replace(&mut self.books[place(s)], None)
+        take_at(&mut self.books, s)
     }
 }
 
@@ -255,6 +252,17 @@ fn put_at<T: Drop>(items: &mut Vec<T>, at: usize, value: T)
     ensures { items.new.items ≡ slice_set items.old.items at value }
 {
     items[at] = value;
+}
+
+/// The book of a session, where one is set aside, which it is no more then.
+fn take_at(books: &mut Vec<Option<Shared<Book>>>, s: SessionId) -> Option<Shared<Book>>
+    ensures book { result ≡ book_at books.old.items s.0 }
+    ensures taken { books.new.items ≡ with_book books.old.items s.0 None }
+{
+    if s.0 == 0 || place(s) >= books.len() {
+        return None;
+    }
+    mem::replace(&mut books[place(s)], None)
 }
 
 /// So many live sessions.

@@ -1,14 +1,10 @@
 -- What the calls that carry out a definition leave.
-use Rattle.std.specs.Prelude.{◌≡◌, ℕ, List, [], ◌∷◌, Result, Ok, Err}
+use Rattle.std.specs.Prelude.{◌≡◌, ℕ, [], ◌∷◌, Result, Ok, Err}
 use Rattle.ebr_base.specs.declared.code.Code.{Code}
-use Rattle.ebr_base.specs.declared.numbers.EditionNo.{EditionNo}
-use Rattle.ebr_ast.specs.declared.definition.Definition.{Definition}
 use Rattle.ebr_asks.specs.declared.answer.Answer.{Answer}
 use Rattle.ebr_cross.specs.declared.record.CatalogueRecord.{CatalogueRecord}
 use Rattle.ebr_cross.specs.Catalogue.{Lists, HaveOwnKeys, as_catalogue}
-use Rattle.ebr_cross.specs.Definitions.{outcome}
 use Rattle.ebr_cross.specs.Records.{with_record}
-use Rattle.ebr_record.specs.declared.record.Record.{Record}
 use Rattle.ebr_record.specs.Keeper.{Keeper}
 use Rattle.ebr_database.specs.declared.failure.Failure.{Failure}
 use Rattle.ebr_database.specs.declared.failure.Failure.TheVariants.{Refused, Halted}
@@ -20,14 +16,9 @@ use Rattle.ebr_database.specs.Database.{Database}
 use Rattle.ebr_units.specs.Living.{AreCurrent}
 use Rattle.ebr_core.specs.declared.current.Current.{Current}
 use Rattle.ebr_core.specs.Records.{record_of}
-use Rattle.ebr_core.specs.inside.Defined.{IsNew, with_definition_of}
+use Rattle.ebr_core.specs.inside.Defined.{with_definition_of}
 use Rattle.ebr_core.specs.inside.Tables.{with_table_of}
 use Rattle.ebr_core.specs.inside.Held.{Holds}
-
--- the record that a definition makes, or what refuses it
-abbrev pub record_made : Result CatalogueRecord Code → Result Record Code
-record_made (Ok r) = Ok (record_of r)
-record_made (Err code) = Err code
 
 -- What a definition is recorded as: by the outcome that the catalogue tells, where the records take so many bytes.
 abbrev pub Recorded : Type 0
@@ -45,19 +36,13 @@ pub record NotKept (old new : Keeper) (o : Recorded) (code : Code) : Type 0 wher
   pub value : o.value ≡ Err code
   pub grew : Grew old new []
 
--- by what the keeping of an outcome's record answers
-abbrev pub KeepsOutcome : Keeper → Keeper → Result (Unit {0}) Failure → Result CatalogueRecord Code → Recorded → Type 0
-KeepsOutcome old new (Ok u) out o = (r : CatalogueRecord) × (out ≡ Ok r) × IsKept old new o r
-KeepsOutcome old new (Err (Refused code)) out o = NotKept old new o code
-KeepsOutcome old new (Err (Halted why)) out o = GaveUp old new o.made why
+-- by what the keeping of a planned record answers
+abbrev pub KeepsPlanned : Keeper → Keeper → Result (Unit {0}) Failure → CatalogueRecord → Recorded → Type 0
+KeepsPlanned old new (Ok u) r o = IsKept old new o r
+KeepsPlanned old new (Err (Refused code)) r o = NotKept old new o code
+KeepsPlanned old new (Err (Halted why)) r o = GaveUp old new o.made why
 
 module _ {K : Type 0} where
-  -- A table that a definition would make wasn't added before.
-  pub record MakesNew (now : Current K) (e : EditionNo) (sessions : List EditionNo) (what : Definition) (text : List ℕ) : Type 0 where
-    pub lists : Lists
-    pub is : now.world.catalogue ≡ as_catalogue lists
-    pub new : (r : CatalogueRecord) → outcome lists e sessions what text ≡ Ok r → IsNew now.world.tx.contents r
-
   -- The views, the books and the tables are those behind a definition.
   pub record Noticed (lists : Lists) (r : CatalogueRecord) (old new : Current K) : Type 0 where
     pub views : AreCurrent (with_record lists r) new.views

@@ -55,7 +55,7 @@ Copies given (Err e) = e ≡ why.NoMemory
 
 module _ {K : Type 0} (as_keeper : K → Keeper) where
   abbrev pub state_of : Parts K → EngineState K
-  state_of p = record { history = p.history.items; sessions = length p.living.items; books = p.books.items; keeper = p.current.world.keeper }
+  state_of p = record { history = p.history.items; recovered = []; books = p.books.items; keeper = p.current.world.keeper }
 
   abbrev pub database : Parts K → Database
   database p = database_of (state_of p)

@@ -1,7 +1,20 @@
 use Rattle.std.proofs.Common.{refl}
-use Rattle.ebr_core.specs.Machine.{lists_of}
+use Rattle.ebr_core.specs.Machine.{lists_of, reply_begin}
 use Rattle.ebr_core.proofs.CallBeginning.{begun, book_current}
+use Rattle.ebr_core.proofs.HeldAgain.{wants_for_view}
 use Rattle.ebr_core.proofs.asks.begin.Goals as goal
+
+pub returns-in_err-view-clause-reply : goal.returns-in_err-view-clause-reply
+returns-in_err-view-clause-reply g c = λ db d x h has same.
+    wants_for_view g.K.Keep.as_keeper c.args.current.now _ (reply_begin d db c.args.s x) refl c.from_residual.result c.from_residual.ensures.1
+
+pub returns-in_err-book-clause-reply : goal.returns-in_err-book-clause-reply
+returns-in_err-book-clause-reply g c = λ db d x h has same.
+    wants_for_view g.K.Keep.as_keeper c.args.current.now _ (reply_begin d db c.args.s x) refl c.from_residual-in_err-book.result c.from_residual-in_err-book.ensures.1
+
+pub returns-in_err-open_call-clause-reply : goal.returns-in_err-open_call-clause-reply
+returns-in_err-open_call-clause-reply g c = λ db d x h has same.
+    wants_for_view g.K.Keep.as_keeper c.args.current.now _ (reply_begin d db c.args.s x) refl c.from_residual-in_err-open_call.result c.from_residual-in_err-open_call.ensures.1
 
 pub returns-clause-reply : goal.returns-clause-reply
 returns-clause-reply g c = λ db d x h has same.

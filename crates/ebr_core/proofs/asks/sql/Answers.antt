@@ -6,9 +6,14 @@ use Rattle.ebr_cross.specs.declared.catalogue.Catalogue.{Catalogue}
 use Rattle.ebr_cross.specs.Catalogue.{IsViewOf, View}
 use Rattle.ebr_seats.specs.Seats.{seat_at}
 use Rattle.ebr_seats.proofs.Asked.{IsTop}
-use Rattle.ebr_core.specs.Machine.{lists_of}
+use Rattle.ebr_core.specs.Machine.{lists_of, reply_sql}
+use Rattle.ebr_core.proofs.HeldAgain.{wants_memory}
 use Rattle.ebr_core.proofs.RunStatements.{fits, ran_reply, room_of}
 use Rattle.ebr_core.proofs.asks.sql.Goals as goal
+
+pub returns-in_err-view : goal.returns-in_err-view
+returns-in_err-view g c = λ db d x h has same.
+    wants_memory g.K.Keep.as_keeper c.args.current.now _ (reply_sql d db c.args.s x c.args.stmt.now c.args.binds.now c.args.left) refl c.from_residual.result c.from_residual.ensures.1
 
 pub run_sql-requires-clause-order : goal.run_sql-requires-clause-order
 run_sql-requires-clause-order g c =

@@ -23,11 +23,11 @@ pub returns-in-Err : goal.returns-in-Err
 returns-in-Err g c = λ db e x h has.
     not_there g.K.Keep.as_keeper c.args.current.now db h c.args.s x c.args.name.now
     (sym c.if-begun.false ∙ c.begun.ensures ∙ ap (λ t. is_some (own c.args.current.now.world.tx.contents t).begun) c.own_of.ensures)
-    c.in-Err.code (sym c.in-Err.is ∙ c.edition_named.ensures)
+    c.in-Err.code (sym c.in-Err.is ∙ c.edition_named.ensures.answer)
 
 pub returns-in-Ok : goal.returns-in-Ok
 returns-in-Ok g c = λ db e x h has.
     is_set g.K.Keep.as_keeper c.args.current.now db h c.args.s x c.args.name.now _ c.in-Ok.e has.there refl refl refl refl
     (sym c.if-begun.false ∙ c.begun.ensures ∙ ap (λ t. is_some (own c.args.current.now.world.tx.contents t).begun) c.own_of.ensures)
-    (sym c.in-Ok.is ∙ c.edition_named.ensures)
+    (sym c.in-Ok.is ∙ c.edition_named.ensures.answer)
     (c.set_edition.ensures c.args.current.now.world.tx.contents (g.K.Keep.as_keeper c.args.current.now.world.keeper).used db x h.seated has.there)

@@ -1,6 +1,14 @@
-use Rattle.std.proofs.Common.{refl}
-use Rattle.ebr_core.proofs.Counted.{counted_on, seat_there}
+use Rattle.std.proofs.Common.{refl, ap, ◌∙◌}
+use Rattle.std.proofs.lemmas.Result.{err_from_is_err_and}
+use Rattle.std.specs.Prelude.{Err}
+use Rattle.ebr_core.proofs.Counted.{counted_on, gave_up_on, seat_there}
 use Rattle.ebr_core.proofs.current.counted_reply.Goals as goal
+
+pub returns-in_err-given-clause-reply : goal.returns-in_err-given-clause-reply
+returns-in_err-given-clause-reply g c = λ db e x h has.
+    let p = err_from_is_err_and c.from_residual.result c.from_residual.ensures.1 in
+    gave_up_on g.K.Keep.as_keeper c.args.current.now c.tested_reply.new.current c.args.s c.args.ask.now db e x has c.in_err-given.field-0.0 c.from_residual.result (p.1 ∙ ap (λ why. Err why) p.2)
+    (c.in_err-given.ensures.reply db e x h has)
 
 pub count_ask-requires : goal.count_ask-requires
 count_ask-requires g c =

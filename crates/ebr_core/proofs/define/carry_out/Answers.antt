@@ -1,39 +1,41 @@
-use Rattle.std.proofs.Common.{sym, ap, subst, ◌∙◌}
-use Rattle.std.proofs.lemmas.Result.{err_from_is_err_and}
+use Rattle.std.proofs.Common.{sym, subst}
 use Rattle.std.specs.Prelude.{Err}
+use Rattle.ebr_base.specs.Answers.{Answers}
 use Rattle.ebr_cross.specs.Definitions.{outcome}
 use Rattle.ebr_record.specs.Keeper.{used_by}
-use Rattle.ebr_units.specs.Living.{AreCurrent}
+use Rattle.ebr_database.proofs.Keeping.{stays}
 use Rattle.ebr_core.specs.Machine.{lists_of, recorded}
-use Rattle.ebr_core.specs.inside.Defining.{Carries}
-use Rattle.ebr_core.proofs.Carrying.{not_carried, carried_short, makes_new, carried}
+use Rattle.ebr_core.specs.inside.Defined.{IsNew}
+use Rattle.ebr_core.specs.inside.Defining.{Carries, IsRefused}
+use Rattle.ebr_core.proofs.Carrying.{defines_so, not_planned_so}
 use Rattle.ebr_core.proofs.define.carry_out.Goals as goal
 
-pub returns-in_err-keep_outcome : goal.returns-in_err-keep_outcome
-returns-in_err-keep_outcome g c = λ db e x h has.
-    let p = err_from_is_err_and c.from_residual.result c.from_residual.ensures.1 in
-    let out = outcome (lists_of db) c.args.e c.args.sessions.now c.args.what.now c.args.text.now in
-    subst (λ r. Carries g.K.Keep.as_keeper c.args.current.now c.keep_outcome.new.current r db (recorded out (used_by db.records)))
-    (sym (p.1 ∙ ap (λ f. Err f) p.2))
-    (not_carried g.K.Keep.as_keeper c.args.current.now c.keep_outcome.new.current db out c.in_err-keep_outcome.field-0.0 h c.in_err-keep_outcome.ensures.others (c.in_err-keep_outcome.ensures.kept db e x h has))
-
-pub apply-requires : goal.apply-requires
-apply-requires g c =
+pub keep_and_apply-requires-clause-small : goal.keep_and_apply-requires-clause-small
+keep_and_apply-requires-clause-small g c =
     let h = c.requires.held in
-    makes_new g.K.Keep.as_keeper c.args.current.now h.database c.args.e c.args.sessions.now c.args.what.now c.args.text.now h.holds c.requires.text c.keep_outcome.new.current c.in_ok-keep_outcome.ensures.others
+    (defines_so g.K.Keep.as_keeper c.args.current.now h.database c.args.e c.args.sessions.now c.args.what.now c.args.text.now c.in-Ok.planned h.holds c.requires.text
+    (c.in-Ok.ensures.answer (lists_of h.database) h.holds.catalogue_is)).small
 
-pub returns-in_err-apply : goal.returns-in_err-apply
-returns-in_err-apply g c = λ db e x h has.
-    let p = err_from_is_err_and c.from_residual-in_err-apply.result c.from_residual-in_err-apply.ensures.1 in
+pub keep_and_apply-requires-clause-new : goal.keep_and_apply-requires-clause-new
+keep_and_apply-requires-clause-new g c =
+    let h = c.requires.held in
+    subst (λ d. IsNew d c.in-Ok.planned) (sym h.holds.seated.data_is)
+    (defines_so g.K.Keep.as_keeper c.args.current.now h.database c.args.e c.args.sessions.now c.args.what.now c.args.text.now c.in-Ok.planned h.holds c.requires.text
+    (c.in-Ok.ensures.answer (lists_of h.database) h.holds.catalogue_is)).new
+
+pub returns-in-Ok : goal.returns-in-Ok
+returns-in-Ok g c = λ db e x h has.
+    let is = c.in-Ok.ensures.answer (lists_of db) h.catalogue_is in
+    subst (λ out. Carries g.K.Keep.as_keeper c.args.current.now c.keep_and_apply.new.current c.keep_and_apply.result db (recorded out (used_by db.records))) (sym is)
+    (c.keep_and_apply.ensures db h (defines_so g.K.Keep.as_keeper c.args.current.now db c.args.e c.args.sessions.now c.args.what.now c.args.text.now c.in-Ok.planned h c.requires.text is))
+
+pub returns-in-Err-Raised : goal.returns-in-Err-Raised
+returns-in-Err-Raised g c = λ db e x h has.
     let out = outcome (lists_of db) c.args.e c.args.sessions.now c.args.what.now c.args.text.now in
-    subst (λ r. Carries g.K.Keep.as_keeper c.args.current.now c.apply.new.current r db (recorded out (used_by db.records)))
-    (sym (p.1 ∙ ap (λ f. Err f) p.2))
-    (carried_short g.K.Keep.as_keeper c.args.current.now c.keep_outcome.new.current c.apply.new.current db out _ c.in_err-apply.ensures.keeper (c.in_ok-keep_outcome.ensures.kept db e x h has))
+    subst (λ code. IsRefused g.K.Keep.as_keeper c.args.current.now c.args.current.now db (recorded out (used_by db.records)) code) (sym c.in-Err-Raised.code-is)
+    (not_planned_so g.K.Keep.as_keeper c.args.current.now db out c.in-Err-Raised.code h
+    (subst (λ stop. Answers (Err stop) out) c.in-Err-Raised.field-0-is (c.in-Err-Raised.ensures.answer (lists_of db) h.catalogue_is)))
 
-pub returns : goal.returns
-returns g c = λ db e x h has.
-    carried g.K.Keep.as_keeper c.args.current.now db c.args.e c.args.sessions.now c.args.what.now c.args.text.now h c.requires.text c.keep_outcome.new.current c.apply.new.current _
-    c.in_ok-keep_outcome.ensures.others c.in_ok-apply.ensures.keeper (c.in_ok-keep_outcome.ensures.kept db e x h has)
-    (λ r is. c.in_ok-apply.ensures.applied (lists_of db) h.own_keys (subst (λ k. AreCurrent (lists_of db) k.views) (sym c.in_ok-keep_outcome.ensures.others) h.views_are)
-    (subst (λ k. AreCurrent (lists_of db) k.world.book) (sym c.in_ok-keep_outcome.ensures.others) h.books_are)
-    (ap (λ k. k.world.catalogue) c.in_ok-keep_outcome.ensures.others ∙ h.catalogue_is) r is)
+pub returns-in-Err-NoMemory : goal.returns-in-Err-NoMemory
+returns-in-Err-NoMemory g c = λ db e x h has.
+    stays (g.K.Keep.as_keeper c.args.current.now.world.keeper) (recorded (outcome (lists_of db) c.args.e c.args.sessions.now c.args.what.now c.args.text.now) (used_by db.records)).made

@@ -1,4 +1,4 @@
-use Rattle.std.proofs.Common.{true, false, refl, sym, ap, ◌∙◌}
+use Rattle.std.proofs.Common.{refl, sym, ap, ◌∙◌}
 use Rattle.ebr_check.specs.Verdict.{is_valid}
 use Rattle.ebr_core.specs.Machine.{lists_of, creation_answer}
 use Rattle.ebr_core.proofs.HeldAgain.{viewed}

@@ -3,8 +3,12 @@ use Rattle.ebr_database.specs.Shows.{GaveUp}
 use Rattle.ebr_core.specs.declared.current.Current.{Current}
 use Rattle.ebr_core.specs.Machine.{Reply}
 use Rattle.ebr_core.specs.inside.Held.{Holds, IsReplied}
-use Rattle.ebr_core.proofs.Answering.{tried}
+use Rattle.ebr_core.proofs.Answering.{not_tried, tried}
 use Rattle.ebr_core.proofs.parts.Parts.try_reply.Goals as goal
+
+pub returns-in_err-make_room-clause-reply : goal.returns-in_err-make_room-clause-reply
+returns-in_err-make_room-clause-reply g c = λ db e x h has.
+    not_tried g.K.Keep.as_keeper c.args.self.now.current c.make_room.new.self.current (Reply db c.args.s c.args.ask.now) c.make_room.ensures.current c.from_residual.result c.from_residual.ensures.1
 
 pub returns-in-Ok-clause-reply : goal.returns-in-Ok-clause-reply
 returns-in-Ok-clause-reply g c = λ db e x h has.
