@@ -1,0 +1,13 @@
+mod Examples
+mod RecordLemmas
+mod SessionLemmas
+mod AskLemmas
+mod TableLemmas
+mod AddedLemmas
+mod CatalogueLemmas
+mod DefinedLemmas
+mod OutcomeLemmas
+mod DdlLemmas
+mod ReplyLemmas
+mod HistoryLemmas
+mod FirstLemmas

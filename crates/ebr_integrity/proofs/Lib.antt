@@ -1,0 +1,12 @@
+pub mod ChangeLemmas
+pub mod OrderLemmas
+pub mod DataLemmas
+pub mod NumberLemmas
+pub mod FitLemmas
+pub mod WrittenLemmas
+pub mod UnderLemmas
+pub mod WorksLemmas
+pub mod CommitLemmas
+pub mod BodyLemmas
+pub mod RowsLemmas
+pub mod StatementLemmas
