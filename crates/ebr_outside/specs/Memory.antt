@@ -1,9 +1,12 @@
 -- The outside in memory.
-use Rattle.std.specs.Prelude.{ℕ, List, [], Option, find, option_map, unwrap_or}
+use Rattle.std.specs.Prelude.{ℕ, true, false, List, [], ◌∷◌, ◌++◌, Option, find, option_map, unwrap_or}
 use Rattle.std.specs.Str.{bytes_eq}
 use Rattle.ebr_outside.specs.declared.memory.fail.Fail.{Fail}
 use Rattle.ebr_outside.specs.declared.memory.fail.Calls.{Calls}
 use Rattle.ebr_outside.specs.declared.memory.host.MemFile.{MemFile}
+use Rattle.ebr_outside.specs.declared.host_call.HostCall.{HostCall}
+use Rattle.ebr_outside.specs.declared.host_call.HostMethod.{HostMethod}
+use Rattle.ebr_outside.specs.Calls.{after_call, after_fault, none_made}
 
 -- a source: the bytes that are still to be read, and its calls of `read`
 pub record SourceState : Type 0 where
@@ -15,11 +18,21 @@ pub record SinkState : Type 0 where
   pub held : List ℕ
   pub calls : Calls
 
--- a host: its files, the writes of the next report that fail, and its calls of `source` and `sink`
+-- A host: its files, the writes of the next report that fail, and its calls of `source` and `sink`, as they are counted and as they are
+-- told.
 pub record HostState : Type 0 where
   pub files : List MemFile
   pub report : List Fail
   pub calls : Calls
+  pub made : List HostCall
+
+-- after one more call
+abbrev pub called : HostState → HostMethod → List ℕ → HostState
+called h method word = record h { calls = after_call h.calls; made = h.made ++ record { method = method; word = word; failed = false } ∷ [] }
+
+-- after one more call, which failed
+abbrev pub failed : HostState → HostMethod → List ℕ → HostState
+failed h method word = record h { calls = after_fault h.calls; made = h.made ++ record { method = method; word = word; failed = true } ∷ [] }
 
 -- the first file of a word
 abbrev pub file_of : List MemFile → List ℕ → Option MemFile
@@ -28,6 +41,10 @@ file_of files word = find (λ file. bytes_eq file.word word) files
 -- the bytes behind a word
 abbrev pub bytes_of : List MemFile → List ℕ → Option (List ℕ)
 bytes_of files word = option_map (λ (file : MemFile). file.bytes) (file_of files word)
+
+-- a source of the bytes behind a word, where a file has it
+abbrev pub source_of : List MemFile → List ℕ → Option SourceState
+source_of files word = option_map (λ (file : MemFile). record { left = file.bytes; calls = none_made file.source }) (file_of files word)
 
 -- the writes that fail of a sink that is made for a word: none where no file has it
 abbrev pub failing_writes : List MemFile → List ℕ → List Fail

@@ -2,7 +2,9 @@
 
 ghost use Rattle.std.specs.Prelude.{◌≡◌, ℕ, ◌≤◌, List, [], Option, Some, IfOk, IfSome, IsErrOf};
 ghost use Rattle.ebr_faults.specs.Faults.{Rises};
+ghost use Rattle.ebr_outside.specs.HostCalls.{calls_after};
 ghost use Rattle.ebr_outside.specs.declared.host.HostErr.TheVariants as variants;
+ghost use Rattle.ebr_outside.specs.declared.host_call.HostMethod.TheVariants as method;
 
 use crate::sink::Sink;
 use crate::source::Source;
@@ -30,6 +32,8 @@ impl From<NoMemory> for HostErr {
 
 /// Gives what the words of a command line name.
 pub trait Host {
+    ghost use Rattle.ebr_outside.specs.declared.host_call.HostCall.{HostCall};
+
     type Source: Source;
 
     type Sink: Sink;
@@ -38,6 +42,10 @@ pub trait Host {
 
     /// The bytes behind a word, where the host tells them.
     ghost bytes: { Self → List ℕ → Option (List ℕ) };
+
+    /// The calls of `source` and `sink` in order, each with its word and whether it failed, where the host tells them. One that
+    /// found no memory isn't among them.
+    ghost calls: { Self → Option (List HostCall) };
 
     /// How many of the host's own calls have failed. It never falls, and stands still at its end,
     /// 2^64 - 1.
@@ -52,6 +60,7 @@ pub trait Host {
             IfSome (bytes self.old word.now) (λ b. Self.Source.left s ≡ Some b)) }
         ensures fresh { IfOk result (λ s. Self.Source.faults s ≡ 0) }
         ensures same { (w : List ℕ) → bytes self.new w ≡ bytes self.old w }
+        ensures called { calls self.new ≡ calls_after (calls self.old) method.Source word.now result }
         ensures counted { faults self.old ≤ faults self.new }
         ensures failed { IsErrOf result HostErr.Failed
             → Rises (faults self.old) (faults self.new) };
@@ -64,6 +73,7 @@ pub trait Host {
         ensures empty { IfOk result (λ s. IfSome (Self.Sink.held s) (λ h. h ≡ [])) }
         ensures fresh { IfOk result (λ s. Self.Sink.faults s ≡ 0) }
         ensures same { (w : List ℕ) → bytes self.new w ≡ bytes self.old w }
+        ensures called { calls self.new ≡ calls_after (calls self.old) method.Sink word.now result }
         ensures counted { faults self.old ≤ faults self.new }
         ensures failed { IsErrOf result HostErr.Failed
             → Rises (faults self.old) (faults self.new) };
@@ -73,5 +83,6 @@ pub trait Host {
         ensures empty { IfSome (Self.Report.held result) (λ h. h ≡ []) }
         ensures fresh { Self.Report.faults result ≡ 0 }
         ensures same { (w : List ℕ) → bytes self.new w ≡ bytes self.old w }
+        ensures uncalled { calls self.new ≡ calls self.old }
         ensures counted { faults self.old ≤ faults self.new };
 }

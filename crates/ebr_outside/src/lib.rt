@@ -2,7 +2,8 @@
 //! that are files and the standard output.
 //!
 //! The crates above use the contracts of the traits `Host`, `Source` and `Sink`: a failure comes only where the
-//! object's count of faults rose, and what a host, source or sink that tells its bytes gave or took is known.
+//! object's count of faults rose, what a host, source or sink that tells its bytes gave or took is known, and so are the calls
+//! of a host that tells them.
 //!
 //! What files, the standard output and the words of the command line do is only tested, in `ebr_leaftests`.
 #![tactic(auto)]
@@ -10,6 +11,7 @@
 mod command_line;
 mod files;
 mod host;
+mod host_call;
 mod memory;
 mod sink;
 mod source;
@@ -17,6 +19,7 @@ mod source;
 pub use command_line::words;
 pub use files::{FileHost, FileSink, FileSource, OutSink};
 pub use host::{Host, HostErr};
+pub use host_call::{HostCall, HostMethod};
 pub use memory::{Fail, MemFile, MemHost, MemSink, MemSource};
 pub use sink::Sink;
 pub use source::{Failed, Source};

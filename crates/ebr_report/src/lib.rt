@@ -2,7 +2,7 @@
 //! takes no memory.
 //!
 //! What is used above: `offer`, which writes bytes from a place on, `write_line`, and `write_summary`. Each says what the sink
-//! holds then, and that a write failed only where the sink's count of faults rose. Nothing of it is only tested.
+//! holds then, and that the sink's count of faults is one more exactly where a write failed. Nothing of it is only tested.
 #![tactic(auto)]
 
 mod ends;

@@ -1,9 +1,8 @@
 //! The summary of a run.
 
-ghost use Rattle.std.specs.Prelude.{◌≡◌, ◌≤◌};
-ghost use Rattle.std.specs.Bool.{OnTrue, OnFalse};
-ghost use Rattle.ebr_faults.specs.Faults.{Rises};
-ghost use Rattle.ebr_outside.specs.Sink.{appended};
+ghost use Rattle.std.specs.Prelude.{◌≡◌};
+ghost use Rattle.std.specs.Bool.{OnTrue};
+ghost use Rattle.ebr_outside.specs.Sink.{appended, faults_after};
 ghost use Rattle.ebr_report.specs.Lines.{AddsPart};
 ghost use Rattle.ebr_report.specs.Summary as spec;
 ghost use Rattle.ebr_report.specs.Summary.{Summary, counted, summary_line};
@@ -16,8 +15,7 @@ use ebr_outside::Sink;
 pub fn write_summary<R: Sink, S>(sink: &mut R, ends: &[SessionEnd<S>]) -> bool
     ensures part { AddsPart (R.held sink.old) (R.held sink.new) (Summary ends.now) }
     ensures whole { OnTrue result (R.held sink.new ≡ appended (R.held sink.old) (Summary ends.now)) }
-    ensures counted { R.faults sink.old ≤ R.faults sink.new }
-    ensures failed { OnFalse result (Rises (R.faults sink.old) (R.faults sink.new)) }
+    ensures counted { R.faults sink.new ≡ faults_after result (R.faults sink.old) }
 {
     for end in ends {
         if !write_end(sink, end) {
@@ -32,8 +30,7 @@ pub fn write_summary<R: Sink, S>(sink: &mut R, ends: &[SessionEnd<S>]) -> bool
 fn write_end<R: Sink, S>(sink: &mut R, end: &SessionEnd<S>) -> bool
     ensures part { AddsPart (R.held sink.old) (R.held sink.new) (summary_line end.now) }
     ensures whole { OnTrue result (R.held sink.new ≡ appended (R.held sink.old) (summary_line end.now)) }
-    ensures counted { R.faults sink.old ≤ R.faults sink.new }
-    ensures failed { OnFalse result (Rises (R.faults sink.old) (R.faults sink.new)) }
+    ensures counted { R.faults sink.new ≡ faults_after result (R.faults sink.old) }
 {
     if !write_counted(sink, b"session ", end.session.0) {
         return false;
@@ -51,8 +48,7 @@ fn write_end<R: Sink, S>(sink: &mut R, end: &SessionEnd<S>) -> bool
 fn write_counted<R: Sink>(sink: &mut R, text: &[u8], number: u32) -> bool
     ensures part { AddsPart (R.held sink.old) (R.held sink.new) (counted text.now number) }
     ensures whole { OnTrue result (R.held sink.new ≡ appended (R.held sink.old) (counted text.now number)) }
-    ensures counted { R.faults sink.old ≤ R.faults sink.new }
-    ensures failed { OnFalse result (Rises (R.faults sink.old) (R.faults sink.new)) }
+    ensures counted { R.faults sink.new ≡ faults_after result (R.faults sink.old) }
 {
     if !write_text(sink, text) {
         return false;

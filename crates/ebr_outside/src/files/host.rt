@@ -12,7 +12,7 @@ use std::fs::File;
 use std::io::{self, ErrorKind};
 use std::marker::Model;
 
-/// Opens and makes the files of the system, and reports to the standard output. It tells no bytes:
+/// Opens and makes the files of the system, and reports to the standard output. It tells no bytes and no calls:
 /// what files there are, and what they hold, is not claimed.
 #[derive(Drop)]
 pub struct FileHost {
@@ -55,6 +55,8 @@ impl Host for FileHost {
     ghost use Rattle.ebr_outside.specs.Files.{no_faults, one_fault_more};
 
     ghost bytes = { λ h w. None };
+
+    ghost calls = { λ h. None };
 
     ghost faults = { λ h. h.faults };
 

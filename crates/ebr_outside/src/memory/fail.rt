@@ -1,6 +1,6 @@
 //! Which calls fail, and how many did.
 
-ghost use Rattle.std.specs.Prelude.{◌≡◌, ◌↔◌, IsTrue, IsErr, OnOk, OnErr};
+ghost use Rattle.std.specs.Prelude.{◌≡◌, ◌↔◌, IsTrue, IsErr, OnOk, OnErr, if◌then◌else◌};
 ghost use Rattle.ebr_faults.specs.Faults.{one_more};
 ghost use Rattle.ebr_outside.specs.Calls.{names, is_named, fails_next, after_call, after_fault, none_made};
 
@@ -66,12 +66,30 @@ impl Calls {
         ensures ok { OnOk result (self.new ≡ after_call self.old) }
         ensures err { OnErr result (self.new ≡ after_fault self.old) }
     {
+        let failed = self.fails_next();
         self.made = one_more(self.made);
-        if is_named(self.failing.as_slice(), self.made) {
+        if failed {
             self.count_fault();
             return Err(Failed);
         }
         Ok(())
+    }
+
+    /// Whether the next call is named.
+    pub fn fails_next(&self) -> bool
+        ensures { result ≡ fails_next self.now }
+    {
+        is_named(self.failing.as_slice(), one_more(self.made))
+    }
+
+    /// Counts a call that was made.
+    pub fn count(&mut self, failed: bool)
+        ensures { self.new ≡ if failed then after_fault self.old else after_call self.old }
+    {
+        self.made = one_more(self.made);
+        if failed {
+            self.count_fault();
+        }
     }
 
     /// Counts a fault of the call that was begun last.

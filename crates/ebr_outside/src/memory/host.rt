@@ -1,10 +1,12 @@
 //! A host in memory.
 
-ghost use Rattle.std.specs.Prelude.{◌≡◌, [], ◌↔◌, ◌⊎◌, IsTrue, IsErrOf, IsNone, IsSomeAnd, IfOk, OnOk};
+ghost use Rattle.std.specs.Prelude.{◌≡◌, [], false, ◌⊎◌, IsTrue, IsErr, IsErrOf, IsNone, IsSomeAnd, IfOk, OnOk, Some};
 ghost use Rattle.std.specs.Option.{option_copied};
-ghost use Rattle.ebr_outside.specs.Memory.{failing_writes, file_of};
+ghost use Rattle.ebr_outside.specs.Memory.{failing_writes, file_of, source_of};
+ghost use Rattle.ebr_outside.specs.declared.host_call.HostMethod.TheVariants as method;
 
 use crate::host::{Host, HostErr};
+use crate::host_call::{HostCall, HostMethod};
 use crate::memory::fail::{Calls, Fail};
 use crate::memory::sink::MemSink;
 use crate::memory::source::MemSource;
@@ -31,6 +33,7 @@ pub struct MemHost {
     files: List<MemFile>,
     report: List<Fail>,
     calls: Calls,
+    made: List<HostCall>,
 }
 
 impl Model for MemHost {
@@ -38,11 +41,12 @@ impl Model for MemHost {
 
     ghost Value = { HostState };
 
-    ghost view = { λ h. record { files = h.files; report = h.report; calls = h.calls } };
+    ghost view = { λ h. record { files = h.files; report = h.report; calls = h.calls; made = h.made } };
 }
 
 impl MemHost {
-    ghost use Rattle.ebr_outside.specs.Calls.{none_made};
+    ghost use Rattle.ebr_outside.specs.Calls.{fails_next, none_made};
+    ghost use Rattle.ebr_outside.specs.Memory.{called, failed};
 
     /// A host of these files. The calls of `source` and `sink`, counted together, that `failing` names
     /// fail, and of its first report the writes that `report` names.
@@ -52,14 +56,45 @@ impl MemHost {
         report: List<Fail>,
         failing: List<Fail>,
     ) -> MemHost
-        ensures { result ≡ record { files = files; report = report; calls = none_made failing } }
+        ensures { result ≡ record { files = files; report = report; calls = none_made failing; made = [] } }
     {
         MemHost {
             alloc,
             files,
             report,
             calls: Calls::new(failing),
+            made: List::new(alloc),
         }
+    }
+
+    /// The calls of `source` and `sink` in order, but for those that found no memory.
+    pub fn calls(&self) -> &[HostCall]
+        ensures { result.now ≡ self.now.made }
+    {
+        self.made.as_slice()
+    }
+
+    /// Makes a call: it is counted and told, and fails where it is named, and where `there` is false.
+    fn call(&mut self, method: HostMethod, word: &Bytes, there: bool) -> Result<(), HostErr>
+        ensures named { IsTrue (fails_next self.old.calls) → IsErr result }
+        ensures there { there ≡ false → IsErr result }
+        ensures fails { IsErrOf result HostErr.Failed → IsTrue (fails_next self.old.calls) ⊎ (there ≡ false) }
+        ensures ok { OnOk result (self.new ≡ called self.old method word.now) }
+        ensures failed { IsErrOf result HostErr.Failed → self.new ≡ failed self.old method word.now }
+        ensures no_memory { IsErrOf result HostErr.NoMemory → self.new ≡ self.old }
+    {
+        let failed = !there || self.calls.fails_next();
+        let word = word.clone_in(self.alloc)?;
+        self.made.push(HostCall {
+            method,
+            word,
+            failed,
+        })?;
+        self.calls.count(failed);
+        if failed {
+            return Err(HostErr::Failed);
+        }
+        Ok(())
     }
 }
 
@@ -70,60 +105,55 @@ impl Host for MemHost {
 
     type Report = MemSink;
 
-    ghost use Rattle.ebr_outside.specs.Calls.{fails_next, after_call, after_fault, none_made};
-    ghost use Rattle.ebr_outside.specs.Memory.{bytes_of, failing_writes};
+    ghost use Rattle.ebr_outside.specs.Calls.{fails_next, none_made};
+    ghost use Rattle.ebr_outside.specs.Memory.{bytes_of, called, failed, failing_writes};
 
     ghost bytes = { λ h w. bytes_of h.files w };
 
+    ghost calls = { λ h. Some h.made };
+
     ghost faults = { λ h. h.calls.faults };
 
-    /// A source of the bytes behind a word. `Failed` comes exactly where this call is named or no
-    /// file has the word.
+    /// A source of the bytes behind a word. `Failed` comes where this call is named or no file has the word.
     fn source(&mut self, word: &Bytes) -> Result<MemSource, HostErr>
+        ensures named { IsTrue (fails_next self.old.calls) → IsErr result }
         ensures fails { IsErrOf result HostErr.Failed
-            ↔ (IsTrue (fails_next self.old.calls) ⊎ IsNone (file_of self.old.files word.now)) }
+            → IsTrue (fails_next self.old.calls) ⊎ IsNone (file_of self.old.files word.now) }
         ensures made { IfOk result (λ s. IsSomeAnd (file_of self.old.files word.now)
             (λ file. s ≡ record { left = file.bytes; calls = none_made file.source })) }
 
         // What becomes of the host.
-        ensures ok { OnOk result
-            (self.new ≡ record self.old { calls = after_call self.old.calls }) }
-        ensures failed { IsErrOf result HostErr.Failed
-            → self.new ≡ record self.old { calls = after_fault self.old.calls } }
-        ensures no_memory { IsErrOf result HostErr.NoMemory
-            → self.new ≡ record self.old { calls = after_call self.old.calls } }
+        ensures ok { OnOk result (self.new ≡ called self.old method.Source word.now) }
+        ensures failed { IsErrOf result HostErr.Failed → self.new ≡ failed self.old method.Source word.now }
+        ensures no_memory { IsErrOf result HostErr.NoMemory → self.new ≡ self.old }
     {
-        if self.calls.begin().is_err() {
-            return Err(HostErr::Failed);
+        match source_of(self.alloc, self.files.as_slice(), word.as_slice())? {
+            Some(source) => {
+                self.call(HostMethod::Source, word, true)?;
+                Ok(source)
+            }
+            None => {
+                self.call(HostMethod::Source, word, false)?;
+                Err(HostErr::Failed)
+            }
         }
-        let Some(file) = file_of(self.files.as_slice(), word.as_slice()) else {
-            self.calls.count_fault();
-            return Err(HostErr::Failed);
-        };
-        let bytes = file.bytes.clone_in(self.alloc)?;
-        let failing = file.source.clone_in(self.alloc)?;
-        Ok(MemSource::new(bytes, failing))
     }
 
     /// An empty sink, which fails at the writes that the first file of the word names, and at none where
-    /// no file has the word. `Failed` comes exactly where this call is named.
+    /// no file has the word. `Failed` comes only where this call is named.
     fn sink(&mut self, word: &Bytes) -> Result<MemSink, HostErr>
-        ensures fails { IsErrOf result HostErr.Failed ↔ IsTrue (fails_next self.old.calls) }
+        ensures named { IsTrue (fails_next self.old.calls) → IsErr result }
+        ensures fails { IsErrOf result HostErr.Failed → IsTrue (fails_next self.old.calls) }
         ensures made { IfOk result (λ s.
             s ≡ record { held = []; calls = none_made (failing_writes self.old.files word.now) }) }
 
         // What becomes of the host.
-        ensures ok { OnOk result
-            (self.new ≡ record self.old { calls = after_call self.old.calls }) }
-        ensures failed { IsErrOf result HostErr.Failed
-            → self.new ≡ record self.old { calls = after_fault self.old.calls } }
-        ensures no_memory { IsErrOf result HostErr.NoMemory
-            → self.new ≡ record self.old { calls = after_call self.old.calls } }
+        ensures ok { OnOk result (self.new ≡ called self.old method.Sink word.now) }
+        ensures failed { IsErrOf result HostErr.Failed → self.new ≡ failed self.old method.Sink word.now }
+        ensures no_memory { IsErrOf result HostErr.NoMemory → self.new ≡ self.old }
     {
-        if self.calls.begin().is_err() {
-            return Err(HostErr::Failed);
-        }
         let failing = failing_writes(self.alloc, self.files.as_slice(), word.as_slice())?;
+        self.call(HostMethod::Sink, word, true)?;
         Ok(MemSink::new(self.alloc, failing))
     }
 
@@ -143,6 +173,20 @@ fn file_of<'a>(files: &'a [MemFile], word: &[u8]) -> Option<&'a MemFile>
     ensures { option_copied result ≡ file_of files.now word.now }
 {
     files.iter().find(|file| file.word.as_slice() == word)
+}
+
+/// A source of the bytes behind a word, where a file has it.
+fn source_of(alloc: Global, files: &[MemFile], word: &[u8]) -> Result<Option<MemSource>, NoMemory>
+    ensures { IfOk result (λ source. source ≡ source_of files.now word.now) }
+{
+    match file_of(files, word) {
+        Some(file) => {
+            let bytes = file.bytes.clone_in(alloc)?;
+            let failing = file.source.clone_in(alloc)?;
+            Ok(Some(MemSource::new(bytes, failing)))
+        }
+        None => Ok(None),
+    }
 }
 
 /// Which writes fail of a sink that is made for a word.

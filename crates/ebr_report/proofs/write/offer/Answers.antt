@@ -1,4 +1,4 @@
-use Rattle.std.proofs.Common.{arith}
+use Rattle.std.proofs.Common.{arith, ◌∙◌}
 use Rattle.ebr_report.proofs.Additions.{held_on}
 use Rattle.ebr_report.proofs.write.offer.Goals as goal
 
@@ -7,5 +7,5 @@ loop-at-preserved g c = record {
   onward = omega arith;
   within = omega (arith, c.in-Ok.ensures.some);
   held = held_on _ _ _ _ _ _ _ c.loop-at.invariant.onward c.loop-at.invariant.held c.in-Ok.ensures.grown;
-  counted = omega arith;
+  counted = c.in-Ok.ensures.counted ∙ c.loop-at.invariant.counted;
 }
