@@ -98,8 +98,7 @@ impl<B: CodeBook + Drop> Session<B> {
     }
 
     /// Goes on to the next ask, and says it, with room for its answer. Where an ask is out it says that one again. A session
-    /// that has quit asks Leave, and that takes no memory; one that has ended says so. One that found no memory finds none
-    /// again, until it quits.
+    /// that has quit asks Leave, and that takes no memory; one that has ended says so. Want of memory leaves it where it stood.
     pub fn advance(&mut self) -> Result<NextAsk, NoMemory>
         ensures advances { Advances result self.old self.new }
         ensures follows { Follows self.new }
@@ -192,7 +191,7 @@ impl<B: CodeBook + Drop> Session<B> {
         }
     }
 
-    /// Whether it has ended. Then it asks nothing more, and all that it printed is there.
+    /// Whether it has ended. Then it asks nothing more, and unless it has quit, all that its run prints is there.
     pub fn has_ended(&self) -> bool
         ensures ended { result ≡ self.now.ended }
         ensures follows { Follows self.now }

@@ -1,5 +1,5 @@
 -- What a session came to, by its worker.
-use Rattle.std.proofs.Common.{ℕ, ◌≡◌, ◌<◌, List, [], ◌∷◌, length, Option, Some, None, refl, sym, ◌∙◌, ap, subst}
+use Rattle.std.proofs.Common.{ℕ, ◌≡◌, List, [], ◌∷◌, length, Option, Some, None, refl, sym, ◌∙◌, ap, subst}
 use Rattle.std.specs.Prelude.{IfSome, map, cond, ◌+◌}
 use Rattle.std.specs.List.{count_by, fold}
 use Rattle.std.proofs.lemmas.List.{length-map}
@@ -10,7 +10,7 @@ use Rattle.ebr_asks.specs.declared.entry.Exchange.{Exchange}
 use Rattle.ebr_core.specs.Engine.{EngineState}
 use Rattle.ebr_core.specs.History.{Mine}
 use Rattle.ebr_worker.specs.Matches.{as_recorded}
-use Rattle.ebr_worker.specs.Ends.{Came, IsEnd, is_refused}
+use Rattle.ebr_worker.specs.Ends.{Came, IsEnd, failed_writes, is_refused}
 use Rattle.ebr_worker.specs.Work.{IsEndOf, Over, Work}
 
 -- one more, where the ask was refused
@@ -35,9 +35,9 @@ module _ {S K : Type 0} (held : S → Option (List ℕ)) (faults : S → ℕ) (w
   mine_is : Mine e.history s ≡ map as_recorded w.session.transcript
   mine_is = ap (Mine e.history) (sym number) ∙ over.seated.matches
 
-  in_sink : (sink : Option S) → IfSome sink (λ t. faults t ≡ w.faults) → 0 < w.faults → IfSome sink (λ t. 0 < faults t)
-  in_sink None counted failed = tt
-  in_sink (Some t) counted failed = subst (λ n. 0 < n) (sym counted) failed
+  in_sink : (sink : Option S) → IfSome sink (λ t. faults t ≡ w.faults) → IfSome sink (λ t. faults t ≡ failed_writes x.end)
+  in_sink None counted = tt
+  in_sink (Some t) counted = counted ∙ over.failed ∙ ap failed_writes (sym end_is)
 
   pub is_end : IsEnd held faults e.history script s x
   is_end = record {
@@ -50,5 +50,5 @@ module _ {S K : Type 0} (held : S → Option (List ℕ)) (faults : S → ℕ) (w
           (subst (λ t. Came k t (Mine e.history s) w.written) script_is (subst (λ r. Came k w.session.script (Mine e.history r) w.written) number over.came));
     };
     holds = came_to.holds;
-    failed = λ is. in_sink x.sink came_to.counted (over.failed (sym end_is ∙ is));
+    failed = in_sink x.sink came_to.counted;
   }

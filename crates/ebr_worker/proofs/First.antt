@@ -1,5 +1,5 @@
 -- The sessions of an empty database live.
-use Rattle.std.proofs.Common.{ℕ, zero, suc, ◌≡◌, ◌<◌, ◌≤◌, [], Some, arith, refl, sym, subst}
+use Rattle.std.proofs.Common.{ℕ, zero, suc, ◌≡◌, ◌<◌, ◌≤◌, [], length, Some, arith, refl, sym, subst}
 use Rattle.std.specs.Prelude.{IsSome, replicate, slice_get}
 use Rattle.ebr_base.specs.declared.numbers.SessionId.{SessionId}
 use Rattle.ebr_database.specs.Database.{Session, session_at}
@@ -17,6 +17,6 @@ lives : (x : Session) (n m : ℕ) → IsSome x.edition → 1 ≤ m → m ≤ n �
 lives x n zero edition first last = absurd (omega (arith, first))
 lives x n (suc k) edition first last = subst (λ o. IsSome (edition_of o)) (sym (nth x n k (omega (arith, last)))) edition
 
-pub first_live : {K : Type 0} (e : EngineState K) (s : SessionId) → e.history ≡ [] → IsSession e.sessions s → IsLive (database_of e) s
+pub first_live : {K : Type 0} (e : EngineState K) (s : SessionId) → e.history ≡ [] → IsSession (length e.books) s → IsLive (database_of e) s
 first_live e s none is_session =
-    subst (λ h. IsLive (After (Build [] e.sessions) h) s) (sym none) (lives _ e.sessions s.0 refl is_session.first is_session.last)
+    subst (λ h. IsLive (After (Build e.recovered (length e.books)) h) s) (sym none) (lives _ (length e.books) s.0 refl is_session.first is_session.last)

@@ -1,13 +1,12 @@
 -- What a worker's fields say of its work.
-use Rattle.std.proofs.Common.{ℕ, ◌≡◌, ◌+◌, ◌-◌, ◌≤◌, Bool, true, false, List, ◌++◌, length, take, drop, Option, Some, None, arith, refl, sym, ◌∙◌, ap, subst}
+use Rattle.std.proofs.Common.{ℕ, ◌≡◌, ◌+◌, ◌-◌, ◌≤◌, ◌<◌, ◌==◌, Bool, true, false, List, ◌++◌, length, take, drop, Option, Some, None, arith, refl, sym, ◌∙◌, ap, subst}
 use Rattle.std.specs.Prelude.{IfSome, if◌then◌else◌}
-use Rattle.std.specs.Bool.{OnTrue, OnFalse}
+use Rattle.std.specs.Bool.{OnTrue}
 use Rattle.std.proofs.Math.Seq.{take-add}
 use Rattle.std.proofs.lemmas.List.{take-append-drop, take_all}
 use Rattle.ebr_base.specs.declared.numbers.SessionId.{SessionId}
 use Rattle.ebr_ast.specs.declared.view.EditionView.{EditionView}
-use Rattle.ebr_faults.specs.Faults.{Rises}
-use Rattle.ebr_outside.specs.Sink.{appended}
+use Rattle.ebr_outside.specs.Sink.{appended, faults_after}
 use Rattle.ebr_asks.specs.declared.ask.Ask.{Ask}
 use Rattle.ebr_asks.specs.declared.answer.Answer.{Answer}
 use Rattle.ebr_session.specs.Has.{Follows, Progress, answered, ends, quitting}
@@ -31,18 +30,29 @@ held_written p q n m (Some bytes) held' same onward was now =
     ap (λ xs. xs ++ take (m - n) (drop n q)) was ∙ ap (λ xs. take n p ++ take (m - n) (drop n xs)) same ∙ sym (take-add n (m - n) p) ∙ ap (λ k. take k p) at in
     subst (λ h. IfSome h (λ bytes. bytes ≡ take m p)) (sym now) whole
 
+-- the count of faults by whether all was taken
+pub counted_short : (p q : List ℕ) (m faults faults' : ℕ) → q ≡ p → m < length q → faults' ≡ faults_after (m == length q) faults → faults' ≡ faults_after false faults
+counted_short p q m faults faults' same less is =
+    let short : (m == length q) ≡ false = search (arith, less) in
+    is ∙ ap (λ b. faults_after b faults) short
+
+pub counted_whole : (p q : List ℕ) (m faults faults' : ℕ) → q ≡ p → m ≤ length q → length p ≤ m → faults' ≡ faults_after (m == length q) faults → faults' ≡ faults_after true faults
+counted_whole p q m faults faults' same within whole is =
+    let place : m ≡ length q = omega (arith, within, whole, ap length same) in
+    let all : (m == length q) ≡ true = search (arith, place) in
+    is ∙ ap (λ b. faults_after b faults) all
+
 -- More bytes were written.
-pub flushed : (all : Bool) (o : Work) (s : Progress) (n m : ℕ) (held held' : Option (List ℕ)) (faults faults' : ℕ) (end : Option EndKind) → work s n held faults end ≡ o → n ≤ m → faults ≤ faults'
-    → OnTrue all (length s.printed ≤ m) → OnFalse all (Rises faults faults') → Flushed all o (work s m held' faults' end)
-flushed all o s n m held held' faults faults' end view onward counted whole failed =
+pub flushed : (all : Bool) (o : Work) (s : Progress) (n m : ℕ) (held held' : Option (List ℕ)) (faults faults' : ℕ) (end : Option EndKind) → work s n held faults end ≡ o → n ≤ m
+    → OnTrue all (length s.printed ≤ m) → faults' ≡ faults_after all faults → Flushed all o (work s m held' faults' end)
+flushed all o s n m held held' faults faults' end view onward whole counted =
     let at : n + (m - n) ≡ m = omega (arith, onward) in
     let did : Flushed all (work s n held faults end) (work s m held' faults' end) = record {
       session = refl;
       grown = record { rest = take (m - n) (drop n s.printed); whole = ap (λ k. take k s.printed) (sym at) ∙ take-add n (m - n) s.printed };
       part = record { rest = drop m s.printed; whole = sym (take-append-drop m s.printed) };
-      counted = counted;
       whole = all_of all whole;
-      failed = failed;
+      counted = counted;
     } in
     subst (λ x. Flushed all x (work s m held' faults' end)) view did
   where

@@ -50,6 +50,7 @@ module _ {K : Type 0} (as_keeper : K → Keeper) (s : SessionId) (x : Entry) (w 
     not_over = same_over ∙ works.not_over;
     few = works.few;
     written = works.written;
+    unfailed = works.unfailed;
     live = adds.others w.session.session other works.live;
   }
   by_end (Some k) over = record {
@@ -198,15 +199,15 @@ module _ {K : Type 0} (as_keeper : K → Keeper) (order left : List SessionId) (
         all_stand = all_turned as_keeper at ws ws' e e' all did;
         scripts = scripts_turned as_keeper at ws ws' e e' all did ∙ so_far.scripts;
         books = books ∙ so_far.books;
-        sessions = sessions_by did.before.end did.turned.makes ∙ so_far.sessions;
+        recovered = recovered_by did.before.end did.turned.makes ∙ so_far.recovered;
         paced = subst (λ n. (rest : List Entry) → Turns n left' e'.history rest → Turns n order [] (e'.history ++ rest)) (sym books) paced';
         counted = counted_by did.before.end did.turned.makes so_far.counted;
         faultless = faultless_by did.before.end did.turned.makes so_far.counted so_far.faultless;
       }
     where
-      sessions_by : (k : Option EndKind) → Makes as_keeper k did.before did.after e e' → e'.sessions ≡ e.sessions
-      sessions_by None (x, adds) = adds.sessions
-      sessions_by (Some k) (same, is) = ap (λ (f : EngineState K). f.sessions) is
+      recovered_by : (k : Option EndKind) → Makes as_keeper k did.before did.after e e' → e'.recovered ≡ e.recovered
+      recovered_by None (x, adds) = adds.recovered
+      recovered_by (Some k) (same, is) = ap (λ (f : EngineState K). f.recovered) is
 
       counted_by : (k : Option EndKind) → Makes as_keeper k did.before did.after e e' → (as_keeper first.keeper).faults ≤ (as_keeper e.keeper).faults → (as_keeper first.keeper).faults ≤ (as_keeper e'.keeper).faults
       counted_by None (x, adds) grown = omega (arith, grown, adds.counted)
@@ -363,7 +364,7 @@ begins as_keeper order ws e all empty = record {
   all_stand = all;
   scripts = refl;
   books = refl;
-  sessions = refl;
+  recovered = refl;
   paced = subst (λ h. (rest : List Entry) → Turns (length e.books) order h rest → Turns (length e.books) order [] (h ++ rest)) (sym empty) (λ rest turns. turns);
   counted = omega arith;
   faultless = λ is. absurd (no_entry (ap has_fault (sym empty) ∙ is));

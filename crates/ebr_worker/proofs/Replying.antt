@@ -14,7 +14,8 @@ use Rattle.ebr_units.specs.Served.{served}
 use Rattle.ebr_session.specs.Has as session
 use Rattle.ebr_session.specs.Has.{Suits}
 use Rattle.ebr_core.specs.Asked as core
-use Rattle.ebr_core.specs.Machine.{Reply}
+use Rattle.ebr_core.specs.Machine.{Build, Reply}
+use Rattle.ebr_core.specs.History.{After, IsLive}
 use Rattle.ebr_core.specs.Engine.{AnswersAsk, EngineState, Gives, HasBook, IsAnswer, book_at, database_of, entry_of, has_given_up, with_book}
 use Rattle.ebr_worker.specs.Ends.{AnswersLeave}
 use Rattle.ebr_worker.specs.Paced.{IsSession}
@@ -95,21 +96,25 @@ module _ {K : Type 0} (as_keeper : K → Keeper) (old mid : EngineState K) (s : 
   book_is : book_at mid.books s.0 ≡ did.book
   book_is = ap (λ books. book_at books s.0) did.books ∙ book_taken old.books s.0 did.book seat.first seat.last
 
+  -- the database stays where a book is taken
+  taken : database_of (record mid { books = with_book mid.books s.0 None }) ≡ database_of mid
+  taken = ap (λ n. After (Build mid.recovered n) mid.history) (books_length mid.books s.0 None)
+
   replies_taken : Replies as_keeper old (record mid { books = with_book mid.books s.0 None }) s q x (book_at mid.books s.0)
   replies_taken = record {
     adds = record {
       is = did.entry;
       of = entry_of_session s q x;
-      sessions = did.sessions;
+      recovered = did.recovered;
       books = books_length mid.books s.0 None ∙ ap length did.books ∙ books_length old.books s.0 did.book;
-      others = did.others;
+      others = λ r differ is. subst (λ db. IsLive db r) (sym taken) (did.others r differ is);
       counted = counted_by as_keeper (has_given_up old.history) old.keeper mid.keeper x (Reply (database_of old) s q) did.gives;
       fault = λ is. fault_by as_keeper (has_given_up old.history) old.keeper mid.keeper x (Reply (database_of old) s q) did.gives (sym (entry_of_answer s q x) ∙ is);
       stopped = λ is. stopped_by as_keeper (has_given_up old.history) old.keeper mid.keeper x (Reply (database_of old) s q) did.gives (sym (entry_of_answer s q x) ∙ is);
     };
     suits = suits x _ (subst (HasBook x) (sym book_is) did.has_book);
     leaves = λ is. leaves_by as_keeper (has_given_up old.history) old.keeper mid.keeper x (Reply (database_of old) s q) did.gives (did.leaves is);
-    stays = did.stays;
+    stays = λ going staying. subst (λ db. IsLive db s) (sym taken) (did.stays going staying);
   }
 
   pub replies : (new : EngineState K) (book : Option EditionView) → new ≡ record mid { books = with_book mid.books s.0 None } → book ≡ book_at mid.books s.0 → Replies as_keeper old new s q x book

@@ -11,7 +11,7 @@ use Rattle.ebr_asks.specs.declared.answer.Answer.TheVariants as answer
 use Rattle.ebr_asks.specs.declared.entry.Entry.{Entry}
 use Rattle.ebr_record.specs.Keeper.{Keeper}
 use Rattle.ebr_session.specs.Has.{Follows, Progress, begun, ends}
-use Rattle.ebr_core.specs.Engine.{EngineState, has_given_up, is_last, no_books}
+use Rattle.ebr_core.specs.Engine.{EngineState, HasLegalHistory, has_given_up, is_last, no_books}
 use Rattle.ebr_core.specs.History.{Legal}
 use Rattle.ebr_core.specs.Machine.{Build}
 use Rattle.ebr_worker.specs.Matches.{has_fault, has_stop, is_stop}
@@ -22,7 +22,7 @@ use Rattle.ebr_worker.specs.Work.{Adds, IsEndOf, Makes, StandsBy, Turned, Work, 
 use Rattle.ebr_worker.specs.inside.Rehearsal.{EndsAt, IsEndAt, RunsAlone}
 use Rattle.ebr_worker.proofs.Histories.{over_more}
 use Rattle.ebr_worker.proofs.Rehearsing.{faultless_more}
-use Rattle.ebr_worker.proofs.Running.{begun_so, books_count, end_at, no_fault, works_first}
+use Rattle.ebr_worker.proofs.Running.{begun_so, books_count, end_at, first_history, no_fault, works_first}
 
 -- ---- the history
 
@@ -87,7 +87,8 @@ module _ {K : Type 0} (as_keeper : K → Keeper) (w0 w w' : Work) (first e e' : 
     stands = did.stands;
     session = did.session ∙ so_far.session;
     script = did.script ∙ so_far.script;
-    sessions = adds.sessions ∙ so_far.sessions;
+    recovered = adds.recovered ∙ so_far.recovered;
+    books = adds.books ∙ so_far.books;
     counted = omega (arith, so_far.counted, adds.counted);
     faultless = faultless_more as_keeper w.session.session x first e e' adds so_far.counted so_far.faultless;
     no_stop = ap has_stop adds.is ∙ stop_more e.history x so_far.no_stop (not_stopped x adds);
@@ -104,7 +105,8 @@ alone_first as_keeper w e works runs none = record {
   stands = subst (λ o. StandsBy o w e) (sym runs) works;
   session = refl;
   script = refl;
-  sessions = refl;
+  recovered = refl;
+  books = refl;
   counted = omega arith;
   faultless = λ is. absurd (both (has_fault e.history) (ap has_fault none) is);
   no_stop = ap has_stop none;
@@ -112,13 +114,12 @@ alone_first as_keeper w e works runs none = record {
 }
 
 -- The one worker works over the engine of one session.
-pub works_alone : {K : Type 0} (e : EngineState K) (k : K) (w : Work) (s : Progress) (script : List ℕ) → e ≡ record { history = []; sessions = 1; books = no_books 1; keeper = k } → s ≡ begun (record { 0 = 1 }) script → Follows s
-    → w.session ≡ s → w.written ≡ [] → w.end ≡ None → Works w e
-works_alone {K} e k w s script is begins f session written no_end =
-    let one : e.sessions ≡ 1 = ap (λ (g : EngineState K). g.sessions) is in
+pub works_alone : {K : Type 0} (e : EngineState K) (k : K) (w : Work) (s : Progress) (script : List ℕ) → e ≡ record { history = []; recovered = []; books = no_books 1; keeper = k } → s ≡ begun (record { 0 = 1 }) script → Follows s
+    → w.session ≡ s → w.written ≡ [] → w.faults ≡ 0 → w.end ≡ None → Works w e
+works_alone {K} e k w s script is begins f session written unfailed no_end =
     let count : length e.books ≡ 1 = ap (λ (g : EngineState K). length g.books) is ∙ books_count 1 in
-    works_first e (ap (λ (g : EngineState K). g.history) is) 1 w (record { first = omega arith; last = omega (arith, one) }) (one ∙ sym count)
-    (begun_so 1 script w (session ∙ begins) (subst Follows (sym session) f) written no_end)
+    works_first e (ap (λ (g : EngineState K). g.history) is) 1 w (record { first = omega arith; last = omega (arith, count) })
+    (begun_so 1 script w (session ∙ begins) (subst Follows (sym session) f) written unfailed no_end)
 
 no_end : false ≡ true → ⊥
 no_end is = cc
@@ -161,8 +162,9 @@ module _ {S K : Type 0} (held : S → Option (List ℕ)) (faults : S → ℕ) (a
         no_stop = ap has_stop same ∙ ran.no_stop;
       }
 
-pub history_alone : {K : Type 0} (as_keeper : K → Keeper) (w0 w : Work) (first e : EngineState K) (h : List Entry) → ((k : K) → (as_keeper k).faults ≡ 0) → RunsAlone as_keeper w0 w first e → first.sessions ≡ 1 → h ≡ e.history → Legal (Build [] e.sessions) e.history → IsHistory 1 h
-history_alone as_keeper w0 w first e h none ran one same legal = record {
-  legal = subst (λ t. Legal (Build [] 1) t) (sym same) (subst (λ n. Legal (Build [] n) e.history) (ran.sessions ∙ one) legal);
+pub history_alone : {K : Type 0} (as_keeper : K → Keeper) (w0 w : Work) (first e : EngineState K) (h : List Entry) → ((k : K) → (as_keeper k).faults ≡ 0) → RunsAlone as_keeper w0 w first e → (k : K)
+    → first ≡ record { history = []; recovered = []; books = no_books 1; keeper = k } → h ≡ e.history → HasLegalHistory e → IsHistory 1 h
+history_alone as_keeper w0 w first e h none ran k is same legal = record {
+  legal = subst (λ t. Legal (Build [] 1) t) (sym same) (first_history first e 1 1 k is refl ran.recovered ran.books legal);
   no_fault = ap has_fault same ∙ no_fault as_keeper first e none ran.faultless;
 }

@@ -9,8 +9,9 @@ use Rattle.ebr_report.specs.declared.ends.SessionEnd.{SessionEnd}
 use Rattle.ebr_asks.specs.declared.entry.Entry.{Entry}
 use Rattle.ebr_record.specs.Keeper.{Keeper}
 use Rattle.ebr_session.specs.Has.{Follows, Progress, begun}
-use Rattle.ebr_core.specs.Engine.{EngineState, database_of, no_books}
-use Rattle.ebr_core.specs.History.{IsLive, Mine}
+use Rattle.ebr_core.specs.Machine.{Build}
+use Rattle.ebr_core.specs.Engine.{EngineState, HasLegalHistory, database_of, no_books}
+use Rattle.ebr_core.specs.History.{IsLive, Legal, Mine}
 use Rattle.ebr_worker.specs.Matches.{has_fault}
 use Rattle.ebr_worker.specs.Paced.{IsSession, is_over}
 use Rattle.ebr_worker.specs.Runs.{AreEnds, IsHistory, nth_session}
@@ -50,17 +51,18 @@ begun_more scripts ws script w all here is = record {
   each = λ i v is. subst (λ n. IsBegun n v) (omega arith) (from_more (λ i v. IsBegun (i + 1) v) ws w (λ i v is. subst (λ n. IsBegun n v) (omega arith) (all.each i v is)) here i v is);
 }
 
-pub begun_so : (n : ℕ) (script : List ℕ) (w : Work) → w.session ≡ begun (record { 0 = n }) script → Follows w.session → w.written ≡ [] → w.end ≡ None → IsBegun n w
-begun_so n script w is f written no_end = record {
+pub begun_so : (n : ℕ) (script : List ℕ) (w : Work) → w.session ≡ begun (record { 0 = n }) script → Follows w.session → w.written ≡ [] → w.faults ≡ 0 → w.end ≡ None → IsBegun n w
+begun_so n script w is f written unfailed no_end = record {
   session = is ∙ ap (begun (record { 0 = n })) (sym (ap (λ (s : Progress). s.script) is));
   follows = f;
   written = written;
+  unfailed = unfailed;
   no_end = no_end;
 }
 
 module _ {K : Type 0} (e : EngineState K) (none : e.history ≡ []) where
-  pub works_first : (n : ℕ) (w : Work) → IsSession e.sessions (record { 0 = n }) → e.sessions ≡ length e.books → IsBegun n w → Works w e
-  works_first n w is_session books begun_yet =
+  pub works_first : (n : ℕ) (w : Work) → IsSession (length e.books) (record { 0 = n }) → IsBegun n w → Works w e
+  works_first n w is_session begun_yet =
       let s : Progress = w.session in
       let number : s.session ≡ record { 0 = n } = ap (λ (t : Progress). t.session) begun_yet.session in
       let mine : s.transcript ≡ [] = ap (λ (t : Progress). t.transcript) begun_yet.session in
@@ -70,23 +72,24 @@ module _ {K : Type 0} (e : EngineState K) (none : e.history ≡ []) where
         no_ask = ap (λ (t : Progress). t.out) begun_yet.session;
         follows = begun_yet.follows;
         seated = record {
-          is_session = subst (λ m. IsSession m s.session) books (subst (IsSession e.sessions) (sym number) is_session);
+          is_session = subst (IsSession (length e.books)) (sym number) is_session;
           matches = ap (λ h. Mine h s.session) none ∙ ap (map _) (sym mine);
         };
         not_over = ap (λ h. is_over h s.session) none;
         few = omega (arith, ap length mine);
         written = begun_yet.written ∙ sym (ap (λ (t : Progress). t.printed) begun_yet.session);
+        unfailed = begun_yet.unfailed;
         live = subst (IsLive (database_of e)) (sym number) (first_live e (record { 0 = n }) none is_session);
       }
 
-  pub all_first : (scripts : List (List ℕ)) (ws : List Work) → e.sessions ≡ length scripts → length e.books ≡ e.sessions → AreBegun scripts ws → AllStand ws e
-  all_first scripts ws sessions books begun_yet =
+  pub all_first : (scripts : List (List ℕ)) (ws : List Work) → length e.books ≡ length scripts → AreBegun scripts ws → AllStand ws e
+  all_first scripts ws books begun_yet =
       let count : length ws ≡ length scripts = sym (length-map ws (λ (w : Work). w.session.script)) ∙ ap length begun_yet.scripts_are in
       record {
-        count = count ∙ sym sessions ∙ sym books;
+        count = count ∙ sym books;
         number = λ i w is. ap (λ (t : Progress). t.session) (begun_yet.each i w is).session;
         stand = λ i w is. subst (λ o. StandsBy o w e) (sym (begun_yet.each i w is).no_end)
-            (works_first (i + 1) w (record { first = omega arith; last = omega (arith, within ws i w is, count, sessions) }) (sym books) (begun_yet.each i w is));
+            (works_first (i + 1) w (record { first = omega arith; last = omega (arith, within ws i w is, count, books) }) (begun_yet.each i w is));
       }
     where
       within : (ws : List Work) (i : ℕ) (w : Work) → slice_get ws i ≡ Some w → i < length ws
@@ -155,6 +158,9 @@ module _ {X : Type 0} (P : ℕ → X → Type 0) where
 pub tail_all : {X : Type 0} (P : X → Type 0) (xs rest : List X) (x : X) → xs ≡ x ∷ rest → All P xs → All P rest
 tail_all P xs rest x cut all = λ k d within. (subst (All P) cut all) (suc k) d (omega (arith, within))
 
+pub head_all : {X : Type 0} (P : X → Type 0) (xs rest : List X) (x : X) → xs ≡ x ∷ rest → All P xs → P x
+head_all P xs rest x cut all = (subst (All P) cut all) zero x (omega arith)
+
 pub none_told : {Y : Type 0} (Q : ℕ → Y → Type 0) (ys : List Y) → ys ≡ [] → AllFrom Q 0 ys
 none_told Q ys none = subst (AllFrom Q 0) (sym none) (λ i y is. absurd (nothing i y is))
   where
@@ -173,13 +179,13 @@ are_ends held faults scripts history history' ends same is_history all count =
 
 -- One worker more was made, for the script at a place.
 pub begun_at : (scripts : List (List ℕ)) (ws ws' : List Work) (at : ℕ) (script d : List ℕ) (w : Work) (s : Progress) → at < length scripts → script ≡ get_or scripts at d → (bytes : List ℕ) → bytes ≡ script → s ≡ begun (record { 0 = at + 1 }) bytes → Follows s
-    → w.session ≡ s → w.written ≡ [] → w.end ≡ None → ws' ≡ ws ++ w ∷ [] → AreBegun (take at scripts) ws → AreBegun (take (at + 1) scripts) ws'
-begun_at scripts ws ws' at script d w s within is bytes same begins f session written no_end more all =
+    → w.session ≡ s → w.written ≡ [] → w.faults ≡ 0 → w.end ≡ None → ws' ≡ ws ++ w ∷ [] → AreBegun (take at scripts) ws → AreBegun (take (at + 1) scripts) ws'
+begun_at scripts ws ws' at script d w s within is bytes same begins f session written unfailed no_end more all =
     let count : length ws ≡ at = sym (length-map ws (λ (v : Work). v.session.script)) ∙ ap length all.scripts_are ∙ length-take-le at scripts (omega (arith, within)) in
     let here : w.session ≡ begun (record { 0 = length ws + 1 }) script = session ∙ begins ∙ ap (begun (record { 0 = at + 1 })) same ∙ ap (λ n. begun (record { 0 = n + 1 }) script) (sym count) in
     subst (AreBegun (take (at + 1) scripts)) (sym more)
     (subst (λ xs. AreBegun xs (ws ++ w ∷ [])) (sym (take_more scripts at d within ∙ ap (λ x. take at scripts ++ x ∷ []) (sym is)))
-    (begun_more (take at scripts) ws script w all (begun_so (length ws + 1) script w here (subst Follows (sym session) f) written no_end) (ap (λ (t : Progress). t.script) here)))
+    (begun_more (take at scripts) ws script w all (begun_so (length ws + 1) script w here (subst Follows (sym session) f) written unfailed no_end) (ap (λ (t : Progress). t.script) here)))
 
 -- ---- the beginning
 
@@ -190,11 +196,17 @@ books_count (suc n) = ap suc (books_count n)
 pub begun_count : (scripts : List (List ℕ)) (ws : List Work) → AreBegun scripts ws → length ws ≡ length scripts
 begun_count scripts ws all = sym (length-map ws (λ (w : Work). w.session.script)) ∙ ap length all.scripts_are
 
-pub stand_first : {K : Type 0} (e : EngineState K) (n : ℕ) (k : K) (scripts : List (List ℕ)) (ws ws' : List Work) → e ≡ record { history = []; sessions = n; books = no_books n; keeper = k } → n ≡ length scripts → ws' ≡ ws → AreBegun scripts ws → AllStand ws' e
+pub stand_first : {K : Type 0} (e : EngineState K) (n : ℕ) (k : K) (scripts : List (List ℕ)) (ws ws' : List Work) → e ≡ record { history = []; recovered = []; books = no_books n; keeper = k } → n ≡ length scripts → ws' ≡ ws → AreBegun scripts ws → AllStand ws' e
 stand_first {K} e n k scripts ws ws' is count same all =
-    let sessions : e.sessions ≡ n = ap (λ (f : EngineState K). f.sessions) is in
-    subst (λ xs. AllStand xs e) (sym same)
-    (all_first e (ap (λ (f : EngineState K). f.history) is) scripts ws (sessions ∙ count) (ap (λ (f : EngineState K). length f.books) is ∙ books_count n ∙ sym sessions) all)
+    let books : length e.books ≡ n = ap (λ (f : EngineState K). length f.books) is ∙ books_count n in
+    subst (λ xs. AllStand xs e) (sym same) (all_first e (ap (λ (f : EngineState K). f.history) is) scripts ws (books ∙ count) all)
+
+-- a history that began with no records
+pub first_history : {K : Type 0} (first e : EngineState K) (n m : ℕ) (k : K) → first ≡ record { history = []; recovered = []; books = no_books n; keeper = k } → n ≡ m
+    → e.recovered ≡ first.recovered → length e.books ≡ length first.books → HasLegalHistory e → Legal (Build [] m) e.history
+first_history {K} first e n m k is count recovered books legal =
+    subst (λ c. Legal (Build [] c) e.history) (books ∙ ap (λ (f : EngineState K). length f.books) is ∙ books_count n ∙ count)
+    (subst (λ rs. Legal (Build rs (length e.books)) e.history) (recovered ∙ ap (λ (f : EngineState K). f.recovered) is) legal)
 
 pub order_first : (scripts : List (List ℕ)) (ws ws' : List Work) (order : List SessionId) → ws' ≡ ws → AreBegun scripts ws → All (IsSession (length scripts)) order → All (IsSession (length ws')) order
 order_first scripts ws ws' order same all sessions = subst (λ n. All (IsSession n) order) (sym (ap length same ∙ begun_count scripts ws all)) sessions

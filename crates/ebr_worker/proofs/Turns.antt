@@ -12,6 +12,7 @@ use Rattle.ebr_asks.specs.declared.answer.Answer.{Answer}
 use Rattle.ebr_asks.specs.declared.answer.Answer.TheVariants as answer
 use Rattle.ebr_asks.specs.declared.entry.Entry.{Entry}
 use Rattle.ebr_asks.specs.declared.entry.Exchange.{Exchange}
+use Rattle.ebr_faults.specs.Faults.{one_more}
 use Rattle.ebr_record.specs.Keeper.{Keeper}
 use Rattle.ebr_report.specs.declared.ends.EndKind.{EndKind}
 use Rattle.ebr_report.specs.declared.ends.EndKind.TheVariants as ending
@@ -25,7 +26,7 @@ use Rattle.ebr_core.specs.History.{IsLive, Mine}
 use Rattle.ebr_core.specs.History.{exchange as exchange_of}
 use Rattle.ebr_worker.specs.Matches.{ask_recorded, as_recorded}
 use Rattle.ebr_worker.specs.Paced.{IsSession, is_over}
-use Rattle.ebr_worker.specs.Ends.{AnswersLeave, Came, QuitWhole, Ran, RanOut, RanToEnd, StopsIt, WantsMemory, printed_before_last}
+use Rattle.ebr_worker.specs.Ends.{AnswersLeave, Came, QuitWhole, Ran, RanOut, RanToEnd, StopsIt, WantsMemory, failed_writes, printed_before_last}
 use Rattle.ebr_worker.specs.Work.{Adds, Over, Seated, StandsBy, Work, Works}
 use Rattle.ebr_worker.specs.inside.Worker.{Advanced, Asked, Flushed, Left, MayLeave, Stepped, end_of}
 use Rattle.ebr_worker.proofs.Histories.{mine_more, over_more}
@@ -174,14 +175,15 @@ ended_by script before mine q answer.NoMemory replies over l = inr (ran_out Want
 ended_by script before mine q answer.Stopped replies over l = ran_out StopsIt script before mine q answer.Stopped replies tt l
 ended_by script before mine q x replies over l = ran_to_end script before mine q x replies refl over l
 
-no_sink_fault : (x : Answer) → end_of x ≡ ending.SinkFault → ⊥
-no_sink_fault answer.DiskFault same = cc
-no_sink_fault answer.NoMemory same = cc
-no_sink_fault answer.Stopped same = cc
-no_sink_fault x same = cc
+-- no answer says that the sink failed
+none_failed : (x : Answer) → failed_writes (end_of x) ≡ 0
+none_failed answer.DiskFault = refl
+none_failed answer.NoMemory = refl
+none_failed answer.Stopped = refl
+none_failed x = refl
 
 -- What an answered ask makes of it, where all was written before.
-module _ {K : Type 0} (as_keeper : K → Keeper) (q : Ask) (end : Option EndKind) (old new : Work) (e e' : EngineState K) (was : Asking q old.session e) (written : old.written ≡ old.session.printed) (did : Asked as_keeper q end old new e e') where
+module _ {K : Type 0} (as_keeper : K → Keeper) (q : Ask) (end : Option EndKind) (old new : Work) (e e' : EngineState K) (was : Asking q old.session e) (written : old.written ≡ old.session.printed) (unfailed : old.faults ≡ 0) (did : Asked as_keeper q end old new e e') where
   abbrev s : Progress
   s = old.session
 
@@ -202,6 +204,9 @@ module _ {K : Type 0} (as_keeper : K → Keeper) (q : Ask) (end : Option EndKind
 
   written_same : new.written ≡ old.written
   written_same = ap (λ (w : Work). w.written) did.took
+
+  faults_none : new.faults ≡ 0
+  faults_none = ap (λ (w : Work). w.faults) did.took ∙ unfailed
 
   printed_same : new.session.printed ≡ s.printed
   printed_same = ap (λ (t : Progress). t.printed) session_is
@@ -248,6 +253,7 @@ module _ {K : Type 0} (as_keeper : K → Keeper) (q : Ask) (end : Option EndKind
     not_over = over_is ∙ on;
     few = omega (arith, long, was.few);
     written = written_same ∙ written ∙ sym printed_same;
+    unfailed = faults_none;
     live = subst (IsLive (database_of e')) (sym number_same)
         (did.replies.stays (λ is. is_true (ends q x) on (ap (ends q) is ∙ stopped_ends q)) (λ is. is_true (ends q x) on (ap (λ a. ends a x) is)));
   }
@@ -278,7 +284,7 @@ module _ {K : Type 0} (as_keeper : K → Keeper) (q : Ask) (end : Option EndKind
     few = omega (arith, long, was.few);
     came = subst (λ r. Came (end_of x) new.session.script (Mine e'.history r) new.written) (sym number_same)
         (ended_by new.session.script (Mine e.history s.session) (Mine e'.history s.session) q x new.written over (last over));
-    failed = λ is. absurd (no_sink_fault x is);
+    failed = faults_none ∙ sym (none_failed x);
   }
 
   came : StandsBy end new e'
@@ -411,7 +417,7 @@ module _ {K : Type 0} (as_keeper : K → Keeper) (w quits mid new : Work) (e e' 
 
 -- A session that has quit is over, with its cause.
 over_left_so : {K : Type 0} (as_keeper : K → Keeper) (k : EndKind) (old new : Work) (e e' : EngineState K) → Left as_keeper old new e e'
-    → Came k old.session.script (Mine e'.history old.session.session) old.written → (k ≡ ending.SinkFault → 0 < new.faults) → Over k new e'
+    → Came k old.session.script (Mine e'.history old.session.session) old.written → new.faults ≡ failed_writes k → Over k new e'
 over_left_so as_keeper k old new e e' l came failed = record {
   ended = l.ended;
   seated = l.seated;
@@ -427,19 +433,14 @@ pub stepped_asked : {K : Type 0} (as_keeper : K → Keeper) (q : Ask) (c : Optio
     → Advanced (Ok (next.Ask q)) old mid → Flushed true mid wrote → Asked as_keeper q c wrote new e e' → Stepped as_keeper c old new e e'
 stepped_asked as_keeper q c old mid wrote new e e' works few on flushed did =
     let was : Asking q wrote.session e = subst (λ s. Asking q s e) (sym flushed.session) (asking q old mid e works few on) in
-    let same : mid.faults ≡ old.faults = ap (λ (v : Work). v.faults) on.same in
-    let kept_so : new.faults ≡ wrote.faults = ap (λ (v : Work). v.faults) did.took in
+    let unfailed : wrote.faults ≡ 0 = flushed.counted ∙ ap (λ (v : Work). v.faults) on.same ∙ works.unfailed in
     let number : wrote.session.session ≡ old.session.session = ap (λ (t : Progress). t.session) flushed.session ∙ ap (λ (t : Progress). t.session) on.advances.is in
     record {
       session = ap (λ (t : Progress). t.session) (ap (λ (v : Work). v.session) did.took) ∙ number;
       script = ap (λ (t : Progress). t.script) (ap (λ (v : Work). v.session) did.took) ∙ ap (λ (t : Progress). t.script) flushed.session ∙ ap (λ (t : Progress). t.script) on.advances.is;
-      came = came as_keeper q c wrote new e e' was flushed.whole did;
+      came = came as_keeper q c wrote new e e' was flushed.whole unfailed did;
       makes = (entry_of old.session.session q did.answer, subst (λ r. Adds as_keeper r (entry_of r q did.answer) e e') number did.replies.adds);
-      counted = omega (arith, same, kept_so, flushed.counted);
     }
-
-not_sink : {A : Type 0} → ending.NoMemory ≡ ending.SinkFault → A
-not_sink same = cc
 
 -- A session that found no memory, or has made too many asks, leaves with all written that it printed.
 pub stepped_left : {K : Type 0} (as_keeper : K → Keeper) (k : EndKind) (old new : Work) (e e' : EngineState K) → k ≡ ending.NoMemory → Works old e → Left as_keeper old new e e' → Stepped as_keeper (Some k) old new e e'
@@ -449,9 +450,21 @@ stepped_left as_keeper k old new e e' is works l =
     subst (λ c. Stepped as_keeper (Some c) old new e e') (sym is) (record {
       session = l.session;
       script = l.script;
-      came = over_left_so as_keeper ending.NoMemory old new e e' l (inl quit) (λ same. not_sink same);
+      came = over_left_so as_keeper ending.NoMemory old new e e' l (inl quit) (l.faults ∙ works.unfailed);
       makes = l.makes;
-      counted = omega (arith, l.faults);
+    })
+
+-- A session whose sink failed leaves, and that was the one write that failed.
+pub stepped_unwritten : {K : Type 0} (as_keeper : K → Keeper) (k : EndKind) (q : Ask) (old mid wrote new : Work) (e e' : EngineState K) → k ≡ ending.SinkFault → Works old e → Advanced (Ok (next.Ask q)) old mid → Flushed false mid wrote
+    → Left as_keeper wrote new e e' → Stepped as_keeper (Some k) old new e e'
+stepped_unwritten as_keeper k q old mid wrote new e e' is works on flushed l =
+    let number : wrote.session.session ≡ old.session.session = ap (λ (t : Progress). t.session) flushed.session ∙ ap (λ (t : Progress). t.session) on.advances.is in
+    let one : new.faults ≡ 1 = l.faults ∙ flushed.counted ∙ ap one_more (ap (λ (v : Work). v.faults) on.same ∙ works.unfailed) in
+    subst (λ c. Stepped as_keeper (Some c) old new e e') (sym is) (record {
+      session = l.session ∙ number;
+      script = l.script ∙ ap (λ (t : Progress). t.script) flushed.session ∙ ap (λ (t : Progress). t.script) on.advances.is;
+      came = over_left_so as_keeper ending.SinkFault wrote new e e' l l.quit one;
+      makes = (l.makes.0, subst (λ r. Adds as_keeper r l.makes.0 e e') number l.makes.1);
     })
 
 pub stepped_failed : {K : Type 0} (as_keeper : K → Keeper) (k : EndKind) (m : NoMemory) (old mid new : Work) (e e' : EngineState K) → k ≡ ending.NoMemory → Works old e → Advanced (Err m) old mid → Left as_keeper mid new e e'

@@ -1,5 +1,5 @@
 -- What the ends of sessions say.
-use Rattle.std.specs.Prelude.{ℕ, ◌≡◌, ◌<◌, ◌⊎◌, Bool, true, false, List, [], ◌∷◌, ◌++◌, length, map, Option, Some, None, IfSome}
+use Rattle.std.specs.Prelude.{ℕ, ◌≡◌, ◌⊎◌, Bool, true, false, List, [], ◌∷◌, ◌++◌, length, map, Option, Some, None, IfSome}
 use Rattle.std.specs.List.{count_by}
 use Rattle.ebr_base.specs.declared.numbers.SessionId.{SessionId}
 use Rattle.ebr_report.specs.declared.ends.EndKind.{EndKind}
@@ -103,9 +103,14 @@ pub record CameTo {S : Type 0} (history : List Entry) (script : List ℕ) (sessi
   pub refused : e.refused ≡ count_by is_refused (Mine history session)
   pub came : Came e.end script (Mine history session) replies
 
--- The same with its sink, which holds the replies, where it tells. Where the sink failed, its count of faults has risen.
+-- how many writes of a session's sink failed: one where that ended it, behind which there is no other
+abbrev pub failed_writes : EndKind → ℕ
+failed_writes ending.SinkFault = 1
+failed_writes k = 0
+
+-- The same with its sink, which holds the replies, where it tells. The sink failed exactly where that is the end, at one write.
 pub record IsEnd {S : Type 0} (held : S → Option (List ℕ)) (faults : S → ℕ) (history : List Entry) (script : List ℕ) (session : SessionId) (e : SessionEnd S) : Type 0 where
   pub replies : List ℕ
   pub came_to : CameTo history script session replies e
   pub holds : IfSome e.sink (λ sink. IfSome (held sink) (λ bytes. bytes ≡ replies))
-  pub failed : e.end ≡ ending.SinkFault → IfSome e.sink (λ sink. 0 < faults sink)
+  pub failed : IfSome e.sink (λ sink. faults sink ≡ failed_writes e.end)

@@ -12,9 +12,9 @@ use Rattle.ebr_worker.specs.Ends.{IsEnd}
 abbrev pub nth_session : ℕ → SessionId
 nth_session i = record { 0 = i + 1 }
 
--- the sink holds nothing, where it tells
-abbrev pub IsUnwritten : {S : Type 0} → (S → Option (List ℕ)) → S → Type 0
-IsUnwritten held s = IfSome (held s) (λ bytes. bytes ≡ [])
+-- the sink holds nothing, where it tells, and no write of it has failed
+abbrev pub IsUnwritten : {S : Type 0} → (S → Option (List ℕ)) → (S → ℕ) → S → Type 0
+IsUnwritten held faults s = IfSome (held s) (λ bytes. bytes ≡ []) × (faults s ≡ 0)
 
 -- The history is legal from the empty database with so many sessions, and no entry of it is that the disk failed.
 pub record IsHistory (n : ℕ) (history : List Entry) : Type 0 where

@@ -8,14 +8,13 @@ use Rattle.ebr_asks.specs.declared.answer.Answer.TheVariants.{DiskFault, Stopped
 use Rattle.ebr_asks.specs.declared.entry.Entry.{Entry}
 use Rattle.ebr_record.specs.Keeper.{Keeper}
 use Rattle.ebr_report.specs.declared.ends.EndKind.{EndKind}
-use Rattle.ebr_report.specs.declared.ends.EndKind.TheVariants as ending
 use Rattle.ebr_report.specs.declared.ends.SessionEnd.{SessionEnd}
 use Rattle.ebr_session.specs.Has.{Follows, Progress}
 use Rattle.ebr_core.specs.Engine.{EngineState, database_of, has_given_up}
 use Rattle.ebr_core.specs.History.{IsLive, Mine}
 use Rattle.ebr_worker.specs.Matches.{Matches}
 use Rattle.ebr_worker.specs.Paced.{IsSession, is_over}
-use Rattle.ebr_worker.specs.Ends.{Came, is_refused}
+use Rattle.ebr_worker.specs.Ends.{Came, failed_writes, is_refused}
 
 -- Where the session stands, what it printed that is written, what the sink holds, if it tells, its count of faults, and how the session
 -- has ended, if it has.
@@ -33,7 +32,7 @@ pub record Seated {K : Type 0} (s : Progress) (e : EngineState K) : Type 0 where
   pub is_session : IsSession (length e.books) s.session
   pub matches : Matches s.transcript e.history s.session
 
--- The session runs, and all that it printed is written.
+-- The session runs, and all that it printed is written. No write has failed.
 pub record Works {K : Type 0} (w : Work) (e : EngineState K) : Type 0 where
   pub goes_on : w.session.ended ≡ false
   pub no_quit : w.session.quit ≡ None
@@ -43,16 +42,17 @@ pub record Works {K : Type 0} (w : Work) (e : EngineState K) : Type 0 where
   pub not_over : is_over e.history w.session.session ≡ false
   pub few : length w.session.transcript < MAX_COUNT
   pub written : w.written ≡ w.session.printed
+  pub unfailed : w.faults ≡ 0
   pub live : IsLive (database_of e) w.session.session
 
--- The session has ended so.
+-- The session has ended so. A write failed exactly where that ended it, and none was made behind it.
 pub record Over {K : Type 0} (k : EndKind) (w : Work) (e : EngineState K) : Type 0 where
   pub ended : w.session.ended ≡ true
   pub seated : Seated w.session e
   pub over : is_over e.history w.session.session ≡ true
   pub few : length w.session.transcript ≤ MAX_COUNT
   pub came : Came k w.session.script (Mine e.history w.session.session) w.written
-  pub failed : k ≡ ending.SinkFault → 0 < w.faults
+  pub failed : w.faults ≡ failed_writes k
 
 abbrev pub StandsBy : {K : Type 0} → Option EndKind → Work → EngineState K → Type 0
 StandsBy None w e = Works w e
@@ -69,7 +69,7 @@ Stands w e = StandsBy w.end w e
 pub record Adds {K : Type 0} (as_keeper : K → Keeper) (s : SessionId) (x : Entry) (old new : EngineState K) : Type 0 where
   pub is : new.history ≡ old.history ++ x ∷ []
   pub of : x.session ≡ s
-  pub sessions : new.sessions ≡ old.sessions
+  pub recovered : new.recovered ≡ old.recovered
   pub books : length new.books ≡ length old.books
   pub others : (r : SessionId) → (r.0 ≡ s.0 → ⊥) → IsLive (database_of old) r → IsLive (database_of new) r
   pub counted : (as_keeper old.keeper).faults ≤ (as_keeper new.keeper).faults
@@ -87,7 +87,6 @@ pub record Turned {K : Type 0} (as_keeper : K → Keeper) (old new : Work) (e e'
   pub script : new.session.script ≡ old.session.script
   pub stands : Stands new e'
   pub makes : Makes as_keeper old.end old new e e'
-  pub counted : old.faults ≤ new.faults
 
 -- ---- its end
 

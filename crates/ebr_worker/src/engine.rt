@@ -18,7 +18,7 @@ use std::alloc::Global;
 
 /// An engine with an empty database and so many live sessions.
 pub fn empty_engine(alloc: Global, sessions: u32) -> Result<Engine<MemoryKeep>, NoMemory>
-    ensures { IfOk result (λ e. e ≡ record { history = []; sessions = sessions; books = no_books sessions; keeper = nothing_kept }) }
+    ensures { IfOk result (λ e. e ≡ record { history = []; recovered = []; books = no_books sessions; keeper = nothing_kept }) }
 {
     let keeper = MemoryKeep::new(alloc)?;
     Engine::start(alloc, keeper, sessions)

@@ -37,9 +37,12 @@ impl MemoryKeep {
 }
 
 impl Keep for MemoryKeep {
+    ghost use Rattle.ebr_record.specs.InMemory.{left_since_earlier};
     ghost use Rattle.ebr_worker.specs.inside.Memory.{as_keeper};
 
     ghost as_keeper = { as_keeper };
+
+    ghost leaves_less = { λ k. left_since_earlier k.records };
 
     fn is_stopped(&self) -> bool {
         self.list.is_stopped()

@@ -25,7 +25,8 @@ pub fn rehearse_core<K: Keep, S: Sink>(
     ensures paced { Paced (length workers.old) order.now engine.new.history }
     ensures ended { AllEnded workers.new engine.new }
     ensures scripts { scripts_of workers.new ≡ scripts_of workers.old }
-    ensures sessions { engine.new.sessions ≡ engine.old.sessions }
+    ensures sessions { length engine.new.books ≡ length engine.old.books }
+    ensures recovered { engine.new.recovered ≡ engine.old.recovered }
     ensures faultless { Faultless K.as_keeper engine.old engine.new }
 {
     take_turns(engine, workers, order);

@@ -37,7 +37,7 @@ pub fn run_sessions<S: Sink>(
     requires few { length scripts.now ≤ 32 }
     requires short { All (λ script. length script ≤ most_bytes) scripts.now }
     requires sinks { length sinks.items ≡ length scripts.now }
-    requires unwritten { All (IsUnwritten S.held) sinks.items }
+    requires unwritten { All (IsUnwritten S.held S.faults) sinks.items }
     requires order { All (IsSession (length scripts.now)) order.now }
     ensures ends { IfOk result (λ r. AreEnds S.held S.faults scripts.now r.history r.ends) }
     ensures paced { IfOk result (λ r. Paced (length scripts.now) order.now r.history) }
@@ -65,7 +65,7 @@ fn workers_of<S: Sink>(
     requires few { length scripts.now ≤ 32 }
     requires short { All (λ script. length script ≤ most_bytes) scripts.now }
     requires sinks { length sinks.items ≡ length scripts.now }
-    requires unwritten { All (IsUnwritten S.held) sinks.items }
+    requires unwritten { All (IsUnwritten S.held S.faults) sinks.items }
     ensures { IfOk result (λ workers. AreBegun scripts.now workers.items) }
 {
     let mut workers = Vec::new(alloc);
@@ -86,7 +86,7 @@ pub fn run_alone<S: Sink>(
     sink: S,
 ) -> Result<(SessionEnd<S>, List<Entry>), S>
     requires short { length script.now ≤ most_bytes }
-    requires unwritten { IsUnwritten S.held sink }
+    requires unwritten { IsUnwritten S.held S.faults sink }
     ensures ran { IfOk result (λ r. RanAlone S.held S.faults script.now r.1 r.0) }
     ensures back { IfErr result (λ s. s ≡ sink) }
 {

@@ -29,7 +29,7 @@ pub record Rehearses {K : Type 0} (as_keeper : K → Keeper) (order left : List 
   pub all_stand : AllStand ws e
   pub scripts : scripts_of ws ≡ scripts_of first_ws
   pub books : length e.books ≡ length first.books
-  pub sessions : e.sessions ≡ first.sessions
+  pub recovered : e.recovered ≡ first.recovered
   pub paced : (rest : List Entry) → Turns (length e.books) left e.history rest → Turns (length e.books) order [] (e.history ++ rest)
   pub counted : (as_keeper first.keeper).faults ≤ (as_keeper e.keeper).faults
   pub faultless : Faultless as_keeper first e
@@ -47,6 +47,7 @@ pub record IsBegun (n : ℕ) (w : Work) : Type 0 where
   pub session : w.session ≡ begun (record { 0 = n }) w.session.script
   pub follows : Follows w.session
   pub written : w.written ≡ []
+  pub unfailed : w.faults ≡ 0
   pub no_end : w.end ≡ None
 
 -- The workers of sessions that run these scripts, in order, and have just begun.
@@ -76,7 +77,8 @@ pub record RunsAlone {K : Type 0} (as_keeper : K → Keeper) (first_w w : Work) 
   pub stands : Stands w e
   pub session : w.session.session ≡ first_w.session.session
   pub script : w.session.script ≡ first_w.session.script
-  pub sessions : e.sessions ≡ first.sessions
+  pub recovered : e.recovered ≡ first.recovered
+  pub books : length e.books ≡ length first.books
   pub counted : (as_keeper first.keeper).faults ≤ (as_keeper e.keeper).faults
   pub faultless : Faultless as_keeper first e
   pub no_stop : has_stop e.history ≡ false

@@ -1,6 +1,6 @@
 -- What the parts of a turn do.
 use Rattle.std.specs.Prelude.{ℕ, ◌≡◌, ◌<◌, ◌≤◌, Bool, true, false, if◌then◌else◌, List, length, Option, Some, None, Result}
-use Rattle.std.specs.Bool.{OnTrue, OnFalse}
+use Rattle.std.specs.Bool.{OnTrue}
 use Rattle.ebr_base.specs.declared.clone_in.NoMemory as memory
 use Rattle.ebr_base.specs.declared.numbers.TheConstants.{MAX_COUNT}
 use Rattle.ebr_ast.specs.declared.view.EditionView.{EditionView}
@@ -8,7 +8,7 @@ use Rattle.ebr_asks.specs.declared.ask.Ask.{Ask}
 use Rattle.ebr_asks.specs.declared.answer.Answer.{Answer}
 use Rattle.ebr_asks.specs.declared.answer.Answer.TheVariants as answer
 use Rattle.ebr_asks.specs.declared.entry.Entry.{Entry}
-use Rattle.ebr_faults.specs.Faults.{Rises}
+use Rattle.ebr_outside.specs.Sink.{faults_after}
 use Rattle.ebr_record.specs.Keeper.{Keeper}
 use Rattle.ebr_report.specs.declared.ends.EndKind.{EndKind}
 use Rattle.ebr_report.specs.declared.ends.EndKind.TheVariants as ending
@@ -29,7 +29,6 @@ pub record Stepped {K : Type 0} (as_keeper : K → Keeper) (end : Option EndKind
   pub script : new.session.script ≡ old.session.script
   pub came : StandsBy end new e'
   pub makes : (x : Entry) × Adds as_keeper old.session.session x e e'
-  pub counted : old.faults ≤ new.faults
 
 -- The session went on, and nothing was written.
 pub record Advanced (r : Result NextAsk memory.NoMemory) (old new : Work) : Type 0 where
@@ -42,9 +41,8 @@ pub record Flushed (all : Bool) (old new : Work) : Type 0 where
   pub session : new.session ≡ old.session
   pub grown : IsPrefix old.written new.written
   pub part : IsPrefix new.written new.session.printed
-  pub counted : old.faults ≤ new.faults
   pub whole : OnTrue all (new.written ≡ new.session.printed)
-  pub failed : OnFalse all (Rises old.faults new.faults)
+  pub counted : new.faults ≡ faults_after all old.faults
 
 -- how a session ends that an answer ends
 abbrev pub end_of : Answer → EndKind

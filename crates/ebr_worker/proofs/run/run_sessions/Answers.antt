@@ -4,7 +4,7 @@ use Rattle.std.proofs.lemmas.List.{with_items_is}
 use Rattle.ebr_worker.specs.Runs.{AreEnds}
 use Rattle.ebr_worker.specs.inside.Memory.{as_keeper}
 use Rattle.ebr_worker.specs.inside.Rehearsal.{AllFrom, EndsAt, IsEndAt}
-use Rattle.ebr_worker.proofs.Running.{are_ends, begun_count, end_at, end_few, end_some, ends_first, ended_scripts, next_first, next_rest, next_told, no_fault, none_told, order_first, stand_first}
+use Rattle.ebr_worker.proofs.Running.{are_ends, begun_count, end_at, end_few, end_some, ends_first, ended_scripts, first_history, next_first, next_rest, next_told, no_fault, none_told, order_first, stand_first}
 use Rattle.ebr_worker.proofs.run.run_sessions.Goals as goal
 
 pub rehearse_core-requires-clause-stand : goal.rehearse_core-requires-clause-stand
@@ -54,5 +54,5 @@ pub returns-clause-ends : goal.returns-clause-ends
 returns-clause-ends g c =
     subst (AreEnds g.S.Sink.held g.S.Sink.faults c.args.scripts.now c.into_parts-history.result.0) (sym c.from_vec.ensures)
     (are_ends g.S.Sink.held g.S.Sink.faults c.args.scripts.now _ _ _ c.into_parts-history.ensures.history
-    (record { legal = search rules; no_fault = no_fault as_keeper c.in_ok-engine.engine c.rehearse_core.new.engine (λ k. refl) c.rehearse_core.ensures.faultless })
+    (record { legal = first_history c.in_ok-engine.engine c.rehearse_core.new.engine _ (length c.args.scripts.now) _ c.in_ok-engine.ensures (search rules) c.rehearse_core.ensures.recovered c.rehearse_core.ensures.sessions c.into_parts-history.ensures.legal; no_fault = no_fault as_keeper c.in_ok-engine.engine c.rehearse_core.new.engine (λ k. refl) c.rehearse_core.ensures.faultless })
     c.loop-worker.invariant.ended (search (rules, arith)))

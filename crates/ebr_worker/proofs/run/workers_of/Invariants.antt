@@ -10,6 +10,6 @@ abbrev pub invariant-loop-sink : goal.invariant-loop-sink
 invariant-loop-sink g l = record {
   left : into_iter_len l.sink-iterator ≡ length (into_iter_items l.sink-iterator);
   count : l.number + length (into_iter_items l.sink-iterator) ≡ length l.scripts;
-  unwritten : All (IsUnwritten g.S.Sink.held) (into_iter_items l.sink-iterator);
+  unwritten : All (IsUnwritten g.S.Sink.held g.S.Sink.faults) (into_iter_items l.sink-iterator);
   made : AreBegun (take l.number l.scripts) l.workers.items;
 }

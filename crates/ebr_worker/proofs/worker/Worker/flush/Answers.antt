@@ -1,5 +1,5 @@
 use Rattle.std.proofs.Common.{◌≤◌, length, arith, ap}
-use Rattle.ebr_worker.proofs.Outputs.{flushed, held_written}
+use Rattle.ebr_worker.proofs.Outputs.{counted_short, counted_whole, flushed, held_written}
 use Rattle.ebr_worker.proofs.worker.Worker.flush.Goals as goal
 
 pub invariant_of-self : goal.invariant_of-self
@@ -9,7 +9,8 @@ invariant_of-self g c =
 
 pub returns-then-self-printed : goal.returns-then-self-printed
 returns-then-self-printed g c =
-    flushed _ _ _ _ _ _ _ _ _ _ c.self.view_is c.offer-self-inside.ensures.onward c.offer-self-inside.ensures.counted tt (c.offer-self-inside.ensures.failed c.if-self-printed.true)
+    flushed _ _ _ _ _ _ _ _ _ _ c.self.view_is c.offer-self-inside.ensures.onward tt
+    (counted_short c.self.inside.session.printed c.printed-printed.result.now c.offer-self-inside.result _ _ c.printed-printed.ensures c.if-self-printed.true c.offer-self-inside.ensures.counted)
 
 pub invariant_of-self-2 : goal.invariant_of-self-2
 invariant_of-self-2 g c =
@@ -19,4 +20,5 @@ invariant_of-self-2 g c =
 pub returns : goal.returns
 returns g c =
     let whole : length c.self.inside.session.printed ≤ c.offer-self-inside.result = omega (arith, ap length c.printed-printed.ensures, c.if-self-printed.false) in
-    flushed _ _ _ _ _ _ _ _ _ _ c.self.view_is c.offer-self-inside.ensures.onward c.offer-self-inside.ensures.counted whole tt
+    flushed _ _ _ _ _ _ _ _ _ _ c.self.view_is c.offer-self-inside.ensures.onward whole
+    (counted_whole c.self.inside.session.printed c.printed-printed.result.now c.offer-self-inside.result _ _ c.printed-printed.ensures c.offer-self-inside.ensures.within whole c.offer-self-inside.ensures.counted)
