@@ -12,10 +12,12 @@ use Rattle.ebr_report.specs.declared.ends.EndKind.{EndKind}
 use Rattle.ebr_report.specs.declared.ends.EndKind.TheVariants as ending
 use Rattle.ebr_report.specs.declared.ends.SessionEnd.{SessionEnd}
 use Rattle.ebr_asks.specs.declared.entry.Entry.{Entry}
+use Rattle.ebr_worker.specs.Ends.{failed_writes}
 use Rattle.ebr_worker.specs.Runs.{AreEnds, IsHistory}
 use Rattle.ebr_server.specs.declared.exit.ExitCode.{ExitCode}
 use Rattle.ebr_server.specs.declared.exit.ExitCode.TheVariants as code
-use Rattle.ebr_server.specs.Program.{AllEnded, AllRight, IsComplete, IsLong, IsShort, Opens, OrderBefore, OrderWrong, Ran, RightBefore, Served, SinkFailed, SinkFails, Stops, StopsBad, StopsBy, any_end, code_of_ends, most, order_place, sessions_of, sink_failed, told_at, wants_memory}
+use Rattle.ebr_server.specs.Program.{AllEnded, AllRight, EndsTold, IsComplete, IsLong, IsShort, IsSinkStop, LineFailed, Opens, OrderBefore, OrderWrong, Ran, RightBefore, Served, SinkFailed, SinkFails, Stops, StopsBad, StopsBy, any_end, code_of_ends, fault_at, most, order_place, sessions_of, sink_failed, told_at, wants_memory}
+use Rattle.ebr_server.specs.inside.Opened.{ScriptServed}
 use Rattle.ebr_server.proofs.InWords.{Told, fails_since, short_between, short_told}
 use Rattle.ebr_server.proofs.Serving.{none_by}
 
@@ -34,6 +36,22 @@ by_tests false false = tt
 
 has_run : {S : Type 0} (ends : List (SessionEnd S)) (q : Bool) (c : ExitCode) → c ≡ code_of_ends ends q → HasRun c
 has_run ends q c is = subst HasRun (sym is) (by_tests (any_end wants_memory ends) (any_end sink_failed ends || q))
+
+-- .. none of which is a host fault
+run_faultless : (c : ExitCode) → HasRun c → fault_at c ≡ None
+run_faultless code.Done run = refl
+run_faultless code.SinkFault run = refl
+run_faultless code.NoMemory run = refl
+run_faultless code.Usage run = absurd run
+run_faultless (code.HostFault w) run = absurd run
+run_faultless (code.BadOrder at) run = absurd run
+run_faultless (code.TooLong w) run = absurd run
+
+pub ends_faultless : {S : Type 0} (words : List (List ℕ)) (c : ExitCode) (ends : List (SessionEnd S)) (faults : ℕ) (held : Option (List ℕ)) → EndsTold words c ends faults held → fault_at c ≡ None
+ends_faultless words c ends faults held told = run_faultless c (has_run ends told.unwritten c told.is_code)
+
+pub script_faultless : {S : Type 0} (script : List ℕ) (words : List (List ℕ)) (c : ExitCode) (h : List Entry) (ends : List (SessionEnd S)) (faults : ℕ) (held : Option (List ℕ)) → ScriptServed script words c h ends faults held → fault_at c ≡ None
+script_faultless script words c h ends faults held served = elim served [ inl none ↦ ap fault_at none.stop | inr ran ↦ run_faultless c (has_run ends false c ran.is_code) ]
 
 abbrev IsEnded : {S : Type 0} → SessionEnd S → Type 0
 IsEnded e = e.end ≡ ending.Ended
@@ -80,6 +98,28 @@ failed_kind ending.Ended is = absurd cc
 failed_kind ending.Stopped is = absurd cc
 failed_kind ending.NoMemory is = absurd cc
 
+sink_kind : (k : EndKind) → 0 < failed_writes k → sink_failed k ≡ true
+sink_kind ending.SinkFault some = refl
+sink_kind ending.Ended some = absurd (omega (arith, some))
+sink_kind ending.Stopped some = absurd (omega (arith, some))
+sink_kind ending.NoMemory some = absurd (omega (arith, some))
+
+any_there : (a b : Bool) → (a ≡ true) ⊎ (b ≡ true) → (a || b) ≡ true
+any_there true b which = refl
+any_there false b which = elim which [ inl is ↦ absurd cc | inr is ↦ is ]
+
+any_at : {S : Type 0} (p : EndKind → Bool) (ends : List (SessionEnd S)) (i : ℕ) (e : SessionEnd S) → slice_get ends i ≡ Some e → p e.end ≡ true → any_end p ends ≡ true
+any_at p [] i e there so = absurd cc
+any_at p (x ∷ ends) zero e there so =
+    let same : x ≡ e = cc in
+    any_there (p x.end) (any_end p ends) (inl (ap (λ y. p y.end) same ∙ so))
+any_at p (x ∷ ends) (suc i) e there so = any_there (p x.end) (any_end p ends) (inr (any_at p ends i e there so))
+
+stops_so : (a b q : Bool) → b ≡ true → IsSinkStop (if a then code.NoMemory else (if b || q then code.SinkFault else code.Done))
+stops_so true b q is = tt
+stops_so false true q is = tt
+stops_so false false q is = absurd cc
+
 -- one of the sessions ended so
 pub record OneEnded {S : Type 0} (p : EndKind → Bool) (ends : List (SessionEnd S)) : Type 0 where
   pub place : ℕ
@@ -106,6 +146,8 @@ pub record RanRight {S : Type 0} (k : Command) (bytes : Told) (sink_faults : S �
   pub short : (v : ℕ) → Opens (Some k) words v → IsShort bytes words v
   pub order : k ≡ Rehearse → OrderWrong bytes words None
   pub sink : c ≡ code.SinkFault → SinkFails (Some k) sink_faults ends faults
+  pub sink_stops : SinkFailed sink_faults ends → IsSinkStop c
+  pub line_failed : LineFailed c faults
   pub done : c ≡ code.Done → AllEnded ends
 
 lone_end : {S : Type 0} (ends : List (SessionEnd S)) (e : SessionEnd S) (place : ℕ) (x : SessionEnd S) → ends ≡ e ∷ [] → slice_get ends place ≡ Some x → x ≡ e
@@ -117,6 +159,19 @@ lone_end ends e place x one is = at (subst (λ es. slice_get es place ≡ Some x
 
     at : slice_get (e ∷ []) place ≡ Some x → x ≡ e
     at there = at_place place there
+
+positive : (n : ℕ) → n ≡ 1 → 0 < n
+positive n one = omega (arith, one)
+
+-- the sink of a session that it ended has failed
+by_end : {X : Type 0} (o : Option X) (faults : X → ℕ) (k : EndKind) → IfSome o (λ s. faults s ≡ failed_writes k) → k ≡ ending.SinkFault → IfSome o (λ s. 0 < faults s)
+by_end None faults k counted is = tt
+by_end (Some s) faults k counted is = positive (faults s) (counted ∙ ap failed_writes is)
+
+-- .. and one that has failed ended it
+end_by : {X : Type 0} (o : Option X) (faults : X → ℕ) (k : EndKind) → IfSome o (λ s. faults s ≡ failed_writes k) → IsSomeAnd o (λ s. 0 < faults s) → sink_failed k ≡ true
+end_by None faults k counted failed = absurd failed
+end_by (Some s) faults k counted failed = sink_kind k (subst (λ n. 0 < n) counted failed)
 
 some_and : {X : Type 0} (o : Option X) (P : X → Type 0) → IsSome o → IfSome o P → IsSomeAnd o P
 some_and None P some holds = absurd cc
@@ -130,31 +185,46 @@ failed_sink held sink_faults scripts h ends are one =
       place = one.place;
       end = one.end;
       is_end = one.is_end;
-      failed = some_and one.end.sink (λ s. 0 < sink_faults s) (are.sinks one.place one.end one.is_end) ((are.each one.place _ one.end there one.is_end).failed (failed_kind one.end.end one.so));
+      failed = some_and one.end.sink (λ s. 0 < sink_faults s) (are.sinks one.place one.end one.is_end) (by_end one.end.sink sink_faults one.end.end (are.each one.place _ one.end there one.is_end).failed (failed_kind one.end.end one.so));
     }
+
+-- A sink that failed stops the run.
+sink_ends : {S : Type 0} (held : S → Option (List ℕ)) (sink_faults : S → ℕ) (scripts : List (List ℕ)) (h : List Entry) (ends : List (SessionEnd S)) → AreEnds held sink_faults scripts h ends → SinkFailed sink_faults ends → any_end sink_failed ends ≡ true
+sink_ends held sink_faults scripts h ends are one =
+    let within : one.place < length ends = slice_get_within ends one.place one.end one.is_end in
+    let there : slice_get scripts one.place ≡ Some (get_or scripts one.place []) = slice_get-get_or scripts one.place [] (omega (arith, within, are.count)) in
+    any_at sink_failed ends one.place one.end one.is_end (end_by one.end.sink sink_faults one.end.end (are.each one.place _ one.end there one.is_end).failed one.failed)
 
 ran_right : {S : Type 0} (k : Command) (bytes : Told) (held : S → Option (List ℕ)) (sink_faults : S → ℕ) (words : List (List ℕ)) (c : ExitCode) (h : List Entry) (ends : List (SessionEnd S)) (faults : ℕ) (report : Option (List ℕ))
     → Ran (Some k) held sink_faults bytes words c h ends faults report → RanRight k bytes sink_faults words c h ends faults
-ran_right Try bytes held sink_faults words c h ends faults report r = record {
+ran_right {S} Try bytes held sink_faults words c h ends faults report r = record {
   has_run = has_run ends false c r.ran.is_code;
   is_history = r.ran.is_history;
   short = λ v is. subst (IsShort bytes words) (sym is) (short_told (told_at bytes words 1) r.script r.is_script r.short);
   order = λ other. absurd cc;
-  sink = λ is. r.ran.failed (failed is);
+  sink = λ is. positive faults (r.ran.failed (failed is));
+  sink_stops = λ one. absurd (no_sink one.end.sink (ap (λ (e : SessionEnd S). e.sink) (lone_end ends r.ran.end one.place one.end r.ran.one one.is_end) ∙ r.ran.no_sink) one.failed);
+  line_failed = r.ran.line_failed;
   done = λ is. done_ended ends false c r.ran.is_code is;
 }
   where
+    no_sink : (o : Option S) → o ≡ None → IsSomeAnd o (λ s. 0 < sink_faults s) → ⊥
+    no_sink None none failed = failed
+    no_sink (Some s) none failed = absurd cc
+
     failed : c ≡ code.SinkFault → r.ran.end.end ≡ ending.SinkFault
     failed is =
         let any : (any_end sink_failed ends || false) ≡ true = is_sink_fault (any_end wants_memory ends) (any_end sink_failed ends || false) (sym is ∙ r.ran.is_code) in
         let one : OneEnded sink_failed ends = elim (one_of (any_end sink_failed ends) false any) [ inl some ↦ which_ended sink_failed ends some | inr none ↦ absurd cc ] in
         ap (λ e. e.end) (sym (lone_end ends r.ran.end one.place one.end r.ran.one one.is_end)) ∙ failed_kind one.end.end one.so
-ran_right Rehearse bytes held sink_faults words c h ends faults report r = record {
+ran_right {S} Rehearse bytes held sink_faults words c h ends faults report r = record {
   has_run = has_run ends r.summed.unwritten c r.summed.is_code;
   is_history = subst (λ n. IsHistory n h) sessions r.ran.are_ends.is_history;
   short = λ v opens. at_word v opens.1 (from_order v (v - 2) (omega (arith, opens.0)));
   order = λ same. order_right (told_at bytes words order_place) r.ran.is_order.is;
   sink = λ is. by_sink (one_of (any_end sink_failed ends) r.summed.unwritten (is_sink_fault (any_end wants_memory ends) (any_end sink_failed ends || r.summed.unwritten) (sym is ∙ r.summed.is_code)));
+  sink_stops = λ one. subst IsSinkStop (sym r.summed.is_code) (stops_so (any_end wants_memory ends) (any_end sink_failed ends) r.summed.unwritten (sink_ends held sink_faults r.ran.scripts h ends r.ran.are_ends one));
+  line_failed = r.summed.line_failed;
   done = λ is. done_ended ends r.summed.unwritten c r.summed.is_code is;
 }
   where
@@ -162,7 +232,7 @@ ran_right Rehearse bytes held sink_faults words c h ends faults report r = recor
     by_sink which =
         elim which [
           | inl some ↦ inr (failed_sink held sink_faults r.ran.scripts h ends r.ran.are_ends (which_ended sink_failed ends some))
-          | inr unwritten ↦ inl (r.summed.failed unwritten)
+          | inr unwritten ↦ inl (positive faults (r.summed.failed unwritten))
         ]
 
     sessions : length r.ran.scripts ≡ length words - 3
@@ -415,10 +485,21 @@ module _ {S : Type 0} (bytes : Told) (fails : Type 0) (held : S → Option (List
   sink_fault (Some k) served is =
       elim (some_asked k served) [ inl stops ↦ absurd (no_sink_fault bytes words fails k (subst (Stops (Some k) bytes words fails) is stops.1)) | inr ran ↦ ran.sink is ]
 
-  pub done : (asked : Option Command) → By asked → c ≡ code.Done → AllEnded ends
+  no_end : ends ≡ [] → SinkFailed sink_faults ends → ⊥
+  no_end none one = nowhere (subst (λ es. slice_get es one.place ≡ Some one.end) none one.is_end)
+    where
+      nowhere : slice_get [] one.place ≡ Some one.end → ⊥
+      nowhere there = cc
+
+  pub sink_stops : (asked : Option Command) → By asked → SinkFailed sink_faults ends → IsSinkStop c
+  sink_stops None served one = elim served [ inl none ↦ absurd (no_end none.no_end one) | inr ran ↦ absurd ran ]
+  sink_stops (Some k) served one =
+      elim served [ inl none ↦ absurd (no_end none.no_end one) | inr ran ↦ (ran_right k bytes held sink_faults words c h ends faults report ran).sink_stops one ]
+
+  pub done : (asked : Option Command) → By asked → c ≡ code.Done → AllEnded ends × (faults ≡ 0)
   done None served is = absurd (other_code code.Done (λ e. absurd cc) served is)
   done (Some k) served is =
-      elim (some_asked k served) [ inl stops ↦ absurd (no_done bytes words fails k (subst (Stops (Some k) bytes words fails) is stops.1)) | inr ran ↦ ran.done is ]
+      elim (some_asked k served) [ inl stops ↦ absurd (no_done bytes words fails k (subst (Stops (Some k) bytes words fails) is stops.1)) | inr ran ↦ (ran.done is, subst (λ d. LineFailed d faults) is ran.line_failed) ]
 
   no_failed : (k : Command) → SinkFails (Some k) sink_faults ends faults → ((0 < faults) → ⊥) → (SinkFailed sink_faults ends → ⊥) → ⊥
   no_failed Try failed no_report no_sink = no_report failed

@@ -96,13 +96,13 @@ fails_on bytes mid_bytes words at scripts P old mid new c same are from within g
 
 -- ---- sinks
 
-pub no_sinks : {S : Type 0} (held : S → Option (List ℕ)) → AreUnwritten held 3 3 []
-no_sinks held = record { count = refl; unwritten = All-nil _ }
+pub no_sinks : {S : Type 0} (held : S → Option (List ℕ)) (faults : S → ℕ) → AreUnwritten held faults 3 3 []
+no_sinks held faults = record { count = refl; unwritten = All-nil _ }
 
-pub sinks_more : {S : Type 0} (held : S → Option (List ℕ)) (at : ℕ) (old new : List S) (s : S) → AreUnwritten held 3 at old → new ≡ old ++ s ∷ [] → IsUnwritten held s → AreUnwritten held 3 (at + 1) new
-sinks_more held at old new s so_far added empty = record {
+pub sinks_more : {S : Type 0} (held : S → Option (List ℕ)) (faults : S → ℕ) (at : ℕ) (old new : List S) (s : S) → AreUnwritten held faults 3 at old → new ≡ old ++ s ∷ [] → IsUnwritten held faults s → AreUnwritten held faults 3 (at + 1) new
+sinks_more held faults at old new s so_far added empty = record {
   count = omega (arith, so_far.count, ap length added, length-append old (s ∷ []));
-  unwritten = subst (All (IsUnwritten held)) (sym added) (All-push (IsUnwritten held) old s so_far.unwritten empty);
+  unwritten = subst (All (IsUnwritten held faults)) (sym added) (All-push (IsUnwritten held faults) old s so_far.unwritten empty);
 }
 
 pub makes_since : (words : List (List ℕ)) (old mid new : ℕ) (c : ExitCode) → old ≤ mid → MakesNone words 3 (Rises mid new) c → MakesNone words 3 (Rises old new) c

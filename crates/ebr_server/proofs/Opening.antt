@@ -1,15 +1,24 @@
 -- What was read of what a word names.
-use Rattle.std.proofs.Common.{ℕ, ◌≡◌, ◌<◌, ◌≤◌, List, [], length, take, get_or, Option, Some, None, min, arith, refl, sym, ◌∙◌, ap, subst}
+use Rattle.std.proofs.Common.{ℕ, ◌≡◌, ◌<◌, ◌≤◌, List, [], length, take, get_or, false, ◌∷◌, Option, Some, None, min, arith, refl, sym, ◌∙◌, ap, subst}
 use Rattle.std.specs.Prelude.{IfSome, unwrap_or}
 use Rattle.std.proofs.lemmas.List.{take_all, length-take}
 use Rattle.std.proofs.lemmas.Option.{slice_get-get_or}
+use Rattle.ebr_outside.specs.HostCalls.{with_call}
+use Rattle.ebr_outside.specs.declared.host_call.HostCall.{HostCall}
+use Rattle.ebr_outside.specs.declared.host_call.HostMethod.TheVariants as method
 use Rattle.ebr_server.specs.declared.exit.ExitCode.{ExitCode}
 use Rattle.ebr_server.specs.declared.exit.ExitCode.TheVariants as code
-use Rattle.ebr_server.specs.Program.{IsLong, told_at, word_at}
-use Rattle.ebr_server.specs.inside.Opened.{Fails, WasRead}
+use Rattle.ebr_server.specs.Program.{IsLong, source_at, told_at, word_at}
+use Rattle.ebr_server.specs.inside.Opened.{Fails, WasRead, with_steps}
+use Rattle.ebr_server.proofs.Calls.{one_step}
 
 abbrev pub word_is : (words : List (List ℕ)) (at : ℕ) (w d : List ℕ) → at < length words → w ≡ get_or words at d → word_at words at ≡ w
 word_is words at w d within is = ap (λ o. unwrap_or o []) (slice_get-get_or words at d within) ∙ sym is
+
+-- the one step of opening it, which came through
+pub opened_so : (words : List (List ℕ)) (at : ℕ) (w d : List ℕ) (o new : Option (List HostCall)) → at < length words → w ≡ get_or words at d → new ≡ with_call o (record { method = method.Source; word = w; failed = false }) → new ≡ with_steps o (source_at words at ∷ [])
+opened_so words at w d o new within is called =
+    called ∙ ap (λ v. with_call o (record { method = method.Source; word = v; failed = false })) (sym (word_is words at w d within is)) ∙ one_step o (source_at words at)
 
 -- what was read, by what is told of the source
 read_told : (told left : Option (List ℕ)) (text : List ℕ) (n : ℕ) → IfSome told (λ b. left ≡ Some b) → IfSome left (λ l. text ≡ take n l) → IfSome told (λ b. text ≡ take n b)

@@ -1,7 +1,11 @@
 -- The program: what it reads, what it writes last, and what it serves (own).
-use Rattle.std.specs.Prelude.{ℕ, ◌≡◌, ◌+◌, ◌-◌, ◌<◌, ◌≤◌, Bool, true, false, ◌||◌, if◌then◌else◌, List, [], ◌∷◌, ◌++◌, length, take, All, codes, Option, Some, None, IfSome, IsSomeAnd, slice_get, unwrap_or, ◌⊎◌}
+use Rattle.std.specs.Prelude.{ℕ, zero, suc, ◌≡◌, ◌+◌, ◌-◌, ◌<◌, ◌≤◌, Bool, true, false, ◌||◌, if◌then◌else◌, List, [], ◌∷◌, ◌++◌, length, map, take, All, codes, Option, Some, None, IfSome, IsSomeAnd, slice_get, unwrap_or, ◌⊎◌}
 use Rattle.std.specs.List.{list_any}
 use Rattle.std.specs.Fmt.{decimal}
+use Rattle.ebr_outside.specs.declared.host_call.HostCall.{HostCall}
+use Rattle.ebr_outside.specs.declared.host_call.HostMethod.{HostMethod}
+use Rattle.ebr_outside.specs.declared.host_call.HostMethod.TheVariants as method
+use Rattle.ebr_words.specs.Words.{out_word}
 use Rattle.ebr_words.specs.declared.words.Command.{Command}
 use Rattle.ebr_words.specs.declared.words.Command.TheVariants as command
 use Rattle.ebr_order.specs.Order.{turns_of, wrong_at}
@@ -70,6 +74,68 @@ abbrev pub RightBefore : Command → (List ℕ → Option (List ℕ)) → List (
 RightBefore command.Try bytes words at = Unit {0}
 RightBefore command.Rehearse bytes words at = OrderBefore bytes words at
 
+-- ---- the order of work
+
+-- One step: what the host is asked to open, of which word, and the place of the word that has the fault where it fails.
+pub record Step : Type 0 where
+  pub method : HostMethod
+  pub word : List ℕ
+  pub place : ℕ
+
+-- the source of the word at a place
+abbrev pub source_at : List (List ℕ) → ℕ → Step
+source_at words at = record { method = method.Source; word = word_at words at; place = at }
+
+-- the sink of the script whose word is at a place
+abbrev pub sink_at : List (List ℕ) → ℕ → Step
+sink_at words at = record { method = method.Sink; word = out_word (word_at words at); place = at }
+
+-- a step at each of so many places, from one on
+abbrev pub steps_from : (ℕ → Step) → ℕ → ℕ → List Step
+steps_from step at zero = []
+steps_from step at (suc n) = step at ∷ steps_from step (at + 1) n
+
+-- What a command opens, in this order: `try` its script; `rehearse` its order, the scripts, and then a sink for each script.
+abbrev pub order_of_work : Option Command → List (List ℕ) → List Step
+order_of_work None words = []
+order_of_work (Some command.Try) words = source_at words 1 ∷ []
+order_of_work (Some command.Rehearse) words =
+    source_at words order_place ∷ (steps_from (source_at words) 3 (length words - 3) ++ steps_from (sink_at words) 3 (length words - 3))
+
+-- the call of a step
+abbrev pub call_of : Bool → Step → HostCall
+call_of failed step = record { method = step.method; word = step.word; failed = failed }
+
+-- What was called behind the steps that came through: the next one, which failed, where a fault of its word is told, and else nothing.
+abbrev pub LastFails : Option ℕ → List Step → List HostCall → Type 0
+LastFails None left calls = calls ≡ []
+LastFails (Some at) [] calls = ⊥
+LastFails (Some at) (step ∷ left) calls = (step.place ≡ at) × (calls ≡ call_of true step ∷ [])
+
+-- The calls go by the order of work: they are those of its first steps, each of which came through but for the last one where a fault is
+-- told.
+pub record InOrder (work : List Step) (fault : Option ℕ) (calls : List HostCall) : Type 0 where
+  pub done : List Step
+  pub left : List Step
+  pub work_is : work ≡ done ++ left
+  pub last : List HostCall
+  pub calls_are : calls ≡ map (call_of false) done ++ last
+  pub last_fails : LastFails fault left last
+
+-- the same of the calls between two moments, where they are told
+abbrev pub CallsInOrder : Option (List HostCall) → Option (List HostCall) → List Step → Option ℕ → Type 0
+CallsInOrder None new work fault = new ≡ None
+CallsInOrder (Some old) new work fault = (calls : List HostCall) × (new ≡ Some (old ++ calls)) × InOrder work fault calls
+
+abbrev pub fault_at : ExitCode → Option ℕ
+fault_at (code.HostFault at) = Some at
+fault_at c = None
+
+-- the place of a host fault that no source has
+abbrev pub own_fault : {C : Type 0} → ExitCode → Option C → Option ℕ
+own_fault c None = fault_at c
+own_fault c (Some source) = None
+
 -- ---- what is written
 
 -- The line that the report ends with.
@@ -87,6 +153,11 @@ pub record Reported (faults : ℕ) (held text line : List ℕ) : Type 0 where
   pub count : ℕ
   pub part : held ≡ text ++ take count line
   pub whole : faults ≡ 0 → held ≡ text ++ line
+
+-- How many writes of a report have failed, where the last line was the first to fail: none where there is no line, and one at most.
+abbrev pub LineFailed : ExitCode → ℕ → Type 0
+LineFailed code.Done faults = faults ≡ 0
+LineFailed c faults = faults ≤ 1
 
 -- The report has a part of a text, whose write failed, and nothing behind it.
 pub record BrokenOff (held text : List ℕ) : Type 0 where
@@ -110,6 +181,7 @@ pub record NoneRan {S : Type 0} (stops : ExitCode → Type 0) (words : List (Lis
   pub stop : stops c
   pub no_entry : history ≡ []
   pub no_end : ends ≡ []
+  pub failed : LineFailed c faults
   pub report : IfSome held (λ bytes. Reported faults bytes [] (last_line c words))
 
 -- ---- runs whose sessions have ended
@@ -138,7 +210,8 @@ abbrev pub behind_replies : ExitCode → List (List ℕ) → List ℕ
 behind_replies code.SinkFault words = []
 behind_replies c words = last_line c words
 
--- A script was run as the one session of a database without records. The report is its sink.
+-- A script was run as the one session of a database without records. The report is its sink: where that failed, nothing was written
+-- behind it.
 pub record ScriptRan {S : Type 0} (script : List ℕ) (words : List (List ℕ)) (c : ExitCode) (history : List Entry) (ends : List (SessionEnd S)) (faults : ℕ) (held : Option (List ℕ)) : Type 0 where
   pub is_history : IsHistory 1 history
   pub no_stop : has_stop history ≡ false
@@ -148,7 +221,8 @@ pub record ScriptRan {S : Type 0} (script : List ℕ) (words : List (List ℕ)) 
   pub replies : List ℕ
   pub came_to : CameTo history script (nth_session 0) replies end
   pub is_code : c ≡ code_of_ends ends false
-  pub failed : end.end ≡ ending.SinkFault → 0 < faults
+  pub failed : end.end ≡ ending.SinkFault → faults ≡ 1
+  pub line_failed : LineFailed c faults
   pub report : IfSome held (λ b. Reported faults b replies (behind_replies c words))
 
 -- what `try` has come to
@@ -184,11 +258,12 @@ abbrev pub Summed : Bool → ℕ → List ℕ → List ℕ → List ℕ → Type
 Summed true faults held summary line = BrokenOff held summary
 Summed false faults held summary line = Reported faults held summary line
 
--- The code and the report of sessions that have ended.
+-- The code and the report of sessions that have ended. Where a write of the summary failed, nothing was written behind it.
 pub record EndsTold {S : Type 0} (words : List (List ℕ)) (c : ExitCode) (ends : List (SessionEnd S)) (faults : ℕ) (held : Option (List ℕ)) : Type 0 where
   pub unwritten : Bool
   pub is_code : c ≡ code_of_ends ends unwritten
-  pub failed : unwritten ≡ true → 0 < faults
+  pub failed : unwritten ≡ true → faults ≡ 1
+  pub line_failed : LineFailed c faults
   pub report : IfSome held (λ b. Summed unwritten faults b (Summary ends) (last_line c words))
 
 -- what `rehearse` has come to
@@ -228,6 +303,12 @@ abbrev pub SinkFails : {S : Type 0} → Option Command → (S → ℕ) → List 
 SinkFails None sink_faults ends faults = ⊥
 SinkFails (Some command.Try) sink_faults ends faults = 0 < faults
 SinkFails (Some command.Rehearse) sink_faults ends faults = (0 < faults) ⊎ SinkFailed sink_faults ends
+
+-- the codes of a run in which the sink of a session failed: want of memory comes before it
+abbrev pub IsSinkStop : ExitCode → Type 0
+IsSinkStop code.SinkFault = Unit {0}
+IsSinkStop code.NoMemory = Unit {0}
+IsSinkStop c = ⊥
 
 -- Each session ended as it should.
 abbrev pub AllEnded : {S : Type 0} → List (SessionEnd S) → Type 0

@@ -5,8 +5,8 @@ ghost use Rattle.ebr_faults.specs.Faults.{Rises};
 ghost use Rattle.ebr_order.specs.Order.{wrong_at};
 ghost use Rattle.ebr_words.specs.Words.{command_of};
 ghost use Rattle.ebr_words.specs.declared.words.Command.TheVariants.{Try, Rehearse};
-ghost use Rattle.ebr_worker.specs.Runs.{IsHistory};
-ghost use Rattle.ebr_server.specs.Program.{AllEnded, AllRight, IsComplete, IsHostFault, IsLong, Opens, OrderWrong, Reported, Served, SinkFailed, SinkFails, StopsBad, StopsBy, last_line, order_place, sessions_of, told_at};
+ghost use Rattle.ebr_worker.specs.Runs.{IsHistory, IsUnwritten};
+ghost use Rattle.ebr_server.specs.Program.{AllEnded, AllRight, CallsInOrder, IsComplete, IsHostFault, IsLong, IsSinkStop, LineFailed, Opens, OrderWrong, Reported, Served, SinkFailed, SinkFails, StopsBad, StopsBy, last_line, order_of_work, order_place, own_fault, sessions_of, told_at};
 ghost use Rattle.ebr_server.specs.inside.Opened.{ScriptServed};
 
 use crate::exit::ExitCode;
@@ -43,11 +43,12 @@ fn stopped<C: Drop, S: Drop, R: Sink>(
     halt: Halt<C>,
     report: R,
 ) -> Outcome<C, S, R>
-    requires empty { IfSome (R.held report) (λ bytes. bytes ≡ []) }
+    requires empty { IsUnwritten R.held R.faults report }
     ensures code { result.code ≡ halt.code }
     ensures source { result.source ≡ halt.source }
     ensures ends { result.ends ≡ [] }
     ensures history { result.history ≡ [] }
+    ensures failed { LineFailed halt.code (R.faults result.report) }
     ensures report { IfSome (R.held result.report) (λ bytes. Reported (R.faults result.report) bytes [] (last_line halt.code words.now)) }
 {
     let Halt { code, source } = halt;
@@ -93,7 +94,7 @@ fn run_script<C: Drop, S: Drop, R: Sink>(
     report: R,
 ) -> Outcome<C, S, R>
     requires short { length script.now ≤ MAX_SCRIPT }
-    requires empty { IfSome (R.held report) (λ bytes. bytes ≡ []) }
+    requires empty { IsUnwritten R.held R.faults report }
     ensures served { ScriptServed script.now words.now result.code result.history result.ends (R.faults result.report) (R.held result.report) }
     ensures source { result.source ≡ None }
 {
@@ -125,10 +126,11 @@ fn try_script<H: Host>(
     report: H::Report,
 ) -> Outcome<H::Source, H::Sink, H::Report>
     requires some { 2 ≤ length words.now }
-    requires empty { IfSome (H.Report.held report) (λ bytes. bytes ≡ []) }
+    requires empty { IsUnwritten H.Report.held H.Report.faults report }
     ensures served { Served (Some Try) (H.bytes host.old) (Rises (H.faults host.old) (H.faults host.new) ⊎ IsSomeAnd result.source (λ s. 0 < H.Source.faults s))
         H.Sink.held H.Sink.faults words.now result.code result.history result.ends (H.Report.faults result.report) (H.Report.held result.report) }
     ensures source { IfSome result.source (λ s. IsHostFault result.code × (0 < H.Source.faults s)) }
+    ensures called { CallsInOrder (H.calls host.old) (H.calls host.new) (order_of_work (Some Try) words.now) (own_fault result.code result.source) }
 {
     match read_word(alloc, words, 1, host) {
         Ok(script) => run_script(alloc, words, script.as_slice(), report),
@@ -145,10 +147,11 @@ fn rehearse<H: Host>(
 ) -> Outcome<H::Source, H::Sink, H::Report>
     requires some { 3 ≤ length words.now }
     requires few { length words.now ≤ 35 }
-    requires empty { IfSome (H.Report.held report) (λ bytes. bytes ≡ []) }
+    requires empty { IsUnwritten H.Report.held H.Report.faults report }
     ensures served { Served (Some Rehearse) (H.bytes host.old) (Rises (H.faults host.old) (H.faults host.new) ⊎ IsSomeAnd result.source (λ s. 0 < H.Source.faults s))
         H.Sink.held H.Sink.faults words.now result.code result.history result.ends (H.Report.faults result.report) (H.Report.held result.report) }
     ensures source { IfSome result.source (λ s. IsHostFault result.code × (0 < H.Source.faults s)) }
+    ensures called { CallsInOrder (H.calls host.old) (H.calls host.new) (order_of_work (Some Rehearse) words.now) (own_fault result.code result.source) }
 {
     match rehearsed(alloc, words, host) {
         Ok(rehearsed) => {
@@ -173,10 +176,11 @@ fn do_command<H: Host>(
     host: &mut H,
     report: H::Report,
 ) -> Outcome<H::Source, H::Sink, H::Report>
-    requires empty { IfSome (H.Report.held report) (λ bytes. bytes ≡ []) }
+    requires empty { IsUnwritten H.Report.held H.Report.faults report }
     ensures served { Served (command_of words.now) (H.bytes host.old) (Rises (H.faults host.old) (H.faults host.new) ⊎ IsSomeAnd result.source (λ s. 0 < H.Source.faults s))
         H.Sink.held H.Sink.faults words.now result.code result.history result.ends (H.Report.faults result.report) (H.Report.held result.report) }
     ensures source { IfSome result.source (λ s. IsHostFault result.code × (0 < H.Source.faults s)) }
+    ensures called { CallsInOrder (H.calls host.old) (H.calls host.new) (order_of_work (command_of words.now) words.now) (own_fault result.code result.source) }
 {
     match command_of(words) {
         Some(Command::Try) => try_script(alloc, words, host, report),
@@ -190,7 +194,8 @@ fn do_command<H: Host>(
 /// word 2 names: each number is a turn of that session, and behind the order the first one runs to its end, then the next.
 /// Each prints to a sink of its own, and the report is a summary. Word 1 isn't opened. Any other words are `Usage`.
 ///
-/// Of two faults the earlier one has the code. The report ends with the code's last line, unless a write failed before.
+/// What is wrong first, in the order in which words are opened and read, has the code; of sessions that have ended, want of memory
+/// comes before a sink that failed. The report ends with the code's last line, unless a write of it failed.
 pub fn serve<H: Host>(
     alloc: Global,
     words: &[Bytes],
@@ -201,18 +206,27 @@ pub fn serve<H: Host>(
     ensures served { Served (command_of words.now) (H.bytes host.old) (Rises (H.faults host.old) (H.faults host.new) ⊎ IsSomeAnd result.source (λ s. 0 < H.Source.faults s))
         H.Sink.held H.Sink.faults words.now result.code result.history result.ends (H.Report.faults result.report) (H.Report.held result.report) }
 
-    // Each answer of the history is the machine's, in the database that the entries before it leave, and none is that a disk failed.
+    // Each answer of the history is the machine's, in the database that the entries before it leave, up to one, if any, that there was
+    // no memory, behind which all are Stopped. None is that a disk failed.
     ensures legal { IfSome (command_of words.now) (λ c. IsHistory (sessions_of c words.now) result.history) }
 
     // When each code comes. Want of memory alone is free.
-    ensures done { result.code ≡ ExitCode.Done → AllEnded result.ends }
+    ensures done { result.code ≡ ExitCode.Done → AllEnded result.ends × (H.Report.faults result.report ≡ 0) }
     ensures usage { (result.code ≡ ExitCode.Usage) ↔ (command_of words.now ≡ None) }
     ensures host_fault { (w : ℕ) → result.code ≡ ExitCode.HostFault w
         → Opens (command_of words.now) words.now w × (Rises (H.faults host.old) (H.faults host.new) ⊎ IsSomeAnd result.source (λ s. 0 < H.Source.faults s)) }
     ensures source { IfSome result.source (λ s. IsHostFault result.code × (0 < H.Source.faults s)) }
     ensures sink_fault { result.code ≡ ExitCode.SinkFault → SinkFails (command_of words.now) H.Sink.faults result.ends (H.Report.faults result.report) }
+    ensures sink_stops { SinkFailed H.Sink.faults result.ends → IsSinkStop result.code }
     ensures too_long { (w : ℕ) → result.code ≡ ExitCode.TooLong w → Opens (command_of words.now) words.now w × IsLong (H.bytes host.old) words.now w }
     ensures bad_order { (at : ℕ) → result.code ≡ ExitCode.BadOrder at → (command_of words.now ≡ Some Rehearse) × OrderWrong (H.bytes host.old) words.now (Some at) }
+
+    // What the host was asked to open, and in which order. A call of it failed exactly where the code is a host fault that no source has,
+    // and then it was the last one, of that word.
+    ensures called { CallsInOrder (H.calls host.old) (H.calls host.new) (order_of_work (command_of words.now) words.now) (own_fault result.code result.source) }
+
+    // One write of the report at most has failed, so none was tried behind it.
+    ensures once { H.Report.faults result.report ≤ 1 }
 
     // A word whose bytes are too many stops the run, and so does an order that is wrong.
     ensures stops_long { (w : ℕ) → Opens (command_of words.now) words.now w

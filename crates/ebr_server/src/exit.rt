@@ -5,15 +5,15 @@ ghost use Rattle.std.specs.Prelude.{◌≡◌};
 /// How a run ended. A `word` is a place among the words of the command line, counted from 0.
 #[derive(Clone, Copy, Debug, PartialEq, Eq)]
 pub enum ExitCode {
-    /// Each script was read to its end and every piece has its reply.
+    /// Each script was read to its end, every piece has its reply, and no write of the report failed.
     Done,
     /// The words are no form of a command.
     Usage,
     /// The host did not open the word, or its source failed. The word of a sink is that of its script.
     HostFault { word: u32 },
-    /// The sink of a session failed, or the report could not be written.
+    /// The sink of a session failed, or a write of the report.
     SinkFault,
-    /// There was no memory.
+    /// There was no memory. When it comes is in no contract.
     NoMemory,
     /// The order can't be read at this byte, or the number there is that of no session.
     BadOrder { at: u32 },

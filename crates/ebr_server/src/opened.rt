@@ -1,9 +1,9 @@
 //! Opens what the words of a command name.
 
-ghost use Rattle.std.specs.Prelude.{◌≡◌, ◌<◌, ◌≤◌, ◌⊎◌, ℕ, List, None, length, IfErr, IfOk, IfSome, IsSomeAnd};
+ghost use Rattle.std.specs.Prelude.{◌≡◌, ◌<◌, ◌≤◌, ◌⊎◌, ℕ, List, [], ◌∷◌, None, length, IfErr, IfOk, IfSome, IsSomeAnd, OnOk};
 ghost use Rattle.ebr_faults.specs.Faults.{Rises};
-ghost use Rattle.ebr_server.specs.Program.{IsHostFault};
-ghost use Rattle.ebr_server.specs.inside.Opened.{Fails, WasRead};
+ghost use Rattle.ebr_server.specs.Program.{CallsInOrder, IsHostFault, own_fault, source_at};
+ghost use Rattle.ebr_server.specs.inside.Opened.{Fails, WasRead, with_steps};
 
 use crate::exit::ExitCode;
 use crate::read::{MAX_SCRIPT, ReadErr, read_bytes};
@@ -40,6 +40,8 @@ pub fn read_word<H: Host>(
     ensures source { IfErr result (λ halt. IfSome halt.source (λ s. IsHostFault halt.code × (0 < H.Source.faults s))) }
     ensures same { (w : List ℕ) → H.bytes host.new w ≡ H.bytes host.old w }
     ensures counted { H.faults host.old ≤ H.faults host.new }
+    ensures opened { OnOk result (H.calls host.new ≡ with_steps (H.calls host.old) (source_at words.now word ∷ [])) }
+    ensures called { IfErr result (λ halt. CallsInOrder (H.calls host.old) (H.calls host.new) (source_at words.now word ∷ []) (own_fault halt.code halt.source)) }
 {
     let mut source = match host.source(&words[word as usize]) {
         Ok(source) => source,

@@ -1,11 +1,11 @@
 //! A rehearsal: its order and its scripts are read, its sinks made and its sessions run.
 
-ghost use Rattle.std.specs.Prelude.{◌≡◌, ◌-◌, ◌<◌, ◌≤◌, ◌⊎◌, ℕ, List, None, Some, length, IfErr, IfOk, IfSome, IsSomeAnd};
+ghost use Rattle.std.specs.Prelude.{◌≡◌, ◌-◌, ◌<◌, ◌≤◌, ◌⊎◌, ℕ, List, [], ◌∷◌, None, Some, length, IfErr, IfOk, IfSome, IsSomeAnd, OnOk};
 ghost use Rattle.ebr_faults.specs.Faults.{Rises};
 ghost use Rattle.ebr_order.specs.Order.{Order};
 ghost use Rattle.ebr_words.specs.declared.words.Command.TheVariants.{Rehearse};
-ghost use Rattle.ebr_server.specs.Program.{IsHostFault, SessionsRan, Stops};
-ghost use Rattle.ebr_server.specs.inside.Opened.{AreTurns, OrderStops};
+ghost use Rattle.ebr_server.specs.Program.{CallsInOrder, IsHostFault, SessionsRan, Stops, order_of_work, own_fault, source_at};
+ghost use Rattle.ebr_server.specs.inside.Opened.{AreTurns, OrderStops, with_steps};
 
 use crate::exit::ExitCode;
 use crate::opened::{Halt, read_word, without_source};
@@ -31,6 +31,8 @@ pub fn rehearsed<H: Host>(
     ensures ran { IfOk result (λ r. SessionsRan H.Sink.held H.Sink.faults (H.bytes host.old) words.now r.history r.ends) }
     ensures stops { IfErr result (λ halt. Stops (Some Rehearse) (H.bytes host.old) words.now (Rises (H.faults host.old) (H.faults host.new) ⊎ IsSomeAnd halt.source (λ s. 0 < H.Source.faults s)) halt.code) }
     ensures source { IfErr result (λ halt. IfSome halt.source (λ s. IsHostFault halt.code × (0 < H.Source.faults s))) }
+    ensures opened { OnOk result (H.calls host.new ≡ with_steps (H.calls host.old) (order_of_work (Some Rehearse) words.now)) }
+    ensures called { IfErr result (λ halt. CallsInOrder (H.calls host.old) (H.calls host.new) (order_of_work (Some Rehearse) words.now) (own_fault halt.code halt.source)) }
 {
     let turns = match read_turns(alloc, words, host) {
         Ok(turns) => turns,
@@ -63,6 +65,8 @@ fn read_turns<H: Host>(
     ensures source { IfErr result (λ halt. IfSome halt.source (λ s. IsHostFault halt.code × (0 < H.Source.faults s))) }
     ensures same { (w : List ℕ) → H.bytes host.new w ≡ H.bytes host.old w }
     ensures counted { H.faults host.old ≤ H.faults host.new }
+    ensures opened { OnOk result (H.calls host.new ≡ with_steps (H.calls host.old) (source_at words.now 2 ∷ [])) }
+    ensures called { IfErr result (λ halt. CallsInOrder (H.calls host.old) (H.calls host.new) (source_at words.now 2 ∷ []) (own_fault halt.code halt.source)) }
 {
     match read_word(alloc, words, ORDER, host) {
         Ok(order) => match turns_in(alloc, order.as_slice(), (words.len() - 3) as u32) {

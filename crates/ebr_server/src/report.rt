@@ -1,11 +1,12 @@
 //! What is written to the report behind the sessions.
 
-ghost use Rattle.std.specs.Prelude.{◌≡◌, ◌++◌, ◌≤◌, ℕ, List, [], false, codes, IfSome};
-ghost use Rattle.std.specs.Bool.{OnTrue, OnFalse};
+ghost use Rattle.std.specs.Prelude.{◌≡◌, ◌++◌, ℕ, List, [], false, codes, IfSome};
+ghost use Rattle.std.specs.Bool.{OnTrue};
 ghost use Rattle.std.specs.Fmt.{decimal};
-ghost use Rattle.ebr_faults.specs.Faults.{Rises};
-ghost use Rattle.ebr_outside.specs.Sink.{appended};
+ghost use Rattle.ebr_outside.specs.Sink.{appended, faults_after};
 ghost use Rattle.ebr_report.specs.Lines.{AddsPart, line_of};
+ghost use Rattle.ebr_worker.specs.Runs.{IsUnwritten};
+ghost use Rattle.ebr_server.specs.inside.Opened.{LineFails, RepliesFail};
 ghost use Rattle.ebr_server.specs.Program.{EndsTold, Reported, behind_replies, code_of_ends, last_line, word_at};
 
 use crate::codes::code_of_ends;
@@ -17,7 +18,7 @@ use itoa::Buffer;
 
 /// Writes the summary of sessions that have ended, and the last line. Behind a write that failed nothing is written.
 pub fn tell_ends<R: Sink, S>(report: &mut R, words: &[Bytes], ends: &[SessionEnd<S>]) -> ExitCode
-    requires empty { IfSome (R.held report.old) (λ bytes. bytes ≡ []) }
+    requires empty { IsUnwritten R.held R.faults report.old }
     ensures { EndsTold words.now result ends.now (R.faults report.new) (R.held report.new) }
 {
     if !write_summary(report, ends) {
@@ -33,7 +34,7 @@ pub fn tell_replies<R: Sink, S>(report: &mut R, words: &[Bytes], ends: &[Session
     ensures code { result ≡ code_of_ends ends.now false }
     ensures report { (replies : List ℕ) → IfSome (R.held report.old) (λ bytes. bytes ≡ replies)
         → IfSome (R.held report.new) (λ bytes. Reported (R.faults report.new) bytes replies (behind_replies result words.now)) }
-    ensures counted { R.faults report.old ≤ R.faults report.new }
+    ensures fails { RepliesFail result (R.faults report.old) (R.faults report.new) }
 {
     let code = code_of_ends(ends, false);
     let _ = write_behind_replies(report, code, words);
@@ -44,8 +45,8 @@ pub fn tell_replies<R: Sink, S>(report: &mut R, words: &[Bytes], ends: &[Session
 fn write_behind_replies<S: Sink>(sink: &mut S, code: ExitCode, words: &[Bytes]) -> bool
     ensures part { AddsPart (S.held sink.old) (S.held sink.new) (behind_replies code words.now) }
     ensures whole { OnTrue result (S.held sink.new ≡ appended (S.held sink.old) (behind_replies code words.now)) }
-    ensures counted { S.faults sink.old ≤ S.faults sink.new }
-    ensures failed { OnFalse result (Rises (S.faults sink.old) (S.faults sink.new)) }
+    ensures counted { S.faults sink.new ≡ faults_after result (S.faults sink.old) }
+    ensures fails { RepliesFail code (S.faults sink.old) (S.faults sink.new) }
 {
     match code {
         ExitCode::SinkFault => true,
@@ -57,8 +58,8 @@ fn write_behind_replies<S: Sink>(sink: &mut S, code: ExitCode, words: &[Bytes]) 
 pub fn write_last_line<S: Sink>(sink: &mut S, code: ExitCode, words: &[Bytes]) -> bool
     ensures part { AddsPart (S.held sink.old) (S.held sink.new) (last_line code words.now) }
     ensures whole { OnTrue result (S.held sink.new ≡ appended (S.held sink.old) (last_line code words.now)) }
-    ensures counted { S.faults sink.old ≤ S.faults sink.new }
-    ensures failed { OnFalse result (Rises (S.faults sink.old) (S.faults sink.new)) }
+    ensures counted { S.faults sink.new ≡ faults_after result (S.faults sink.old) }
+    ensures fails { LineFails code (S.faults sink.old) (S.faults sink.new) }
 {
     match code {
         ExitCode::Done => true,
@@ -75,8 +76,7 @@ pub fn write_last_line<S: Sink>(sink: &mut S, code: ExitCode, words: &[Bytes]) -
 fn write_place<S: Sink>(sink: &mut S, at: u32) -> bool
     ensures part { AddsPart (S.held sink.old) (S.held sink.new) (line_of (codes "bad order at " ++ decimal at)) }
     ensures whole { OnTrue result (S.held sink.new ≡ appended (S.held sink.old) (line_of (codes "bad order at " ++ decimal at))) }
-    ensures counted { S.faults sink.old ≤ S.faults sink.new }
-    ensures failed { OnFalse result (Rises (S.faults sink.old) (S.faults sink.new)) }
+    ensures counted { S.faults sink.new ≡ faults_after result (S.faults sink.old) }
 {
     let mut buffer = Buffer::new();
     let text = buffer.format(at);

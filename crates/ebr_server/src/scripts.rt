@@ -1,11 +1,11 @@
 //! Reads the scripts of a rehearsal, and makes the sinks of their sessions.
 
-ghost use Rattle.std.specs.Prelude.{◌≡◌, ◌<◌, ◌≤◌, ◌⊎◌, ℕ, List, None, length, IfErr, IfOk, IfSome, IsSomeAnd};
+ghost use Rattle.std.specs.Prelude.{◌≡◌, ◌-◌, ◌<◌, ◌≤◌, ◌⊎◌, ℕ, List, [], ◌∷◌, None, length, IfErr, IfOk, IfSome, IsSomeAnd, OnOk};
 ghost use Rattle.ebr_faults.specs.Faults.{Rises};
 ghost use Rattle.ebr_worker.specs.Runs.{IsUnwritten};
 ghost use Rattle.ebr_words.specs.Words.{out_word};
-ghost use Rattle.ebr_server.specs.Program.{AreScripts, IsHostFault};
-ghost use Rattle.ebr_server.specs.inside.Opened.{AreUnwritten, Fails, FailsFrom, MakesNone, ReadsMore};
+ghost use Rattle.ebr_server.specs.Program.{AreScripts, CallsInOrder, IsHostFault, fault_at, own_fault, sink_at, source_at, steps_from};
+ghost use Rattle.ebr_server.specs.inside.Opened.{AreUnwritten, Fails, FailsFrom, MakesNone, ReadsMore, with_steps};
 
 use crate::exit::ExitCode;
 use crate::opened::{Halt, read_word, without_source};
@@ -32,6 +32,8 @@ pub fn read_scripts<H: Host>(
     ensures source { IfErr result (λ halt. IfSome halt.source (λ s. IsHostFault halt.code × (0 < H.Source.faults s))) }
     ensures same { (w : List ℕ) → H.bytes host.new w ≡ H.bytes host.old w }
     ensures counted { H.faults host.old ≤ H.faults host.new }
+    ensures opened { OnOk result (H.calls host.new ≡ with_steps (H.calls host.old) (steps_from (source_at words.now) 3 (length words.now - 3))) }
+    ensures called { IfErr result (λ halt. CallsInOrder (H.calls host.old) (H.calls host.new) (steps_from (source_at words.now) 3 (length words.now - 3)) (own_fault halt.code halt.source)) }
 {
     let mut scripts = List::new(alloc);
     for word in FIRST_SCRIPT..words.len() as u32 {
@@ -56,6 +58,8 @@ fn read_more<H: Host>(
     ensures source { IfErr result (λ halt. IfSome halt.source (λ s. IsHostFault halt.code × (0 < H.Source.faults s))) }
     ensures same { (w : List ℕ) → H.bytes host.new w ≡ H.bytes host.old w }
     ensures counted { H.faults host.old ≤ H.faults host.new }
+    ensures opened { OnOk result (H.calls host.new ≡ with_steps (H.calls host.old) (source_at words.now word ∷ [])) }
+    ensures called { IfErr result (λ halt. CallsInOrder (H.calls host.old) (H.calls host.new) (source_at words.now word ∷ []) (own_fault halt.code halt.source)) }
 {
     match read_word(alloc, words, word, host) {
         Ok(script) => match scripts.push(script) {
@@ -74,10 +78,12 @@ pub fn make_sinks<H: Host>(
 ) -> Result<Vec<H::Sink>, ExitCode>
     requires some { 3 ≤ length words.now }
     requires few { length words.now ≤ 35 }
-    ensures made { IfOk result (λ sinks. AreUnwritten H.Sink.held 3 (length words.now) sinks.items) }
+    ensures made { IfOk result (λ sinks. AreUnwritten H.Sink.held H.Sink.faults 3 (length words.now) sinks.items) }
     ensures fails { IfErr result (λ code. MakesNone words.now 3 (Rises (H.faults host.old) (H.faults host.new)) code) }
     ensures same { (w : List ℕ) → H.bytes host.new w ≡ H.bytes host.old w }
     ensures counted { H.faults host.old ≤ H.faults host.new }
+    ensures opened { OnOk result (H.calls host.new ≡ with_steps (H.calls host.old) (steps_from (sink_at words.now) 3 (length words.now - 3))) }
+    ensures called { IfErr result (λ code. CallsInOrder (H.calls host.old) (H.calls host.new) (steps_from (sink_at words.now) 3 (length words.now - 3)) (fault_at code)) }
 {
     let mut sinks = Vec::new(alloc);
     for word in FIRST_SCRIPT..words.len() as u32 {
@@ -98,10 +104,12 @@ fn make_sink<H: Host>(
 ) -> Result<H::Sink, ExitCode>
     requires within { word < length words.now }
     requires behind { 3 ≤ word }
-    ensures made { IfOk result (λ sink. IsUnwritten H.Sink.held sink) }
+    ensures made { IfOk result (λ sink. IsUnwritten H.Sink.held H.Sink.faults sink) }
     ensures fails { IfErr result (λ code. MakesNone words.now 3 (Rises (H.faults host.old) (H.faults host.new)) code) }
     ensures same { (w : List ℕ) → H.bytes host.new w ≡ H.bytes host.old w }
     ensures counted { H.faults host.old ≤ H.faults host.new }
+    ensures opened { OnOk result (H.calls host.new ≡ with_steps (H.calls host.old) (sink_at words.now word ∷ [])) }
+    ensures called { IfErr result (λ code. CallsInOrder (H.calls host.old) (H.calls host.new) (sink_at words.now word ∷ []) (fault_at code)) }
 {
     let Ok(name) = out_word(alloc, words[word as usize].as_slice()) else {
         return Err(ExitCode::NoMemory);

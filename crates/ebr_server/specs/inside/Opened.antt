@@ -1,5 +1,7 @@
 -- What comes of opening what a word names.
-use Rattle.std.specs.Prelude.{ℕ, ◌≡◌, ◌+◌, ◌<◌, ◌≤◌, ◌⊎◌, All, List, ◌∷◌, [], ◌++◌, length, Option, Some}
+use Rattle.std.specs.Prelude.{ℕ, ◌≡◌, ◌+◌, ◌<◌, ◌≤◌, ◌⊎◌, All, false, List, ◌∷◌, [], ◌++◌, length, map, Option, Some, None}
+use Rattle.ebr_faults.specs.Faults.{one_more}
+use Rattle.ebr_outside.specs.declared.host_call.HostCall.{HostCall}
 use Rattle.ebr_server.specs.declared.exit.ExitCode.{ExitCode}
 use Rattle.ebr_server.specs.declared.exit.ExitCode.TheVariants as code
 use Rattle.ebr_order.specs.Order.{turns_of, wrong_at}
@@ -7,7 +9,12 @@ use Rattle.ebr_base.specs.declared.numbers.SessionId.{SessionId}
 use Rattle.ebr_worker.specs.Runs.{IsUnwritten}
 use Rattle.ebr_asks.specs.declared.entry.Entry.{Entry}
 use Rattle.ebr_report.specs.declared.ends.SessionEnd.{SessionEnd}
-use Rattle.ebr_server.specs.Program.{IsBehind, IsLong, IsOrder, IsShort, NoneRan, ScriptRan, most}
+use Rattle.ebr_server.specs.Program.{IsBehind, IsLong, IsOrder, IsShort, NoneRan, ScriptRan, Step, call_of, most}
+
+-- the calls, and then those of steps that came through, where they are told
+abbrev pub with_steps : Option (List HostCall) → List Step → Option (List HostCall)
+with_steps None steps = None
+with_steps (Some calls) steps = Some (calls ++ map (call_of false) steps)
 
 -- what was read
 pub record WasRead (bytes : List ℕ → Option (List ℕ)) (words : List (List ℕ)) (at : ℕ) (text : List ℕ) : Type 0 where
@@ -45,9 +52,9 @@ MakesNone words first fails code.NoMemory = Unit {0}
 MakesNone words first fails c = ⊥
 
 -- sinks of the words from one place up to another, in which nothing is written
-pub record AreUnwritten {S : Type 0} (held : S → Option (List ℕ)) (first last : ℕ) (sinks : List S) : Type 0 where
+pub record AreUnwritten {S : Type 0} (held : S → Option (List ℕ)) (faults : S → ℕ) (first last : ℕ) (sinks : List S) : Type 0 where
   pub count : first + length sinks ≡ last
-  pub unwritten : All (IsUnwritten held) sinks
+  pub unwritten : All (IsUnwritten held faults) sinks
 
 -- the turns of an order
 pub record AreTurns (bytes : List ℕ → Option (List ℕ)) (words : List (List ℕ)) (n : ℕ) (turns : List SessionId) : Type 0 where
@@ -60,6 +67,16 @@ abbrev pub OrderStops : ℕ → List ℕ → ExitCode → Type 0
 OrderStops n order (code.BadOrder at) = wrong_at n order ≡ Some at
 OrderStops n order code.NoMemory = Unit {0}
 OrderStops n order c = ⊥
+
+-- How many writes have failed behind a last line: none where there is no line, and one more at most.
+abbrev pub LineFails : ExitCode → ℕ → ℕ → Type 0
+LineFails code.Done old new = new ≡ old
+LineFails c old new = (new ≡ old) ⊎ (new ≡ one_more old)
+
+-- .. and behind replies, where there is none after a failed write either
+abbrev pub RepliesFail : ExitCode → ℕ → ℕ → Type 0
+RepliesFail code.SinkFault old new = new ≡ old
+RepliesFail c old new = LineFails c old new
 
 abbrev pub WantsMemory : ExitCode → Type 0
 WantsMemory c = c ≡ code.NoMemory

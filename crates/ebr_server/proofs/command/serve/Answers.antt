@@ -2,7 +2,7 @@ use Rattle.std.proofs.Common.{◌<◌, ◌⊎◌}
 use Rattle.std.specs.Prelude.{IsSomeAnd}
 use Rattle.ebr_faults.specs.Faults.{Rises}
 use Rattle.ebr_words.specs.Words.{command_of}
-use Rattle.ebr_server.proofs.Causes.{bad_order, complete, complete_by, done, legal, served_since, sink_fault, stops_bad, stops_long, too_long}
+use Rattle.ebr_server.proofs.Causes.{bad_order, complete, complete_by, done, legal, served_since, sink_fault, sink_stops, stops_bad, stops_long, too_long}
 use Rattle.ebr_server.proofs.command.serve.Goals as goal
 
 pub returns-clause-served : goal.returns-clause-served
@@ -20,6 +20,12 @@ returns-clause-legal g c =
 pub returns-clause-sink_fault : goal.returns-clause-sink_fault
 returns-clause-sink_fault g c =
     sink_fault (g.H.Host.bytes c.args.host.now) (Rises (g.H.Host.faults c.args.host.now) (g.H.Host.faults c.do_command.new.host) ⊎ IsSomeAnd c.do_command.result.source (λ s. 0 < g.H.Source.Source.faults s)) g.H.Sink.Sink.held g.H.Sink.Sink.faults c.args.words.now c.do_command.result.code
+    c.do_command.result.history c.do_command.result.ends (g.H.Report.Sink.faults c.do_command.result.report) (g.H.Report.Sink.held c.do_command.result.report) (command_of c.args.words.now)
+    (returns-clause-served g c)
+
+pub returns-clause-sink_stops : goal.returns-clause-sink_stops
+returns-clause-sink_stops g c =
+    sink_stops (g.H.Host.bytes c.args.host.now) (Rises (g.H.Host.faults c.args.host.now) (g.H.Host.faults c.do_command.new.host) ⊎ IsSomeAnd c.do_command.result.source (λ s. 0 < g.H.Source.Source.faults s)) g.H.Sink.Sink.held g.H.Sink.Sink.faults c.args.words.now c.do_command.result.code
     c.do_command.result.history c.do_command.result.ends (g.H.Report.Sink.faults c.do_command.result.report) (g.H.Report.Sink.held c.do_command.result.report) (command_of c.args.words.now)
     (returns-clause-served g c)
 

@@ -1,5 +1,7 @@
-use Rattle.std.proofs.Common.{◌<◌, ◌≤◌, length, arith}
-use Rattle.ebr_server.proofs.Opening.{too_long, was_read}
+use Rattle.std.proofs.Common.{◌<◌, ◌≤◌, None, length, ap, arith, refl, rules}
+use Rattle.ebr_server.specs.Program.{fault_at}
+use Rattle.ebr_server.proofs.Calls.{all_called, fault_of}
+use Rattle.ebr_server.proofs.Opening.{opened_so, too_long, was_read}
 use Rattle.ebr_server.proofs.opened.read_word.Goals as goal
 
 pub returns-in-Ok-read_bytes-clause-fails : goal.returns-in-Ok-read_bytes-clause-fails
@@ -11,3 +13,19 @@ pub returns-in-Ok-2-clause-read : goal.returns-in-Ok-2-clause-read
 returns-in-Ok-2-clause-read g c =
     let short : length c.in-Ok-read_bytes.text ≤ 1048576 = omega arith in
     was_read (g.H.Host.bytes c.args.host.now) c.args.words.now c.args.word _ _ _ _ c.requires.within c.index-words-word.is c.in-Ok.ensures.told c.in-Ok-read_bytes.ensures.bytes short
+
+pub returns-in-Ok-read_bytes-clause-called : goal.returns-in-Ok-read_bytes-clause-called
+returns-in-Ok-read_bytes-clause-called g c =
+    all_called _ _ _ _ (opened_so c.args.words.now c.args.word _ _ _ _ c.requires.within c.index-words-word.is c.in-Ok.ensures.called)
+    (fault_of _ _ None c.without_source-in-Ok-read_bytes.ensures.source (ap fault_at c.without_source-in-Ok-read_bytes.ensures.code))
+
+pub returns-in-Ok-2-clause-opened : goal.returns-in-Ok-2-clause-opened
+returns-in-Ok-2-clause-opened g c = opened_so c.args.words.now c.args.word _ _ _ _ c.requires.within c.index-words-word.is c.in-Ok.ensures.called
+
+pub returns-in-Err-Failed-read_bytes-clause-called : goal.returns-in-Err-Failed-read_bytes-clause-called
+returns-in-Err-Failed-read_bytes-clause-called g c =
+    all_called _ _ _ _ (opened_so c.args.words.now c.args.word _ _ _ _ c.requires.within c.index-words-word.is c.in-Ok.ensures.called) refl
+
+pub returns-clause-called : goal.returns-clause-called
+returns-clause-called g c =
+    all_called _ _ _ _ (opened_so c.args.words.now c.args.word _ _ _ _ c.requires.within c.index-words-word.is c.in-Ok.ensures.called) (fault_of _ _ None (search rules) (search rules))

@@ -1,5 +1,6 @@
-use Rattle.std.proofs.Common.{ℕ, ◌≡◌, ◌≤◌, List}
-use Rattle.ebr_server.specs.Program.{AreScripts}
+use Rattle.std.proofs.Common.{ℕ, ◌≡◌, ◌-◌, ◌≤◌, List}
+use Rattle.ebr_server.specs.Program.{AreScripts, source_at, steps_from}
+use Rattle.ebr_server.specs.inside.Opened.{with_steps}
 use Rattle.ebr_server.proofs.scripts.read_scripts.Given as goal
 
 -- the scripts of the words so far are read
@@ -9,4 +10,5 @@ invariant-loop-word g l = record {
   scripts : AreScripts (g.H.Host.bytes l.initial.host) l.words 3 l.word l.scripts;
   same : (w : List ℕ) → g.H.Host.bytes l.host w ≡ g.H.Host.bytes l.initial.host w;
   counted : g.H.Host.faults l.initial.host ≤ g.H.Host.faults l.host;
+  called : g.H.Host.calls l.host ≡ with_steps (g.H.Host.calls l.initial.host) (steps_from (source_at l.words) 3 (l.word - 3));
 }

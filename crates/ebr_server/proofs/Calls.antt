@@ -1,0 +1,158 @@
+-- The calls of the host, by the steps of the order of work.
+use Rattle.std.proofs.Common.{ℕ, zero, suc, ◌≡◌, ◌+◌, ◌-◌, ◌<◌, ◌≤◌, false, List, [], ◌∷◌, ◌++◌, length, Option, Some, None, arith, refl, sym, ◌∙◌, ap, subst, append_assoc, append-nil}
+use Rattle.std.specs.Prelude.{map}
+use Rattle.std.proofs.lemmas.List.{map-append}
+use Rattle.ebr_outside.specs.HostCalls.{with_call}
+use Rattle.ebr_outside.specs.declared.host_call.HostCall.{HostCall}
+use Rattle.ebr_words.specs.declared.words.Command.TheVariants.{Rehearse}
+use Rattle.ebr_server.specs.declared.exit.ExitCode.{ExitCode}
+use Rattle.ebr_server.specs.declared.exit.ExitCode.TheVariants as code
+use Rattle.ebr_server.specs.Program.{CallsInOrder, InOrder, LastFails, Step, call_of, fault_at, order_of_work, own_fault, sink_at, source_at, steps_from}
+use Rattle.ebr_server.specs.inside.Opened.{OrderStops, with_steps}
+
+abbrev Calls : Type 0
+Calls = Option (List HostCall)
+
+abbrev done_calls : List Step → List HostCall
+done_calls steps = map (call_of false) steps
+
+-- ---- steps that came through
+
+pub no_steps : (o : Calls) → o ≡ with_steps o []
+no_steps None = refl
+no_steps (Some calls) = ap Some (sym (append-nil calls))
+
+pub one_step : (o : Calls) (s : Step) → with_call o (call_of false s) ≡ with_steps o (s ∷ [])
+one_step None s = refl
+one_step (Some calls) s = refl
+
+steps_twice : (o : Calls) (a b : List Step) → with_steps (with_steps o a) b ≡ with_steps o (a ++ b)
+steps_twice None a b = refl
+steps_twice (Some calls) a b = ap Some (append_assoc calls (done_calls a) (done_calls b) ∙ ap (λ xs. calls ++ xs) (sym (map-append (call_of false) a b)))
+
+pub with_more : (old mid new : Calls) (a b : List Step) → mid ≡ with_steps old a → new ≡ with_steps mid b → new ≡ with_steps old (a ++ b)
+with_more old mid new a b first second = second ∙ ap (λ o. with_steps o b) first ∙ steps_twice old a b
+
+-- ---- the calls of a run
+
+pub all_called : (old new : Calls) (work : List Step) (fault : Option ℕ) → new ≡ with_steps old work → fault ≡ None → CallsInOrder old new work fault
+all_called None new work fault is none = is
+all_called (Some calls) new work fault is none =
+    let whole : InOrder work None (done_calls work) = record { done = work; left = []; work_is = sym (append-nil work); last = []; calls_are = sym (append-nil (done_calls work)); last_fails = refl } in
+    (done_calls work, is, subst (λ f. InOrder work f (done_calls work)) (sym none) whole)
+
+pub none_called : (o new : Calls) (work : List Step) (fault : Option ℕ) → new ≡ o → fault ≡ None → CallsInOrder o new work fault
+none_called None new work fault same none = same
+none_called (Some calls) new work fault same none =
+    let nothing : InOrder work None [] = record { done = []; left = work; work_is = refl; last = []; calls_are = refl; last_fails = refl } in
+    ([], same ∙ ap Some (sym (append-nil calls)), subst (λ f. InOrder work f []) (sym none) nothing)
+
+-- more steps are left
+fails_more : (fault : Option ℕ) (left rest : List Step) (calls : List HostCall) → LastFails fault left calls → LastFails fault (left ++ rest) calls
+fails_more None left rest calls fails = fails
+fails_more (Some at) [] rest calls fails = absurd fails
+fails_more (Some at) (s ∷ left) rest calls fails = fails
+
+order_more : (front part rest work : List Step) (fault : Option ℕ) (calls : List HostCall) → work ≡ front ++ (part ++ rest) → InOrder part fault calls → InOrder work fault (done_calls front ++ calls)
+order_more front part rest work fault calls split in_part = record {
+  done = front ++ in_part.done;
+  left = in_part.left ++ rest;
+  work_is = split
+      ∙ ap (λ p. front ++ (p ++ rest)) in_part.work_is
+      ∙ ap (λ p. front ++ p) (append_assoc in_part.done in_part.left rest)
+      ∙ sym (append_assoc front in_part.done (in_part.left ++ rest));
+  last = in_part.last;
+  calls_are = ap (λ c. done_calls front ++ c) in_part.calls_are
+      ∙ sym (append_assoc (done_calls front) (done_calls in_part.done) in_part.last)
+      ∙ ap (λ c. c ++ in_part.last) (sym (map-append (call_of false) front in_part.done));
+  last_fails = fails_more fault in_part.left rest in_part.last in_part.last_fails;
+}
+
+-- a part of the work, behind steps that came through
+pub called_behind : (old mid new : Calls) (front part rest work : List Step) (fault : Option ℕ) → mid ≡ with_steps old front → CallsInOrder mid new part fault → work ≡ front ++ (part ++ rest) → CallsInOrder old new work fault
+called_behind None mid new front part rest work fault is called split = subst (λ m. CallsInOrder m new part fault) is called
+called_behind (Some calls) mid new front part rest work fault is called split = behind (subst (λ m. CallsInOrder m new part fault) is called)
+  where
+    behind : CallsInOrder (Some (calls ++ done_calls front)) new part fault → CallsInOrder (Some calls) new work fault
+    behind on = (done_calls front ++ on.0, on.1 ∙ ap Some (append_assoc calls (done_calls front) on.0), order_more front part rest work fault on.0 split on.2)
+
+pub called_first : (old new : Calls) (part rest work : List Step) (fault : Option ℕ) → CallsInOrder old new part fault → work ≡ part ++ rest → CallsInOrder old new work fault
+called_first old new part rest work fault called split = called_behind old old new [] part rest work fault (no_steps old) called split
+
+pub fault_of : {C : Type 0} (c : ExitCode) (s : Option C) (fault : Option ℕ) → s ≡ None → fault_at c ≡ fault → own_fault c s ≡ fault
+fault_of c s fault none is = ap (own_fault c) none ∙ is
+
+pub without_own : {C : Type 0} (old new : Calls) (work : List Step) (c d : ExitCode) (s : Option C) → s ≡ None → c ≡ d → CallsInOrder old new work (fault_at d) → CallsInOrder old new work (own_fault c s)
+without_own old new work c d s none is called = subst (CallsInOrder old new work) (sym (fault_of c s (fault_at d) none (ap fault_at is))) called
+
+-- a wrong order is no fault of the host
+pub order_faultless : (n : ℕ) (order : List ℕ) (c : ExitCode) → OrderStops n order c → fault_at c ≡ None
+order_faultless n order code.Done stops = absurd stops
+order_faultless n order code.Usage stops = absurd stops
+order_faultless n order (code.HostFault w) stops = absurd stops
+order_faultless n order code.SinkFault stops = absurd stops
+order_faultless n order code.NoMemory stops = refl
+order_faultless n order (code.BadOrder at) stops = refl
+order_faultless n order (code.TooLong w) stops = absurd stops
+
+-- ---- a step at each of many places
+
+steps_split : (f : ℕ → Step) (at a b : ℕ) → steps_from f at (a + b) ≡ steps_from f at a ++ steps_from f (at + a) b
+steps_split f at zero b =
+    let none : zero + b ≡ b = omega arith in
+    let here : at ≡ at + zero = omega arith in
+    ap (steps_from f at) none ∙ ap (λ k. steps_from f k b) here
+steps_split f at (suc a) b =
+    let more : suc a + b ≡ suc (a + b) = omega arith in
+    let here : at + 1 + a ≡ at + suc a = omega arith in
+    ap (steps_from f at) more ∙ ap (λ xs. f at ∷ xs) (steps_split f (at + 1) a b ∙ ap (λ k. steps_from f (at + 1) a ++ steps_from f k b) here)
+
+-- one step among them
+step_between : (f : ℕ → Step) (w n : ℕ) → 3 ≤ w → w < n → steps_from f 3 (n - 3) ≡ steps_from f 3 (w - 3) ++ (f w ∷ steps_from f (w + 1) (n - w - 1))
+step_between f w n from below =
+    let parts : n - 3 ≡ (w - 3) + suc (n - w - 1) = omega (arith, from, below) in
+    let here : 3 + (w - 3) ≡ w = omega (arith, from) in
+    ap (steps_from f 3) parts ∙ steps_split f 3 (w - 3) (suc (n - w - 1)) ∙ ap (λ k. steps_from f 3 (w - 3) ++ (f k ∷ steps_from f (k + 1) (n - w - 1))) here
+
+pub called_at : (f : ℕ → Step) (old mid new : Calls) (w n : ℕ) (fault : Option ℕ) → 3 ≤ w → w < n → mid ≡ with_steps old (steps_from f 3 (w - 3)) → CallsInOrder mid new (f w ∷ []) fault → CallsInOrder old new (steps_from f 3 (n - 3)) fault
+called_at f old mid new w n fault from below so_far called =
+    called_behind old mid new (steps_from f 3 (w - 3)) (f w ∷ []) (steps_from f (w + 1) (n - w - 1)) (steps_from f 3 (n - 3)) fault so_far called (step_between f w n from below)
+
+pub step_more : (f : ℕ → Step) (old mid new : Calls) (w : ℕ) → 3 ≤ w → mid ≡ with_steps old (steps_from f 3 (w - 3)) → new ≡ with_steps mid (f w ∷ []) → new ≡ with_steps old (steps_from f 3 (w + 1 - 3))
+step_more f old mid new w from so_far more =
+    let parts : w + 1 - 3 ≡ (w - 3) + 1 = omega (arith, from) in
+    let here : 3 + (w - 3) ≡ w = omega (arith, from) in
+    let steps : steps_from f 3 (w - 3) ++ (f w ∷ []) ≡ steps_from f 3 (w + 1 - 3) =
+    sym (ap (steps_from f 3) parts ∙ steps_split f 3 (w - 3) 1 ∙ ap (λ k. steps_from f 3 (w - 3) ++ (f k ∷ [])) here) in
+    with_more old mid new (steps_from f 3 (w - 3)) (f w ∷ []) so_far more ∙ ap (with_steps old) steps
+
+-- ---- a rehearsal
+
+module _ (words : List (List ℕ)) (old : Calls) where
+  abbrev n : ℕ
+  n = length words - 3
+
+  abbrev scripts : List Step
+  scripts = steps_from (source_at words) 3 n
+
+  abbrev sinks : List Step
+  sinks = steps_from (sink_at words) 3 n
+
+  abbrev work : List Step
+  work = order_of_work (Some Rehearse) words
+
+  pub order_called : (new : Calls) (fault : Option ℕ) → CallsInOrder old new (source_at words 2 ∷ []) fault → CallsInOrder old new work fault
+  order_called new fault called = called_first old new (source_at words 2 ∷ []) (scripts ++ sinks) work fault called refl
+
+  pub scripts_called : (mid new : Calls) (fault : Option ℕ) → mid ≡ with_steps old (source_at words 2 ∷ []) → CallsInOrder mid new scripts fault → CallsInOrder old new work fault
+  scripts_called mid new fault first called = called_behind old mid new (source_at words 2 ∷ []) scripts sinks work fault first called refl
+
+  pub sinks_called : (mid last new : Calls) (fault : Option ℕ) → mid ≡ with_steps old (source_at words 2 ∷ []) → last ≡ with_steps mid scripts → CallsInOrder last new sinks fault → CallsInOrder old new work fault
+  sinks_called mid last new fault first second called =
+      let before : last ≡ with_steps old (source_at words 2 ∷ scripts) = with_more old mid last (source_at words 2 ∷ []) scripts first second in
+      let whole : work ≡ (source_at words 2 ∷ scripts) ++ (sinks ++ []) = ap (λ xs. source_at words 2 ∷ (scripts ++ xs)) (sym (append-nil sinks)) in
+      called_behind old last new (source_at words 2 ∷ scripts) sinks [] work fault before called whole
+
+  pub all_opened : (mid last new : Calls) → mid ≡ with_steps old (source_at words 2 ∷ []) → last ≡ with_steps mid scripts → new ≡ with_steps last sinks → new ≡ with_steps old work
+  all_opened mid last new first second third =
+      with_more old last new (source_at words 2 ∷ scripts) sinks (with_more old mid last (source_at words 2 ∷ []) scripts first second) third
