@@ -1,3 +1,4 @@
 pub mod Sample
 pub mod OneRow
+pub mod Keyless
 pub mod TwoSessions

@@ -10,11 +10,15 @@ mod base;
 #[cfg(test)]
 mod command_line;
 #[cfg(test)]
+mod commits;
+#[cfg(test)]
 mod cut;
 #[cfg(test)]
 mod editions;
 #[cfg(test)]
 mod functions;
+#[cfg(test)]
+mod large;
 #[cfg(test)]
 mod lexer;
 #[cfg(test)]
@@ -29,6 +33,8 @@ mod order;
 mod outside;
 #[cfg(test)]
 mod records;
+#[cfg(test)]
+mod stores;
 #[cfg(test)]
 mod summary;
 #[cfg(test)]

@@ -102,3 +102,39 @@ fn rows_are_held_until_they_are_released(rt: HostRuntime) -> Result<(), Fail> {
     }
     Ok(())
 }
+
+/// A transaction locks so many rows, and another one none of them.
+fn holds_many(locks: &mut Locks, n: u32) -> Result<bool, NoMemory> {
+    for i in 0..n {
+        let row = row(i as u64);
+        locks.reserve(row, A)?;
+        if locks.take(row, A) != Ok(()) {
+            return Ok(false);
+        }
+        locks.reserve(row, B)?;
+        if locks.take(row, B) != Err(Held { by: A }) {
+            return Ok(false);
+        }
+    }
+    Ok(locks.held(A) == n && locks.held(B) == 0)
+}
+
+/// A place that was made for a lock is none.
+fn place_is_no_lock(locks: &mut Locks, n: u32) -> Result<bool, NoMemory> {
+    let free = row(n as u64);
+    locks.reserve(free, B)?;
+    let none = locks.holder(free) == None && locks.held(B) == 0;
+    Ok(none && !locks.holds_in(TableId(1), A) && locks.holds_in(TableId(1), B))
+}
+
+#[test]
+fn thousands_of_rows_are_held(rt: HostRuntime) -> Result<(), Fail> {
+    let mut locks = Locks::new(rt.alloc())?;
+    assert!(rt; holds_many(&mut locks, 5000)?);
+    assert!(rt; place_is_no_lock(&mut locks, 5000)?);
+    locks.release_to(A, 2000);
+    assert!(rt; locks.held(A) == 2000);
+    assert!(rt; locks.holder(row(1999)) == Some(A));
+    assert!(rt; locks.holder(row(2000)) == None);
+    Ok(())
+}

@@ -3,7 +3,8 @@
 use crate::answers::release;
 use ebr_base::{Bytes, List, NoMemory};
 use ebr_outside::{
-    Fail, Failed, FileHost, Host, HostErr, MemFile, MemHost, MemSink, MemSource, Sink, Source,
+    Fail, Failed, FileHost, Host, HostCall, HostErr, HostMethod, MemFile, MemHost, MemSink,
+    MemSource, Sink, Source,
 };
 use std::alloc::Global;
 
@@ -297,17 +298,46 @@ static SINKS_BEHIND: [Made; 2] = [
     (b"b.out", &[b"one", b"two"], Some(true)),
 ];
 
+/// A call of a host: what it was asked for, of which word, and whether it failed.
+type Told = (HostMethod, &'static [u8], bool);
+
+/// The calls of all these rows.
+static TOLD: [Told; 5] = [
+    (HostMethod::Sink, b"a.out", false),
+    (HostMethod::Sink, b"a.out", false),
+    (HostMethod::Source, b"b.out", true),
+    (HostMethod::Sink, b"a.out", true),
+    (HostMethod::Sink, b"b.out", false),
+];
+
+/// Whether a host tells these calls.
+fn tells(calls: &[HostCall], rows: &[Told]) -> bool {
+    if calls.len() != rows.len() {
+        return false;
+    }
+    for (at, call) in calls.iter().enumerate() {
+        let (method, word, failed) = rows[at];
+        if call.method != method || call.word.as_slice() != word || call.failed != failed {
+            return false;
+        }
+    }
+    true
+}
+
 fn host_makes(alloc: Global) -> Result<bool, NoMemory> {
     let mut host = sink_host(alloc)?;
     let made = all_make(alloc, &mut host, &SINKS)
         && names(alloc, &mut host, &NO_SOURCE)
-        && all_make(alloc, &mut host, &SINKS_BEHIND);
+        && all_make(alloc, &mut host, &SINKS_BEHIND)
+        && tells(host.calls(), &TOLD);
     release(host);
     Ok(made)
 }
 
 #[test]
-fn a_sink_fails_as_the_first_file_of_its_word_says(rt: HostRuntime) -> Result<(), std::test::Fail> {
+fn a_sink_fails_as_the_first_file_of_its_word_says_and_calls_are_told(
+    rt: HostRuntime,
+) -> Result<(), std::test::Fail> {
     assert!(rt; host_makes(rt.alloc())?);
     Ok(())
 }

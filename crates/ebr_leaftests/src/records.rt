@@ -206,15 +206,15 @@ fn a_keeper_stops_at_each_call_that_fails(rt: HostRuntime) -> Result<(), Fail> {
     Ok(())
 }
 
-/// 255 records take 1,048,576 bytes each, so that 1,048,574 bytes are left. A record that is one byte longer is refused,
+/// 511 records take 1,048,576 bytes each, so that 1,048,567 bytes are left. A record that is one byte longer is refused,
 /// though its call is one that fails; one that is just as long is kept, and then none is.
 fn is_full_at_the_byte(alloc: Global) -> Result<bool, NoMemory> {
-    let mut keeper = ListKeep::new(alloc, &[256])?;
-    let past = JournalFault::Full { len: 268_435_457 };
-    let far = JournalFault::Full { len: 268_435_471 };
-    let full = takes(alloc, &mut keeper, 1_048_561, 255, Ok(()))
-        && takes(alloc, &mut keeper, 1_048_560, 1, Err(past))
-        && takes(alloc, &mut keeper, 1_048_559, 1, Ok(()))
+    let mut keeper = ListKeep::new(alloc, &[512])?;
+    let past = JournalFault::Full { len: 536_870_913 };
+    let far = JournalFault::Full { len: 536_870_931 };
+    let full = takes(alloc, &mut keeper, 1_048_557, 511, Ok(()))
+        && takes(alloc, &mut keeper, 1_048_549, 1, Err(past))
+        && takes(alloc, &mut keeper, 1_048_548, 1, Ok(()))
         && takes(alloc, &mut keeper, 0, 2, Err(far))
         && !keeper.is_stopped();
     release(keeper);
@@ -223,16 +223,16 @@ fn is_full_at_the_byte(alloc: Global) -> Result<bool, NoMemory> {
 
 /// A keeper that has stopped says so of a record that wouldn't fit either.
 fn stops_before_it_is_full(alloc: Global) -> Result<bool, NoMemory> {
-    let mut keeper = ListKeep::new(alloc, &[256])?;
-    let stops = takes(alloc, &mut keeper, 1_048_561, 255, Ok(()))
+    let mut keeper = ListKeep::new(alloc, &[512])?;
+    let stops = takes(alloc, &mut keeper, 1_048_557, 511, Ok(()))
         && takes(
             alloc,
             &mut keeper,
-            1_048_559,
+            1_048_548,
             1,
             Err(JournalFault::DiskFault),
         )
-        && takes(alloc, &mut keeper, 1_048_560, 1, Err(JournalFault::Stopped));
+        && takes(alloc, &mut keeper, 1_048_549, 1, Err(JournalFault::Stopped));
     release(keeper);
     Ok(stops)
 }

@@ -106,7 +106,7 @@ fn id_of(table: Option<&TableDef>) -> u32 {
     }
 }
 
-/// A call, by the table's name or its place.
+/// A call, by the table's name, its id or its place.
 #[derive(Clone, Copy)]
 enum Step {
     /// Makes a table of so many columns without a key.
@@ -119,6 +119,7 @@ enum Step {
     Add(&'static [u8], &'static [u8], ColType),
     Remove(&'static [u8]),
     Find(&'static [u8]),
+    FindId(u32),
     Nth(u32),
 }
 
@@ -169,6 +170,7 @@ fn take(alloc: Global, tables: &mut Tables, step: Step) -> Result<u32, Stop> {
         Step::Add(of, added, ty) => add(tables, &name(alloc, of)?, name(alloc, added), ty),
         Step::Remove(of) => remove(tables, &name(alloc, of)?),
         Step::Find(of) => Ok(id_of(tables.find(&name(alloc, of)?))),
+        Step::FindId(id) => Ok(id_of(tables.find_id(TableId(id)))),
         Step::Nth(at) => Ok(id_of(tables.nth(at))),
     }
 }
@@ -205,8 +207,9 @@ fn tables_go(alloc: Global, count: u32, rows: &[Taken]) -> Result<bool, NoMemory
     Ok(goes)
 }
 
-static STEPS: [Taken; 14] = [
+static STEPS: [Taken; 20] = [
     (Step::Nth(0), Ok(0)),
+    (Step::FindId(1), Ok(0)),
     (Step::Wide(b"a", 1), Ok(1)),
     (Step::Wide(b"b", 1), Ok(2)),
     (Step::Wide(b"c", 1), Ok(3)),
@@ -220,23 +223,31 @@ static STEPS: [Taken; 14] = [
     (Step::Nth(1), Ok(3)),
     (Step::Wide(b"b", 1), Ok(4)),
     (Step::Nth(2), Ok(4)),
+    (Step::FindId(0), Ok(0)),
+    (Step::FindId(1), Ok(1)),
+    (Step::FindId(2), Ok(0)),
+    (Step::FindId(4), Ok(4)),
+    (Step::FindId(5), Ok(0)),
 ];
 
 #[test]
-fn tables_are_found_by_name_and_in_order_of_id(rt: HostRuntime) -> Result<(), Fail> {
+fn tables_are_found_by_name_by_id_and_in_order_of_id(rt: HostRuntime) -> Result<(), Fail> {
     assert!(rt; tables_go(rt.alloc(), 0, &STEPS)?);
     Ok(())
 }
 
 /// Definitions that a thousand tables, T0000 among them, refuse for so many causes: the first cause is told. The key's
 /// column 65 isn't there.
-static FULL: [Taken; 6] = [
+static FULL: [Taken; 9] = [
     (Step::Keyed(b"T0000", 65, &[65]), Err(Code::Ora(955))),
     (Step::Keyed(b"U0000", 65, &[65]), Err(Code::Ebr(29))),
     (Step::Wide(b"U0000", 65), Err(Code::Ebr(36))),
     (Step::Wide(b"U0000", 64), Err(Code::Ebr(37))),
     (Step::Remove(b"T0999"), Ok(1000)),
     (Step::Wide(b"U0000", 64), Ok(1001)),
+    (Step::FindId(500), Ok(500)),
+    (Step::FindId(1000), Ok(0)),
+    (Step::FindId(1001), Ok(1001)),
 ];
 
 #[test]

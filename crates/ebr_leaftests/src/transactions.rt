@@ -10,8 +10,8 @@ ghost use Rattle.ebr_leaftests.specs.TwoSessions.{IsTheTable, HasTheTable, IsLoo
 
 use crate::answers::release;
 use ebr_base::{
-    Change, Code, List, Name, NoMemory, RowId, RowNo, SessionId, Stop, TableDef, TableId, TxId,
-    Value,
+    Bytes, Change, Code, List, Name, NoMemory, RowId, RowNo, SessionId, Stop, TableDef, TableId,
+    TxId, Value,
 };
 use ebr_tx::{Transactions, TxMark};
 use std::alloc::Global;
@@ -26,26 +26,26 @@ fn records_are_counted()
     ensures full { is_full [] (put 1 10) ≡ false }
 {}
 
-const A: TxId = TxId {
+pub const A: TxId = TxId {
     session: SessionId(1),
     depth: 0,
 };
 
 /// An autonomous transaction of A's session.
-const INNER: TxId = TxId {
+pub const INNER: TxId = TxId {
     session: SessionId(1),
     depth: 1,
 };
 
-const B: TxId = TxId {
+pub const B: TxId = TxId {
     session: SessionId(2),
     depth: 0,
 };
 
-const TABLE: TableId = TableId(1);
+pub const TABLE: TableId = TableId(1);
 
 /// A table with its first column as its key.
-fn table(alloc: Global) -> Result<TableDef, NoMemory>
+pub fn table(alloc: Global) -> Result<TableDef, NoMemory>
     ensures { IfOk result IsTheTable }
 {
     let name = Name::of(alloc, b"T")?.ok_or(NoMemory)?;
@@ -66,7 +66,7 @@ fn first_column(alloc: Global) -> Result<List<u16>, NoMemory>
 }
 
 /// Two sessions, and the table.
-fn two_sessions(alloc: Global) -> Result<Transactions, NoMemory>
+pub fn two_sessions(alloc: Global) -> Result<Transactions, NoMemory>
     ensures names { IfOk result (λ tx. names_of tx.contents.live ≡ names_at false) }
     ensures table { IfOk result (λ tx. HasTheTable tx.contents) }
 {
@@ -80,11 +80,11 @@ fn digit(byte: u8) -> u8 {
 }
 
 /// A number as a digit; what has no digit is never wanted.
-fn spelled(n: u64) -> u8 {
+pub fn spelled(n: u64) -> u8 {
     if n < 10 { b'0' + n as u8 } else { b'?' }
 }
 
-fn flag(is: bool) -> u8 {
+pub fn flag(is: bool) -> u8 {
     if is { b'1' } else { b'0' }
 }
 
@@ -118,10 +118,19 @@ fn row(n: u8) -> RowId
     }
 }
 
-/// The values of a row: its key and another number.
-fn values(alloc: Global, key: u8, n: u8) -> Result<List<Value>, NoMemory> {
+/// A key, which is a text where it is even.
+fn key(alloc: Global, key: u8) -> Result<Value, NoMemory> {
+    if key % 2 == 0 {
+        let letter = [b'a'.saturating_add(key)];
+        return Ok(Value::text(Bytes::from_slice(alloc, &letter)?));
+    }
+    Ok(Value::Num(key as i64))
+}
+
+/// The values of a row: its key and a number.
+fn values(alloc: Global, of: u8, n: u8) -> Result<List<Value>, NoMemory> {
     let mut values = List::new(alloc);
-    values.push(Value::Num(key as i64))?;
+    values.push(key(alloc, of)?)?;
     values.push(Value::Num(n as i64))?;
     Ok(values)
 }
@@ -154,13 +163,13 @@ fn is_seen(tx: &Transactions, t: TxId, row: RowId) -> bool
 
 /// One step of a script.
 #[derive(Clone, Copy)]
-struct Step {
-    t: TxId,
-    what: u8,
-    x: u8,
-    y: u8,
-    z: u8,
-    wanted: u8,
+pub struct Step {
+    pub t: TxId,
+    pub what: u8,
+    pub x: u8,
+    pub y: u8,
+    pub z: u8,
+    pub wanted: u8,
 }
 
 /// The transaction of a letter; the autonomous one only where it is there.
@@ -282,13 +291,23 @@ fn begin(tx: &mut Transactions, step: Step) -> Result<u8, NoMemory>
     Ok(b'.')
 }
 
-fn commit(tx: &mut Transactions, step: Step) -> Result<u8, NoMemory>
+pub fn commit(tx: &mut Transactions, t: TxId) -> Result<u8, NoMemory>
+    requires live { IsLive tx.old.contents t }
+    ensures stacks { names_of tx.new.contents.live ≡ names_of tx.old.contents.live }
+    ensures tables { tx.new.contents.tables ≡ tx.old.contents.tables }
+{
+    release(tx.prepare(t)?);
+    tx.settle(t);
+    Ok(b'.')
+}
+
+/// Prepares a commit that doesn't come.
+fn prepare(tx: &mut Transactions, step: Step) -> Result<u8, NoMemory>
     requires live { IsLive tx.old.contents step.t }
     ensures stacks { names_of tx.new.contents.live ≡ names_of tx.old.contents.live }
     ensures tables { tx.new.contents.tables ≡ tx.old.contents.tables }
 {
     release(tx.prepare(step.t)?);
-    tx.settle(step.t);
     Ok(b'.')
 }
 
@@ -302,7 +321,7 @@ fn rollback(tx: &mut Transactions, step: Step) -> Result<u8, NoMemory>
 }
 
 /// The name of a savepoint.
-fn savepoint_name(alloc: Global, n: u8) -> Result<Name, NoMemory> {
+pub fn savepoint_name(alloc: Global, n: u8) -> Result<Name, NoMemory> {
     Name::of(alloc, &[b'S', b'0'.saturating_add(n)])?.ok_or(NoMemory)
 }
 
@@ -327,8 +346,41 @@ fn back_to(alloc: Global, tx: &mut Transactions, step: Step) -> Result<u8, NoMem
     }
 }
 
+/// Begins, inserts, changes and locks as the step has it, makes a savepoint, and goes back to what was before.
+fn undo(alloc: Global, tx: &mut Transactions, def: &TableDef, step: Step) -> Result<u8, NoMemory>
+    requires live { IsLive tx.old.contents step.t }
+    requires table { HasTheTable tx.old.contents }
+    requires def { IsTheTable def.now }
+    ensures stacks { names_of tx.new.contents.live ≡ names_of tx.old.contents.live }
+    ensures tables { tx.new.contents.tables ≡ tx.old.contents.tables }
+{
+    let mark = tx.mark(step.t)?;
+    work(alloc, tx, def, step)?;
+    if !is_mark(tx, step.t, &mark)? {
+        return Ok(b'?');
+    }
+    tx.back_to_mark(step.t, mark);
+    Ok(b'.')
+}
+
+fn work(alloc: Global, tx: &mut Transactions, def: &TableDef, step: Step) -> Result<(), NoMemory>
+    requires live { IsLive tx.old.contents step.t }
+    requires table { HasTheTable tx.old.contents }
+    requires def { IsTheTable def.now }
+    ensures stacks { names_of tx.new.contents.live ≡ names_of tx.old.contents.live }
+    ensures tables { tx.new.contents.tables ≡ tx.old.contents.tables }
+{
+    begin(tx, step)?;
+    insert(alloc, tx, def, step)?;
+    change(alloc, tx, def, step)?;
+    lock(tx, step)?;
+    savepoint(alloc, tx, step)?;
+    Ok(())
+}
+
 /// What a step answers that writes: `b` begins, `c` changes row x to key y and number z, `i` inserts key x and number y,
-/// `l` locks row x, `p` makes savepoint x, `k` goes back to it, `w` commits, `r` rolls back.
+/// `l` locks row x, `p` makes savepoint x, `k` goes back to it, `w` commits, `q` prepares a commit alone, `r` rolls back, `u`
+/// does work and undoes it.
 fn write(alloc: Global, tx: &mut Transactions, def: &TableDef, step: Step) -> Result<u8, NoMemory>
     requires live { IsLive tx.old.contents step.t }
     requires table { HasTheTable tx.old.contents }
@@ -343,14 +395,21 @@ fn write(alloc: Global, tx: &mut Transactions, def: &TableDef, step: Step) -> Re
         b'l' => lock(tx, step),
         b'p' => savepoint(alloc, tx, step),
         b'k' => back_to(alloc, tx, step),
-        b'w' => commit(tx, step),
+        b'w' => commit(tx, step.t),
+        b'q' => prepare(tx, step),
         b'r' => rollback(tx, step),
+        b'u' => undo(alloc, tx, def, step),
         _ => Ok(b'?'),
     }
 }
 
 /// What a step answers.
-fn answer(alloc: Global, tx: &mut Transactions, def: &TableDef, step: Step) -> Result<u8, NoMemory>
+pub fn answer(
+    alloc: Global,
+    tx: &mut Transactions,
+    def: &TableDef,
+    step: Step,
+) -> Result<u8, NoMemory>
     requires live { IsLive tx.old.contents step.t }
     requires table { HasTheTable tx.old.contents }
     requires def { IsTheTable def.now }
@@ -389,7 +448,7 @@ fn take(
 }
 
 /// Opens an autonomous level of A's session.
-fn open(tx: &mut Transactions, inner: bool) -> Result<Option<bool>, NoMemory>
+pub fn open(tx: &mut Transactions, inner: bool) -> Result<Option<bool>, NoMemory>
     requires names { names_of tx.old.contents.live ≡ names_at inner }
     ensures goes { Goes result inner tx.new.contents }
     ensures tables { tx.new.contents.tables ≡ tx.old.contents.tables }

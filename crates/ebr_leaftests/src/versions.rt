@@ -106,7 +106,7 @@ static READS: [(u32, i64, Option<u32>); 6] = [
     (9, 30, None),
 ];
 
-fn number_of(values: Option<&List<Value>>) -> i64 {
+pub fn number_of(values: Option<&List<Value>>) -> i64 {
     match values.and_then(|values| values.get(0)) {
         Some(Value::Num(n)) => *n,
         _ => 0,
@@ -134,6 +134,42 @@ fn find(alloc: Global, versions: &Versions, n: i64) -> Result<Option<RowNo>, NoM
     let mut key = List::new(alloc);
     key.push(Value::Num(n))?;
     Ok(versions.find_key(TableId(1), key.as_slice()))
+}
+
+/// The row that had the key after so many commits.
+fn find_at(
+    alloc: Global,
+    versions: &Versions,
+    count: u32,
+    n: i64,
+) -> Result<Option<RowNo>, NoMemory>
+    requires { OfOneRow versions.now }
+{
+    let mut key = List::new(alloc);
+    key.push(Value::Num(n))?;
+    Ok(versions.find_key_at(count, TableId(1), key.as_slice()))
+}
+
+/// After so many commits the key is the row's, or nobody's.
+static KEYS: [(u32, i64, bool); 8] = [
+    (0, 10, false),
+    (1, 10, true),
+    (2, 10, false),
+    (2, 20, true),
+    (3, 20, false),
+    (4, 20, false),
+    (4, 30, true),
+    (9, 30, true),
+];
+
+#[test]
+fn keys_are_those_of_the_values_at_a_time(rt: HostRuntime) -> Result<(), Fail> {
+    let alloc = rt.alloc();
+    let versions = history(alloc)?;
+    for (count, n, has) in &KEYS {
+        assert!(rt; find_at(alloc, &versions, *count, *n)?.is_some() == *has);
+    }
+    Ok(())
 }
 
 #[test]

@@ -2,19 +2,17 @@
 //! Edition-Based Redefinition, has what an edition sees. How definitions are stamped is own.
 
 ghost use Rattle.std.specs.Prelude.{IfOk};
+ghost use Rattle.ebr_cross.specs.Following.{MayFollow};
 ghost use Rattle.ebr_units.specs.Living.{IsKept};
 
-use crate::edition::{name, tokens_of};
+use crate::definitions::{definition_of, planned};
+use crate::edition::name;
 use crate::inputs::number;
 use crate::run::{first_row, release};
-use ebr_ast::Definition;
 use ebr_base::{Bytes, Class, EditionNo, NoMemory, Shared};
 use ebr_code::CodeBook;
 use ebr_cross::{Catalogue, CatalogueRecord, view_of};
-use ebr_ddlparse::definition;
-use ebr_lexer::Token;
 use ebr_names::is_in_order;
-use ebr_plparse::created;
 use ebr_units::Units;
 use std::alloc::Global;
 use std::rt::HostRuntime;
@@ -33,6 +31,8 @@ static DEFINITIONS: &str = "\
 1 H1.3+ P1.2!;2 H2.2+ P1.2+;3 H2.2+ P3.1!; @ 2 @ CREATE OR REPLACE PROCEDURE h IS BEGIN NULL; END;~\
 1 P1.2!;2 H2.2+ P1.2+;3 H2.2+ P3.1!; @ 1 @ DROP PROCEDURE h~\
 1 P1.2!;2 H2.2+ P1.2+;3 H2.2+ P3.1!; @ 1 @ CREATE TABLE t (id NUMBER(9) PRIMARY KEY)~\
+1 P1.2!;2 H2.2+ P1.2+;3 H2.2+ P3.1!; @ 1 @ ALTER TABLE t ADD n NUMBER(9)~\
+1 P1.2!;2 H2.2+ P1.2+;3 H2.2+ P3.1!; @ 1 @ DROP TABLE t~\
 1 P1.2!;2 H2.2+ P1.2+;3 H2.2+ P3.1!; @ 1 @ ALTER DATABASE DEFAULT EDITION = v2~\
 1 P1.2!;2 H2.2+ P1.2+;3 none; @ 1 @ DROP EDITION v3 CASCADE~\
 1 P1.2!;2 P1.2!;3 none; @ 2 @ DROP PROCEDURE h~\
@@ -45,35 +45,29 @@ fn nothing_defined(alloc: Global) -> Result<Catalogue, NoMemory>
     Catalogue::new(alloc)
 }
 
-/// The definition that tokens spell; where they spell none, the test fails with want of memory.
-fn defined(alloc: Global, tokens: &[Token]) -> Result<Definition, NoMemory> {
-    match created(alloc, tokens)? {
-        Some(what) => Ok(what),
-        None => definition(alloc, tokens)?.ok_or(NoMemory),
-    }
-}
-
-fn definition_of(alloc: Global, text: &str) -> Result<Shared<Definition>, NoMemory> {
-    let tokens = tokens_of(alloc, text)?;
-    let what = defined(alloc, tokens.as_slice())?;
-    Ok(Shared::new(alloc, what)?)
-}
-
-/// Carries out a definition; where it is refused, the test fails with want of memory.
-fn apply(
-    alloc: Global,
-    c: &mut Catalogue,
-    e: EditionNo,
-    what: &Definition,
-) -> Result<CatalogueRecord, NoMemory>
-    requires { IsKept c.old }
+/// Carries out what a record says.
+fn carry_out(alloc: Global, c: &mut Catalogue, made: &CatalogueRecord) -> Result<(), NoMemory>
+    requires kept { IsKept c.old }
+    requires follows { MayFollow c.old made.now }
     ensures { IsKept c.new }
 {
-    let text = Bytes::new(alloc);
-    match c.apply(alloc, e, &[], what, &text) {
-        Ok(made) => Ok(made),
-        Err(_) => Err(NoMemory),
-    }
+    c.carry_out(alloc, made)
+}
+
+/// Carries out what a record says, and has the books take notice of it.
+fn follow(
+    alloc: Global,
+    c: &mut Catalogue,
+    units: &mut Units,
+    made: &CatalogueRecord,
+) -> Result<(), NoMemory>
+    requires kept { IsKept c.old }
+    requires follows { MayFollow c.old made.now }
+    ensures { IsKept c.new }
+{
+    carry_out(alloc, c, made)?;
+    units.after_ddl(c, made);
+    Ok(())
 }
 
 fn define(
@@ -87,10 +81,10 @@ fn define(
     ensures { IsKept c.new }
 {
     let what = definition_of(alloc, text)?;
-    let made = apply(alloc, c, e, what.get())?;
-    units.after_ddl(c, &made);
+    let made = planned(alloc, c, e, what.get())?;
+    let followed = follow(alloc, c, units, &made);
     release(made);
-    Ok(())
+    followed
 }
 
 fn mark(valid: bool) -> &'static str {

@@ -7,6 +7,8 @@
 #[cfg(test)]
 mod bodies;
 #[cfg(test)]
+mod definitions;
+#[cfg(test)]
 mod edition;
 #[cfg(test)]
 mod editions;

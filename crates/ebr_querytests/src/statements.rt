@@ -330,7 +330,7 @@ fn repeated(
     ensures stacks { names_of tx.new.contents.live ≡ names_of tx.old.contents.live }
     ensures tables { tx.new.contents.tables ≡ tx.old.contents.tables }
 {
-    for _turn in 0..1_000 {
+    for _turn in 0..2_000 {
         if !tx.begun(t) {
             return Err(NoMemory);
         }

@@ -126,13 +126,14 @@ module _ (at : EditionNo) (text content : List ℕ) where
     part = λ f. with_specification f.unit.class (valid_unit v (unit_key f.unit.name)) (if same_key f.unit (unit_key a) then at_first f.place (part_of m) else None);
     making = (parts_of v).making;
     made = (parts_of v).made;
+    objects = (parts_of v).objects;
   }
 
   called_as : (f : Callee) → called_part v f ≡ (parts_with (block_meaning (printing content))).part f
   called_as f = ap (with_specification f.unit.class (valid_unit v (unit_key f.unit.name))) (found_part (same_key f.unit (unit_key a)) f.place)
 
   parts_as : parts_of v ≡ parts_with (block_meaning (printing content))
-  parts_as = λ i. record { part = λ f. called_as f i; making = (parts_of v).making; made = (parts_of v).made }
+  parts_as = λ i. record { part = λ f. called_as f i; making = (parts_of v).making; made = (parts_of v).made; objects = (parts_of v).objects }
 
   called_runs : (room : ℕ) (answers : List Answer) → Run v (unit.Block (call_of a)) [] [] (frame room) 1000000 answers
       ≡ ran v (calls_of (parts_with (guards (prints (reads_text content))))) (guards (called a)) room answers

@@ -1,4 +1,4 @@
-//! As many editions, objects, tables and columns as there may be, and one more.
+//! As many editions, objects, tables and columns as there may be, and one more, and makings of packages as deep as they may nest.
 
 use ebr_base::{Bytes, NoMemory};
 use ebr_trial::prints;
@@ -96,6 +96,50 @@ fn overfull_edition_alters_no_trigger(rt: HostRuntime) -> Result<(), Fail> {
     let alloc = rt.alloc();
     let lines = replies(alloc, 4103, b"EBR-0034\nOK\nOK\n")?;
     assert!(rt; prints(alloc, overfull(alloc)?.as_slice(), lines.as_slice())?);
+    Ok(())
+}
+
+/// Packages from a number up to another one, each initialised from the one before it.
+fn push_packages(script: &mut Bytes, first: u32, end: u32) -> Result<(), NoMemory> {
+    for n in first..end {
+        script.extend(b"CREATE PACKAGE p")?;
+        push_number(script, n)?;
+        script.extend(b" IS n NUMBER := p")?;
+        push_number(script, n.saturating_sub(1))?;
+        script.extend(b".n + 1; END;\n/\n")?;
+    }
+    Ok(())
+}
+
+/// A child sees 4,095 packages of its own, and then also 15 that its parent gets. Each is made from the one before it.
+fn nested_packages(alloc: Global) -> Result<Bytes, NoMemory> {
+    let mut script = Bytes::from_slice(
+        alloc,
+        b"CREATE EDITION v2;
+ALTER SESSION SET EDITION = v2;
+CREATE PACKAGE p0000 IS n NUMBER := 1; END;
+/
+",
+    )?;
+    push_packages(&mut script, 1, 4095)?;
+    script.extend(b"ALTER SESSION SET EDITION = ora$base;\n")?;
+    push_packages(&mut script, 4095, 4110)?;
+    script.extend(
+        b"ALTER SESSION SET EDITION = v2;
+BEGIN DBMS_OUTPUT.PUT_LINE(p4109.n); END;
+/
+",
+    )?;
+    Ok(script)
+}
+
+/// The parent doesn't see what its first package is made from.
+#[test]
+fn makings_nest_as_deep_as_an_edition_sees_packages(rt: HostRuntime) -> Result<(), Fail> {
+    let alloc = rt.alloc();
+    let mut lines = replies(alloc, 4098, b"INVALID\n")?;
+    lines.extend(replies(alloc, 15, b"4110\nOK\n")?.as_slice())?;
+    assert!(rt; prints(alloc, nested_packages(alloc)?.as_slice(), lines.as_slice())?);
     Ok(())
 }
 

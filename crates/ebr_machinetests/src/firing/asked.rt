@@ -1,70 +1,21 @@
 //! Rows of tables: definitions, and questions with their answers.
 
-use ebr_ast::{Definition, Op, Origin, Timing};
-use ebr_base::{Bytes, EditionNo, List, MAX_COUNT, Name, NoMemory, Shared, Stop};
+use crate::definitions::{definition_of, planned};
+use crate::edition::name;
+use crate::run::release;
+use ebr_ast::{Op, Origin, Timing};
+use ebr_base::{Bytes, EditionNo, List, NoMemory};
 use ebr_cross::Catalogue;
-use ebr_ddlparse::definition;
 use ebr_fire::{Firing, crossing, fires};
-use ebr_lexer::{LexStop, Token, lex};
-use ebr_plparse::created;
 use std::alloc::Global;
 
-/// Drops a value by one call, also where several things are dropped.
-pub fn release<T: Drop>(_value: T) {}
-
-/// A name; where the text spells none, the test fails with want of memory.
-fn name(alloc: Global, text: &str) -> Result<Name, NoMemory> {
-    Name::of(alloc, text.as_bytes())?.ok_or(NoMemory)
-}
-
-/// The tokens of a text; where it has none, the test fails with want of memory.
-fn tokens_of(alloc: Global, text: &str) -> Result<List<Token>, NoMemory> {
-    if text.len() >= MAX_COUNT {
-        return Err(NoMemory);
-    }
-    match lex(alloc, text.as_bytes()) {
-        Ok(tokens) => Ok(tokens),
-        Err(LexStop::NoMemory) | Err(LexStop::Fault { .. }) => Err(NoMemory),
-    }
-}
-
-/// The definition that tokens spell; where they spell none, the test fails with want of memory.
-fn defined(alloc: Global, tokens: &[Token]) -> Result<Definition, NoMemory> {
-    match created(alloc, tokens)? {
-        Some(what) => Ok(what),
-        None => definition(alloc, tokens)?.ok_or(NoMemory),
-    }
-}
-
-fn definition_of(alloc: Global, text: &str) -> Result<Shared<Definition>, NoMemory> {
-    let tokens = tokens_of(alloc, text)?;
-    let what = defined(alloc, tokens.as_slice())?;
-    Ok(Shared::new(alloc, what)?)
-}
-
-fn is_made<T: Drop>(answer: Result<T, Stop>) -> bool {
-    answer.is_ok()
-}
-
-/// Carries out a definition, after it was asked what it would answer; where it is refused, the test fails with want of memory.
-fn apply(
-    alloc: Global,
-    c: &mut Catalogue,
-    e: EditionNo,
-    what: &Definition,
-) -> Result<(), NoMemory> {
-    let text = Bytes::new(alloc);
-    if is_made(c.outcome(alloc, e, &[], what, &text))
-        && is_made(c.apply(alloc, e, &[], what, &text))
-    {
-        return Ok(());
-    }
-    Err(NoMemory)
-}
-
+/// Carries out a definition; where it is refused, the test fails with want of memory.
 fn define(alloc: Global, c: &mut Catalogue, e: EditionNo, text: &str) -> Result<(), NoMemory> {
     let what = definition_of(alloc, text)?;
-    apply(alloc, c, e, what.get())
+    let made = planned(alloc, c, e, what.get())?;
+    let carried = c.carry_out(alloc, &made);
+    release(made);
+    carried
 }
 
 /// The edition of a digit.
