@@ -7,7 +7,7 @@ top=$(dirname -- "$(readlink -f -- "$0")")/..
 program=$top/crates/ebrd/out/ebrd
 work=$(mktemp -d)
 trap 'rm -rf "$work"' EXIT
-"$top/ebrd" try /dev/null
+[ -x "$program" ] || { echo 'bench/measure.sh: the program is not built: run rt ci first' >&2; exit 1; }
 
 # as_many SIZE KIND: lines of the kind, as many whole pieces as fit into the size
 as_many() {
@@ -21,6 +21,7 @@ as_many() {
                 else if (kind == "queries") add("SELECT a" i ", b + 1 FROM t WHERE c = " i ";\n")
                 else if (kind == "semicolons") add(";")
                 else if (kind == "called") add("CALL a();\n")
+                else if (kind == "savepoints") add("SAVEPOINT s" i ";\n")
             }
         }'
 }
@@ -71,11 +72,76 @@ rows() {
     }'
 }
 
+# loaded COUNT KIND: a table with a key, and so many rows in one transaction, which is committed or rolled back. A session makes at
+# most 50,000 requests, so a trigger inserts the rows, each by a statement of its own; behind 199,999 rows a transaction is full, and
+# another one goes on. Behind them an UPDATE of all, or one row by its key, and a row whose key is taken
+loaded() {
+    awk -v count="$1" -v kind="$2" 'BEGIN {
+        print "CREATE TABLE t (id NUMBER PRIMARY KEY, v VARCHAR2(30), n NUMBER);\nCREATE TABLE fill (first NUMBER, last NUMBER);"
+        print "CREATE TRIGGER f AFTER INSERT ON fill FOR EACH ROW BEGIN FOR i IN :NEW.first .. :NEW.last LOOP INSERT INTO t VALUES (i, \047x\047, i); END LOOP; END;\n/"
+        for (first = 1; first <= count; first += 199999) {
+            last = first + 199998 < count ? first + 199998 : count
+            printf "INSERT INTO fill VALUES (%d, %d);\n", first, last
+            print kind == "rolled_back" ? "ROLLBACK;" : "COMMIT;"
+        }
+        if (kind == "updated") print "UPDATE t SET n = n + 1;\nCOMMIT;"
+        if (kind == "searched") print "INSERT INTO t VALUES (" count ", \047x\047, 0);\nUPDATE t SET n = 0 WHERE id = " count ";\nCOMMIT;"
+    }'
+}
+
+# committed COUNT: the scripts 1.sql, 2.sql and so on, which insert so many rows into a table with a key, each by a statement and a
+# commit, 20,000 of them in a script; by an order that is empty one runs after the other
+committed() {
+    rm -f "$work"/[1-9].sql
+    : >"$work/order"
+    awk -v count="$1" -v work="$work" 'BEGIN {
+        for (i = 1; i <= count; i++) {
+            script = work "/" (int((i - 1) / 20000) + 1) ".sql"
+            if (i == 1) print "CREATE TABLE t (id NUMBER PRIMARY KEY, v VARCHAR2(30), n NUMBER);" >script
+            printf "INSERT INTO t VALUES (%d, \047x\047, %d);\nCOMMIT;\n", i, i >script
+        }
+    }'
+}
+
+# large SIZE: a procedure of so many bytes, most of them in texts of 1,000
+large() {
+    text=$(printf '%1000s' '' | tr ' ' x)
+    repeated "$1" 'CREATE PROCEDURE p IS BEGIN ' "DBMS_OUTPUT.PUT_LINE('$text'); " 'END;'
+}
+
+# named SIZE KIND: one piece with as many different names as fit into the size: a query with a column of each of its sources; a
+# block that raises the last of its exceptions, which one handler catches with all others, or each exception has a handler
+named() {
+    awk -v size="$1" -v kind="$2" '
+        function parts(i) {
+            if (kind == "sources") { first = (i ? ", " : "") "a" i ".x"; second = (i ? ", " : "") "t a" i }
+            else first = "e" i " EXCEPTION; "
+            if (kind == "handled") second = (i ? " OR " : "WHEN ") "e" i
+            if (kind == "handlers") second = "WHEN e" i " THEN NULL; "
+        }
+        BEGIN {
+            head = kind == "sources" ? "CREATE TABLE t (x NUMBER);\nINSERT INTO t VALUES (1);\nSELECT " : "DECLARE "
+            used = length(head) + 48
+            for (count = 0; ; count++) {
+                parts(count)
+                used += length(first) + length(second)
+                if (used > size) break
+            }
+            printf "%s", head
+            for (i = 0; i < count; i++) { parts(i); printf "%s", first }
+            printf "%s", kind == "sources" ? " FROM " : "BEGIN RAISE e" count - 1 "; EXCEPTION "
+            for (i = 0; i < count; i++) { parts(i); printf "%s", second }
+            if (kind == "handled") printf " THEN NULL; "
+            print (kind == "sources" ? ";" : "END;\n/")
+        }'
+}
+
 # script SIZE KIND: a script of a kind, as large as the size allows
 script() {
     case $2 in
         sum) repeated "$1" 'SELECT 1' ' + b' ' FROM t;' ;;
         ifs) repeated "$1" 'BEGIN ' 'IF a = 1 THEN NULL; END IF; ' 'END;' ;;
+        sources | handled | handlers) named "$1" "$2" ;;
         *) as_many "$1" "$2" ;;
     esac
 }
@@ -107,6 +173,7 @@ measured() {
     runs=$1
     shift
     for _ in $(seq "$runs"); do
+        rm -f "$work/journal"
         /usr/bin/time -f '%U %S %M' "$program" "$@" 2>&1 >/dev/null
     done | awk '{ t = $1 + $2; if (NR == 1 || t < least) least = t; memory = $3 } END { printf "%.2f s, %d MB", least, memory / 1024 }'
 }
@@ -118,14 +185,15 @@ least() {
     done | awk '{ t = ($1 + $2) * 1000; if (NR == 1 || t < least) least = t } END { printf "%.0f", least }'
 }
 
-# instructions SCRIPT: how many instructions a run takes
+# instructions WORDS: how many instructions a run takes
 instructions() {
-    valgrind --tool=callgrind --callgrind-out-file=/dev/null "$program" try "$1" 2>&1 >/dev/null | awk '/Collected/ { print $NF }'
+    rm -f "$work/journal"
+    valgrind --tool=callgrind --callgrind-out-file=/dev/null "$program" "$@" 2>&1 >/dev/null | awk '/Collected/ { print $NF }'
 }
 
 echo '| Script | 256 KiB | 512 KiB | 1 MiB |'
 echo '|---|---|---|---|'
-for kind in blocks units queries sum ifs semicolons called; do
+for kind in blocks units queries sum ifs semicolons called savepoints sources handled handlers; do
     printf '| %s' "$kind"
     for size in 262144 524288 1048576; do
         script "$size" "$kind" >"$work/$kind.sql"
@@ -212,7 +280,7 @@ if command -v valgrind >/dev/null; then
     before=0
     for kind in block update empty before after; do
         rows 1000 "$kind" >"$work/$kind.sql"
-        count=$(instructions "$work/$kind.sql")
+        count=$(instructions try "$work/$kind.sql")
         printf '| %s | %d |\n' "$kind" $(((count - before) / 1000))
         case $kind in block | update) before=$count ;; esac
     done
@@ -225,7 +293,77 @@ for kind in queries inserts; do
     printf '| %s' "$kind"
     for count in 1000 2000; do
         turns "$count" "$kind"
-        printf ' | %s' "$(measured 20 rehearse journal "$work/order" "$work/1.sql" "$work/2.sql" "$work/3.sql")"
+        printf ' | %s' "$(measured 20 rehearse "$work/journal" "$work/order" "$work/1.sql" "$work/2.sql" "$work/3.sql")"
     done
     echo ' |'
 done
+
+# of_load COUNT KIND COMMAND: makes a load, and has the command run it
+of_load() {
+    count=$1
+    kind=$2
+    shift 2
+    if [ "$kind" = committed ]; then
+        committed "$count"
+        "$@" rehearse "$work/journal" "$work/order" "$work"/[1-9].sql
+    else
+        loaded "$count" "$kind" >"$work/$kind.sql"
+        "$@" try "$work/$kind.sql"
+    fi
+}
+
+# loads SIZES KINDS: a line for each kind
+loads() {
+    for kind in $2; do
+        printf '| %s' "$kind"
+        for count in $1; do
+            printf ' | %s' "$(of_load "$count" "$kind" measured 3)"
+        done
+        echo ' |'
+    done
+}
+
+echo
+echo '| Load | 10,000 rows | 30,000 rows | 100,000 rows |'
+echo '|---|---|---|---|'
+loads '10000 30000 100000' 'committed one_transaction updated rolled_back'
+
+echo
+echo '| Load | 100,000 rows | 1,000,000 rows |'
+echo '|---|---|---|'
+loads '100000 1000000' 'searched'
+
+# The UPDATE over the rows that were inserted in one transaction.
+if command -v valgrind >/dev/null; then
+    echo
+    echo '| Instructions for a row | 10,000 rows | 30,000 rows | 100,000 rows |'
+    echo '|---|---|---|---|'
+    for kind in committed one_transaction rolled_back updated; do
+        printf '| %s' "$kind"
+        for count in 10000 30000 100000; do
+            before=0
+            [ "$kind" = updated ] && before=$(of_load "$count" one_transaction instructions)
+            all=$(of_load "$count" "$kind" instructions)
+            printf ' | %d' $(((all - before) / count))
+        done
+        echo ' |'
+    done
+fi
+
+# What may be copied: the rows of a query in a block, over the block that inserts them; the changes of a transaction; the text of a
+# procedure of 100 KiB.
+if command -v valgrind >/dev/null; then
+    echo
+    echo '| Script | instructions | time and memory |'
+    echo '|---|---|---|'
+    rows 10000 block >"$work/block.sql"
+    rows 10000 loop >"$work/queried.sql"
+    rows 1000 block >"$work/inserted.sql"
+    large 102400 >"$work/procedure.sql"
+    before=$(instructions try "$work/block.sql")
+    for kind in queried inserted procedure; do
+        count=$(instructions try "$work/$kind.sql")
+        printf '| %s | %d | %s |\n' "$kind" $((count - before)) "$(measured 3 try "$work/$kind.sql")"
+        before=0
+    done
+fi
