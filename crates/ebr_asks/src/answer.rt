@@ -10,12 +10,12 @@ pub enum Answer {
     /// All that the session's edition sees.
     View(Shared<EditionView>),
     /// The rows of a query.
-    Rows(List<List<Value>>),
+    Rows(Shared<List<List<Value>>>),
     /// How many rows a statement changed, with the steps taken and the lines printed by the bodies of triggers.
     Count {
         n: u64,
         steps: u32,
-        lines: List<Bytes>,
+        lines: List<Shared<Bytes>>,
     },
     Done,
     /// A definition was carried out, but the unit or trigger that it created isn't valid in the session's edition.
@@ -24,7 +24,7 @@ pub enum Answer {
     Refused {
         code: Code,
         steps: u32,
-        lines: List<Bytes>,
+        lines: List<Shared<Bytes>>,
     },
     /// The journal's disk failed.
     DiskFault,

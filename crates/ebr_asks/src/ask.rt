@@ -13,7 +13,7 @@ pub enum Ask {
     /// take: at most 1,000,000.
     Sql {
         stmt: Shared<SqlTree>,
-        binds: List<Value>,
+        binds: Shared<List<Value>>,
         left: u32,
     },
     Commit,

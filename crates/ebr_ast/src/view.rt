@@ -2,13 +2,14 @@
 
 use crate::unit::UnitTree;
 use ebr_base::{Bytes, EditionNo, List, ObjectKey, Shared, Stamp, TableDef};
+use ebr_shared_list::SharedList;
 
 /// A stored object.
 #[derive(Drop)]
 pub struct Object {
     pub key: ObjectKey,
     /// The text that created it, from the first token to the last.
-    pub text: Bytes,
+    pub text: Shared<Bytes>,
     /// The tree that the text spells.
     pub tree: UnitTree,
     /// The definition that made it, or last altered it.
@@ -21,8 +22,9 @@ pub struct Object {
 #[derive(Drop)]
 pub struct EditionView {
     pub edition: EditionNo,
-    /// The visible objects in order of class and then of name, shared with the catalogue.
-    pub objects: List<Shared<Object>>,
+    /// The visible objects in order of class and then of name, shared with the catalogue. A list of them that differs in one
+    /// shares all chunks with this one but one.
+    pub objects: SharedList<Shared<Object>>,
     /// The living tables in order of id.
-    pub tables: List<TableDef>,
+    pub tables: Shared<List<TableDef>>,
 }
