@@ -1,6 +1,6 @@
 -- What a release does to the list of locks.
-use Rattle.std.proofs.Common.{◌≡◌, ℕ, zero, suc, Bool, true, false, not, cond, ◌-◌, ◌<◌, ◌≤◌, List, [], ◌∷◌, ◌++◌, length, take, sym, refl, ap, arith}
-use Rattle.std.proofs.lemmas.Bool.{or_parts, or_from}
+use Rattle.std.proofs.Common.{◌≡◌, ℕ, zero, suc, Bool, true, false, not, cond, ◌-◌, ◌<◌, ◌≤◌, ⊎_elim, List, [], ◌∷◌, ◌++◌, length, take, sym, refl, ap, ◌∙◌, arith}
+use Rattle.std.proofs.lemmas.Bool.{or_parts, or_from, cases_lt}
 use Rattle.ebr_base.specs.declared.row.RowId.{RowId}
 use Rattle.ebr_base.specs.declared.row.TxId.{TxId}
 use Rattle.ebr_locks.specs.Locks.{Lock, same_row, is_of, is_locked, locks_of, others_than, released, IsLockedOnce, AreLocks}
@@ -139,3 +139,60 @@ released-all tx (suc mark) (x ∷ xs) le = by (is_of tx x) refl le (released-all
         → cond (is_of tx x) (x ∷ released tx mark xs) (x ∷ released tx (suc mark) xs) ≡ x ∷ xs
     by true is some rest same = rw is (ap (λ ls. x ∷ ls) (rest (omega (arith, some))))
     by false is some rest same = rw is (ap (λ ls. x ∷ ls) (same some))
+
+pub held-le : (tx : TxId) (xs : List Lock) → length (locks_of tx xs) ≤ length xs
+held-le tx [] = omega arith
+held-le tx (x ∷ xs) = by (is_of tx x) (held-le tx xs)
+  where
+    by : (b : Bool) → length (locks_of tx xs) ≤ length xs → length (cond b (x ∷ locks_of tx xs) (locks_of tx xs)) ≤ suc (length xs)
+    by true h = omega arith
+    by false h = omega arith
+
+length-take-le : (n : ℕ) (xs : List Lock) → n ≤ length xs → length (take n xs) ≡ n
+length-take-le zero xs le = refl
+length-take-le (suc n) [] le = absurd (omega (arith, le))
+length-take-le (suc n) (x ∷ xs) le = ap suc (length-take-le n xs (omega (arith, le)))
+
+-- ---- a release after another one
+
+pub released-again : (tx : TxId) (few mark : ℕ) (xs : List Lock) → few ≤ mark → released tx few (released tx mark xs) ≡ released tx few xs
+released-again tx few mark [] le = nothing few mark
+  where
+    nothing : (few mark : ℕ) → released tx few (released tx mark []) ≡ released tx few []
+    nothing zero zero = refl
+    nothing zero (suc mark) = refl
+    nothing (suc few) zero = refl
+    nothing (suc few) (suc mark) = refl
+released-again tx zero zero (x ∷ xs) le = by (is_of tx x) refl (released-again tx zero zero xs le)
+  where
+    by : (b : Bool) → is_of tx x ≡ b → released tx zero (released tx zero xs) ≡ released tx zero xs
+        → released tx zero (cond b (released tx zero xs) (x ∷ released tx zero xs)) ≡ cond b (released tx zero xs) (x ∷ released tx zero xs)
+    by true is rest = rest
+    by false is rest = rw is (ap (λ ls. x ∷ ls) rest)
+released-again tx zero (suc mark) (x ∷ xs) le = by (is_of tx x) refl (released-again tx zero mark xs (omega arith)) (released-again tx zero (suc mark) xs le)
+  where
+    by : (b : Bool) → is_of tx x ≡ b → released tx zero (released tx mark xs) ≡ released tx zero xs → released tx zero (released tx (suc mark) xs) ≡ released tx zero xs
+        → released tx zero (cond b (x ∷ released tx mark xs) (x ∷ released tx (suc mark) xs)) ≡ cond b (released tx zero xs) (x ∷ released tx zero xs)
+    by true is rest same = rw is rest
+    by false is rest same = rw is (ap (λ ls. x ∷ ls) same)
+released-again tx (suc few) zero (x ∷ xs) le = absurd (omega (arith, le))
+released-again tx (suc few) (suc mark) (x ∷ xs) le = by (is_of tx x) refl (released-again tx few mark xs (omega (arith, le))) (released-again tx (suc few) (suc mark) xs le)
+  where
+    by : (b : Bool) → is_of tx x ≡ b → released tx few (released tx mark xs) ≡ released tx few xs → released tx (suc few) (released tx (suc mark) xs) ≡ released tx (suc few) xs
+        → released tx (suc few) (cond b (x ∷ released tx mark xs) (x ∷ released tx (suc mark) xs)) ≡ cond b (x ∷ released tx few xs) (x ∷ released tx (suc few) xs)
+    by true is rest same = rw is (ap (λ ls. x ∷ ls) rest)
+    by false is rest same = rw is (ap (λ ls. x ∷ ls) same)
+
+-- what is left after one more step of a release, of as many locks as there are
+pub released-step : (tx : TxId) (held : ℕ) (was now next : List Lock) → now ≡ released tx held was → held ≤ length (locks_of tx was) → next ≡ released tx (length (locks_of tx now) - 1) now → next ≡ released tx (held - 1) was
+released-step tx held was now next is low step =
+    let count : length (locks_of tx now) ≡ held = ap (λ ls. length (locks_of tx ls)) is ∙ ap length (released-own tx held was) ∙ length-take-le held (locks_of tx was) low in
+    step ∙ ap (λ n. released tx (n - 1) now) count ∙ ap (released tx (held - 1)) is ∙ released-again tx (held - 1) held was (omega arith)
+
+-- no more than are there
+pub released-most : (tx : TxId) (held mark : ℕ) (xs : List Lock) → held ≤ mark → (held < mark → held ≡ length (locks_of tx xs)) → released tx held xs ≡ released tx mark xs
+released-most tx held mark xs le all = ⊎_elim
+    (λ (less : held < mark).
+    let whole : held ≡ length (locks_of tx xs) = all less in
+    released-all tx held xs (omega (arith, whole)) ∙ sym (released-all tx mark xs (omega (arith, whole, less))))
+    (λ (more : mark ≤ held). let same : held ≡ mark = omega (arith, le, more) in ap (λ n. released tx n xs) same) (cases_lt held mark)

@@ -1,10 +1,10 @@
 //! The rows that are locked, in the order in which they were.
 
-ghost use Rattle.std.specs.Prelude.{◌≡◌, ◌≤◌, [], ◌∷◌, ◌++◌, None, Some, length, take, drop, IfOk, OnOk, OnErr, List as Sequence};
-ghost use Rattle.ebr_locks.specs.Locks.{Lock, HasRoom, AreLocks, holder_of, locks_of, others_than, take_answer, after_take, released, is_held_in, is_locked, IsLockedOnce};
-ghost use Rattle.ebr_locks.specs.inside.Index.{IsIndexed, IsKnown, TakesBack, with_place};
+ghost use Rattle.std.specs.Prelude.{◌≡◌, [], None, Some, length, take, IfOk, OnOk, OnErr};
+ghost use Rattle.ebr_locks.specs.Locks.{HasRoom, AreLocks, holder_of, locks_of, others_than, take_answer, after_take, released, is_held_in, is_locked};
+ghost use Rattle.ebr_locks.specs.inside.Filed.{with_place, taken_of};
 
-use crate::index::Index;
+use crate::list::LockList;
 use ebr_base::{MAX_COUNT, NoMemory, RowId, TableId, TxId};
 use std::alloc::Global;
 use std::marker::Model;
@@ -18,21 +18,21 @@ pub struct Held {
 /// Which transaction holds which row. Contracts see the locks in the order in which they were taken.
 #[derive(Drop)]
 pub struct Locks {
-    taken: Vec<(RowId, TxId)>,
+    // The lock that a reserve made a place for is the last one.
+    list: LockList,
     place: Option<(RowId, TxId)>,
-    index: Index,
 }
 
 impl Model for Locks {
-    ghost use Rattle.std.specs.Prelude.{◌-◌, vec_len, vec_capacity};
+    ghost use Rattle.std.specs.Prelude.{[], length};
     ghost use Rattle.ebr_locks.specs.Locks.{LockTable};
-    ghost use Rattle.ebr_locks.specs.inside.Index.{AreKept};
+    ghost use Rattle.ebr_locks.specs.inside.Filed.{IsPlaced, taken_of, with_place};
 
     ghost Value = { LockTable };
 
-    ghost view = { λ s. record { taken = s.taken.items; room = record { place = s.place; free = vec_capacity s.taken - vec_len s.taken } } };
+    ghost view = { λ s. record { taken = taken_of s.list s.place; room = record { place = s.place; free = length (with_place [] s.place) } } };
 
-    ghost invariant = { λ s. AreKept s.taken.items s.place s.index };
+    ghost invariant = { λ s. IsPlaced s.list s.place };
 }
 
 impl Locks {
@@ -41,9 +41,8 @@ impl Locks {
         ensures { IfOk result (λ locks. locks.taken ≡ []) }
     {
         Ok(Locks {
-            taken: Vec::new(alloc),
+            list: LockList::new(alloc),
             place: None,
-            index: Index::new(alloc),
         })
     }
 
@@ -54,16 +53,15 @@ impl Locks {
         ensures room { OnOk result (HasRoom self.new row tx) }
         ensures taken { self.new.taken ≡ self.old.taken }
     {
-        if self.taken.len() >= MAX_COUNT {
+        give_back(&mut self.list, self.place);
+        self.place = None;
+        if self.list.len() >= MAX_COUNT {
             return Err(NoMemory);
         }
-        self.taken.reserve(1)?;
-        take_back(&mut self.index, self.place);
-        self.place = None;
-        if self.index.holder(row).is_some() {
+        if self.list.holder(row).is_some() {
             return Ok(());
         }
-        self.index.file((row, tx))?;
+        self.list.push((row, tx))?;
         self.place = Some((row, tx));
         Ok(())
     }
@@ -76,7 +74,7 @@ impl Locks {
         if has_place(self.place, row) {
             return None;
         }
-        self.index.holder(row)
+        self.list.holder(row)
     }
 
     /// Locks a row for a transaction, which uses up the place that a reserve made. Where it holds the row already,
@@ -91,7 +89,6 @@ impl Locks {
     {
         match self.holder(row) {
             None => {
-                self.taken.push_reserved((row, tx));
                 self.place = None;
                 Ok(())
             }
@@ -104,7 +101,7 @@ impl Locks {
     pub fn held(&self, tx: TxId) -> u32
         ensures { result ≡ length (locks_of tx self.now.taken) }
     {
-        (self.index.held(tx) - places(self.place, tx)) as u32
+        (self.list.held(tx) - places(self.place, tx)) as u32
     }
 
     /// Whether a transaction but this one holds a row of the table.
@@ -112,34 +109,30 @@ impl Locks {
         ensures { result ≡ is_held_in table but self.now.taken }
     {
         match self.place {
-            // The index has the lock that a reserve made a place for, too.
-            Some(_) => some_hold_in(self.taken.as_slice(), table, but),
-            None => self.index.holds_in(table, but),
+            Some(lock) => self.list.holds_other_in(table, but, lock.0),
+            None => self.list.holds_in(table, but),
         }
     }
 
-    /// Frees the rows that a transaction took after its first `mark`. The locks of others stay. It goes through the locks
-    /// from the first one on that it frees.
+    /// Frees the rows that a transaction took after its first `mark`. The locks of others stay. It costs what it frees.
     pub fn release_to(&mut self, tx: TxId, mark: u32)
         ensures taken { self.new.taken ≡ released tx mark self.old.taken }
         ensures own { locks_of tx self.new.taken ≡ take mark (locks_of tx self.old.taken) }
         ensures others { others_than tx self.new.taken ≡ others_than tx self.old.taken }
     {
-        let held = self.held(tx);
-        if held > mark {
-            let first = first_of(self.taken.as_slice(), tx, held - mark);
-            release(&mut self.taken, &mut self.index, tx, first);
-        }
+        give_back(&mut self.list, self.place);
+        self.place = None;
+        self.list.release_to(tx, mark as usize);
     }
 }
 
 /// Takes out the lock that a place was made for.
-fn take_back(index: &mut Index, place: Option<(RowId, TxId)>)
-    requires { IsKnown index.old }
-    ensures { TakesBack place index.old index.new }
+fn give_back(list: &mut LockList, place: Option<(RowId, TxId)>)
+    requires { list.old ≡ with_place (taken_of list.old place) place }
+    ensures { list.new ≡ taken_of list.old place }
 {
     match place {
-        Some(lock) => index.withdraw(lock),
+        Some(lock) => list.release_last(lock.1),
         None => {}
     }
 }
@@ -162,50 +155,4 @@ fn places(place: Option<(RowId, TxId)>, tx: TxId) -> usize
         Some(lock) => (lock.1 == tx) as usize,
         None => 0,
     }
-}
-
-/// Whether a transaction but this one holds a row of the table.
-fn some_hold_in(taken: &[(RowId, TxId)], table: TableId, but: TxId) -> bool
-    ensures { result ≡ is_held_in table but taken.now }
-{
-    taken
-        .iter()
-        .any(|lock| lock.0.table == table && lock.1 != but)
-}
-
-/// The place of the first of a transaction's last `n` locks.
-fn first_of(taken: &[(RowId, TxId)], tx: TxId, n: u32) -> usize
-    requires { n ≤ length (locks_of tx taken.now) }
-    ensures within { result ≤ length taken.now }
-    ensures count { length (locks_of tx (drop result taken.now)) ≡ n }
-{
-    let mut at = taken.len();
-    let mut left = n;
-    while left > 0 {
-        at -= 1;
-        if taken[at].1 == tx {
-            left -= 1;
-        }
-    }
-    at
-}
-
-/// Takes out the locks of a transaction from a place on, in one pass: those that stay move to the front.
-fn release(taken: &mut Vec<(RowId, TxId)>, index: &mut Index, tx: TxId, first: usize)
-    requires within { first ≤ length taken.old.items }
-    requires known { (rest : Sequence Lock) × IsLockedOnce (taken.old.items ++ rest) × IsIndexed (taken.old.items ++ rest) index.old }
-    ensures taken { taken.new.items ≡ take first taken.old.items ++ released tx 0 (drop first taken.old.items) }
-    ensures index { (rest : Sequence Lock) → IsLockedOnce (taken.old.items ++ rest) → IsIndexed (taken.old.items ++ rest) index.old → IsIndexed (taken.new.items ++ rest) index.new }
-{
-    let mut kept = first;
-    for at in first..taken.len() {
-        let lock = taken[at];
-        if lock.1 == tx {
-            index.withdraw(lock);
-            continue;
-        }
-        taken[kept] = lock;
-        kept += 1;
-    }
-    taken.truncate(kept);
 }

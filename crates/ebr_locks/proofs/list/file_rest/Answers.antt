@@ -1,6 +1,6 @@
-use Rattle.ebr_locks.specs.inside.Index.{table_spot}
-use Rattle.ebr_locks.proofs.IndexLemmas.{adds_spot, removes_spot, leaves_spots, table_spots}
-use Rattle.ebr_locks.proofs.index.file_rest.Goals as goal
+use Rattle.ebr_locks.specs.inside.Filed.{table_spot}
+use Rattle.ebr_locks.proofs.FiledLemmas.{adds_spot, removes_spot, leaves_spots, table_spots}
+use Rattle.ebr_locks.proofs.list.file_rest.Goals as goal
 
 pub returns-in-Ok-clause-tables : goal.returns-in-Ok-clause-tables
 returns-in-Ok-clause-tables c = adds_spot c.args.lock.now table_spot c.table_spot.result c.table_spot.ensures c.args.tables.now c.add.new.self c.in_ok-add.ensures.ok
