@@ -49,7 +49,7 @@ pub none_behind : {X : Type 0} (p : X → Bool) (xs : List X) (n : ℕ) → leng
 none_behind p xs n h = ap (passes p) (slice_get_past xs n h)
 
 -- what passes at a place
-there : {X : Type 0} (p : X → Bool) (o : Option X) → passes p o ≡ true → (x : X) × (o ≡ Some x) × (p x ≡ true)
+pub there : {X : Type 0} (p : X → Bool) (o : Option X) → passes p o ≡ true → (x : X) × (o ≡ Some x) × (p x ≡ true)
 there p None e = absurd (false≢true e)
 there p (Some x) e = (x, refl, e)
 
@@ -151,7 +151,7 @@ module _ (t : TableId) (places : List ℕ) (key : List Value) (changes : List Ch
     lasts = gives_at_last changes t this places key
 
     -- what gives the key at last gives it
-    gives_last : (c : Change) → gives_at_last changes t this places key c ≡ true → (is_another this c.row.row.0 ≡ true) × (gives_key t places key c ≡ true) × (has_key places key (values_by (last_change c.row changes)) ≡ true)
+    pub gives_last : (c : Change) → gives_at_last changes t this places key c ≡ true → (is_another this c.row.row.0 ≡ true) × (gives_key t places key c ≡ true) × (has_key places key (values_by (last_change c.row changes)) ≡ true)
     gives_last c e =
         let outer = and_parts (is_another this c.row.row.0) (gives_key t places key c && has_key places key (values_by (last_change c.row changes))) e in
         let inner = and_parts (gives_key t places key c) (has_key places key (values_by (last_change c.row changes))) outer.1 in

@@ -12,3 +12,4 @@ pub mod Allowed
 pub mod Stays
 pub mod Answered
 pub mod MarkLemmas
+pub mod LoadLemmas

@@ -16,12 +16,15 @@ use Rattle.ebr_versions.specs.Data.{changes_in, changes_row, greatest_number_in}
 use Rattle.ebr_versions.specs.Keys.{key_of, key_places, is_added, KeysDiffer}
 use Rattle.ebr_versions.specs.Store.{Store, Room, HasRoom, OfAdded}
 use Rattle.ebr_locks.specs.Locks.{Lock, after_take, holder_of, locks_of, released}
+use Rattle.ebr_tx.specs.declared.load.LoadFault.{LoadFault}
+use Rattle.ebr_tx.specs.declared.load.LoadFault.TheVariants.{NotAllowed, NoMemory}
 use Rattle.ebr_tx.specs.declared.savepoints.Savepoint.{Savepoint}
 use Rattle.ebr_tx.specs.declared.savepoints.TxMark.{TxMark}
 use Rattle.ebr_tx.specs.Data.{Transaction, Data, IsLive, not_begun, own, with_own, changed, is_named, names_of, stack_of, top_of, named_at, changes_by}
 use Rattle.ebr_tx.specs.Reads.{Sees, row_at}
 use Rattle.ebr_tx.specs.Conflicts.{touch_refusal, has_key, KeyTest}
 use Rattle.ebr_tx.specs.Savepoints.{is_savepoint, savepoints_to}
+use Rattle.ebr_tx.specs.Commits.{IsAllowedOf, IsNumbered}
 use Rattle.ebr_tx.specs.Limits.{is_full, limit_refusal, max_changes, max_record, max_row, record_length}
 
 -- What a `Transactions` holds: the data, and the room for a commit.
@@ -229,6 +232,16 @@ after_add_table d t key = record d { tables = d.tables ++ record { id = t; key =
 -- no transaction has begun
 abbrev pub HasNotBegun : Data → Type 0
 HasNotBegun d = All (λ (x : Transaction). x.begun ≡ None) d.live
+
+-- A recovered commit may be loaded: by its rows and keys it is allowed behind the commits.
+abbrev pub MayLoad : Data → List Change → Type 0
+MayLoad d changes = IsAllowedOf IsNumbered d.tables d.commits changes
+
+-- Just such a commit is loaded, and any other refused; want of memory alone is free.
+abbrev pub AnswersLoad : Result (Unit {0}) LoadFault → Data → List Change → Type 0
+AnswersLoad (Ok done) d changes = MayLoad d changes
+AnswersLoad (Err NotAllowed) d changes = MayLoad d changes → ⊥
+AnswersLoad (Err NoMemory) d changes = Unit {0}
 
 abbrev pub after_load : Data → List Change → Data
 after_load d changes = record d { commits = d.commits ++ changes ∷ [] }

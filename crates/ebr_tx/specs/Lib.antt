@@ -1,3 +1,4 @@
+pub mod Commits
 pub mod Savepoints
 pub mod Data
 pub mod Reads

@@ -2,3 +2,4 @@ pub mod Keys
 pub mod Sound
 pub mod Filed
 pub mod Marked
+pub mod Loading

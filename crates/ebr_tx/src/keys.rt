@@ -13,7 +13,7 @@ ghost use Rattle.ebr_tx.specs.inside.Keys.{own_has, gives_at_last, committed_has
 ghost use Rattle.ebr_tx.specs.inside.Filed.{transactions_of, passes_at, FindsKey, FindsKeyBy, TakesFree, IsLastGiver, NoneGives};
 
 use crate::transaction::Live;
-use ebr_base::{Change, CloneIn, List, NoMemory, RowId, RowNo, TableId, TxId, Value};
+use ebr_base::{Change, CloneIn, List, NoMemory, RowId, RowNo, Shared, TableId, TxId, Value};
 use ebr_changes::Changes;
 use ebr_versions::{Versions, is_key_of, key_print};
 use std::alloc::Global;
@@ -41,12 +41,12 @@ fn value_at(alloc: Global, values: &[Value], place: u16) -> Result<Value, NoMemo
 }
 
 /// Whether the row is there and has the key at these places.
-pub fn has_key(values: Option<&List<Value>>, places: &[u16], key: &[Value]) -> bool
+pub fn has_key(values: Option<&Shared<List<Value>>>, places: &[u16], key: &[Value]) -> bool
     requires { length places.now ≡ length key.now }
     ensures { result ≡ has_key places.now key.now (option_copied values.entry) }
 {
     match values {
-        Some(values) => is_same_key(values.as_slice(), places, key),
+        Some(values) => is_same_key(values.get().as_slice(), places, key),
         None => false,
     }
 }
@@ -157,6 +157,30 @@ fn own_has(
     }
 }
 
+/// The same of changes that may have taken keys which weren't free. It goes through all those that are filed under the key's
+/// number.
+pub fn another_gets(
+    own: &Changes,
+    table: TableId,
+    this: Option<RowNo>,
+    places: &[u16],
+    key: &[Value],
+) -> bool
+    requires as_many { length places.now ≡ length key.now }
+    requires filed { FindsKey table places.now key.now own.now.changes own.now.entries }
+    ensures { result ≡ own_has own.now.changes table this places.now key.now }
+{
+    let print = key_print(key);
+    let mut end = own.len();
+    while let Some(place) = own.last_filed(table, print, end) {
+        if has_now_at(own, place, table, this, places, key) {
+            return true;
+        }
+        end = place;
+    }
+    false
+}
+
 /// Whether the change at a place is of another row than this one, and the last change of that row gives it the key.
 fn has_now_at(
     own: &Changes,
@@ -191,7 +215,7 @@ fn has_now(own: &Changes, row: RowId, places: &[u16], key: &[Value]) -> bool
 }
 
 /// Whether another row than this one, which these changes leave alone, has the key by its last committed values.
-fn last_has(
+pub fn last_has(
     versions: &Versions,
     own: &Changes,
     table: TableId,

@@ -12,10 +12,12 @@
 mod keys;
 mod limits;
 mod live;
+mod load;
 mod reads;
 mod savepoints;
 mod transaction;
 mod transactions;
 
+pub use load::LoadFault;
 pub use savepoints::{Savepoint, Savepoints, TxMark};
 pub use transactions::Transactions;

@@ -48,7 +48,7 @@ pub fn change_length(c: &Change) -> u64
     ensures { result ≡ 13 + min 134217731 (values_length c.now.values) }
 {
     match &c.values {
-        Some(values) => 15 + values_length(values.as_slice()),
+        Some(values) => 15 + values_length(values.get().as_slice()),
         None => 13,
     }
 }

@@ -7,11 +7,11 @@ ghost use Rattle.ebr_tx.specs.Reads.{committed, seen_by, next_by};
 ghost use Rattle.ebr_tx.specs.Conflicts.{is_late};
 
 use crate::transaction::Live;
-use ebr_base::{List, RowId, RowNo, TableId, Value};
+use ebr_base::{List, RowId, RowNo, Shared, TableId, Value};
 use ebr_versions::Versions;
 
 /// The values of a row as a transaction sees it.
-pub fn seen<'a>(versions: &'a Versions, x: &'a Live, row: RowId) -> Option<&'a List<Value>>
+pub fn seen<'a>(versions: &'a Versions, x: &'a Live, row: RowId) -> Option<&'a Shared<List<Value>>>
     ensures { option_copied result ≡ seen_by versions.now.commits x.now.transaction row }
 {
     match x.changes().last(row) {
@@ -21,7 +21,7 @@ pub fn seen<'a>(versions: &'a Versions, x: &'a Live, row: RowId) -> Option<&'a L
 }
 
 /// The values that were committed at a beginning, or by now where there was none.
-fn committed(versions: &Versions, begun: Option<u32>, row: RowId) -> Option<&List<Value>>
+fn committed(versions: &Versions, begun: Option<u32>, row: RowId) -> Option<&Shared<List<Value>>>
     ensures { option_copied result ≡ committed versions.now.commits begun row }
 {
     match begun {

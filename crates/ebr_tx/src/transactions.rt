@@ -10,18 +10,19 @@ ghost use Rattle.ebr_tx.specs.Data.{IsLive, own, names_of, stack_of, named_at};
 ghost use Rattle.ebr_tx.specs.Reads.{Sees, next_seen};
 ghost use Rattle.ebr_tx.specs.Conflicts.{touch_refusal, is_other, HeldBy, TableHeld, KeyInUse, KeyTaken, KeySeen, KeyTest};
 ghost use Rattle.ebr_tx.specs.Limits.{is_full, limit_refusal, max_row};
-ghost use Rattle.ebr_tx.specs.Calls.{unless_refused, first_data, after_begin, after_change, change_refusal, key_refusal, new_key_refusal, changed_key_refusal, IsKnown, new_number, insertion, insert_refusal, insert_answer, after_lock, mark_of, IsMarkOf, after_mark, savepoint_at, after_savepoint, back_to_answer, after_back_to, IsPrepared, MayCommit, after_settle, after_rollback, HasSession, HasLevel, push_refusal, after_push, pop_refusal, top, after_pop, after_add_table, HasNotBegun, after_load, with_commit};
+ghost use Rattle.ebr_tx.specs.Calls.{unless_refused, first_data, after_begin, after_change, change_refusal, key_refusal, new_key_refusal, changed_key_refusal, IsKnown, new_number, insertion, insert_refusal, insert_answer, after_lock, mark_of, IsMarkOf, after_mark, savepoint_at, after_savepoint, back_to_answer, after_back_to, IsPrepared, MayCommit, after_settle, after_rollback, HasSession, HasLevel, push_refusal, after_push, pop_refusal, top, after_pop, after_add_table, HasNotBegun, AnswersLoad, after_load, with_commit};
 ghost use Rattle.ebr_tx.specs.inside.Sound.{MayAdd};
 
 use crate::keys::{has_key, is_in_use, is_seen, is_taken, key_of};
 use crate::limits::{MAX_ROW, limit_refusal};
 use crate::live;
+use crate::load::{LoadFault, is_allowed};
 use crate::reads::{is_late, next_seen, seen};
 use crate::savepoints::{Savepoint, TxMark};
 use crate::transaction::Live;
 use ebr_base::{
-    Change, Code, List, Name, NoMemory, RowId, RowNo, SessionId, Stop, TableDef, TableId, TxId,
-    Value,
+    Change, Code, List, Name, NoMemory, RowId, RowNo, SessionId, Shared, Stop, TableDef, TableId,
+    TxId, Value,
 };
 use ebr_locks::Locks;
 use ebr_versions::Versions;
@@ -68,7 +69,7 @@ impl Transactions {
     }
 
     /// The values of a row as the transaction sees it.
-    pub fn see(&self, t: TxId, row: RowId) -> Option<&List<Value>>
+    pub fn see(&self, t: TxId, row: RowId) -> Option<&Shared<List<Value>>>
         requires { IsLive self.now.contents t }
         ensures { option_copied result ≡ Sees self.now.contents t row }
     {
@@ -205,7 +206,7 @@ impl Transactions {
         ensures { IfOk result (λ refusal. refusal ≡ key_refusal self.now.contents t c.now.row c.now.values) }
     {
         match &c.values {
-            Some(values) => self.changed_key_refusal(t, c.row, values.as_slice(), def),
+            Some(values) => self.changed_key_refusal(t, c.row, values.get().as_slice(), def),
             None => Ok(None),
         }
     }
@@ -355,7 +356,12 @@ impl Transactions {
     /// Refused, in this order: by the test of keys ORA-00054, ORA-00001, ORA-08177; EBR-0040 where that number would pass
     /// 9,223,372,036,854,775,807, where the transaction has 200,000 changes, or where the record of its commit would be too
     /// long. An `Err` changes nothing.
-    pub fn insert(&mut self, t: TxId, values: List<Value>, def: &TableDef) -> Result<RowNo, Stop>
+    pub fn insert(
+        &mut self,
+        t: TxId,
+        values: Shared<List<Value>>,
+        def: &TableDef,
+    ) -> Result<RowNo, Stop>
         requires live { IsLive self.old.contents t }
         requires begun { is_some (own self.old.contents t).begun ≡ true }
         requires known { IsKnown self.old.contents def.now }
@@ -372,7 +378,12 @@ impl Transactions {
     }
 
     /// The change that adds a row, which the transaction may make, or what refuses it.
-    fn may_insert(&self, t: TxId, values: List<Value>, def: &TableDef) -> Result<Change, Stop>
+    fn may_insert(
+        &self,
+        t: TxId,
+        values: Shared<List<Value>>,
+        def: &TableDef,
+    ) -> Result<Change, Stop>
         requires live { IsLive self.now.contents t }
         requires begun { is_some (own self.now.contents t).begun ≡ true }
         requires known { IsKnown self.now.contents def.now }
@@ -385,19 +396,24 @@ impl Transactions {
     }
 
     /// The change that adds a row, or what refuses it.
-    fn insertion(&self, t: TxId, values: List<Value>, def: &TableDef) -> Result<Change, Stop>
+    fn insertion(
+        &self,
+        t: TxId,
+        values: Shared<List<Value>>,
+        def: &TableDef,
+    ) -> Result<Change, Stop>
         requires live { IsLive self.now.contents t }
         requires known { IsKnown self.now.contents def.now }
         ensures { Answers result (unless_refused (insert_refusal self.now.contents t def.now.id values) (insertion self.now.contents def.now.id values)) }
     {
-        if let Some(code) = self.new_key_refusal(t, None, values.as_slice(), def)? {
+        if let Some(code) = self.new_key_refusal(t, None, values.get().as_slice(), def)? {
             return Err(Stop::Raised(code));
         }
         self.numbered(t, def.id, values)
     }
 
     /// The change that adds a row, with its number, or EBR-0040.
-    fn numbered(&self, t: TxId, table: TableId, values: List<Value>) -> Result<Change, Stop>
+    fn numbered(&self, t: TxId, table: TableId, values: Shared<List<Value>>) -> Result<Change, Stop>
         requires { IsLive self.now.contents t }
         ensures { Answers result (unless_refused (limit_refusal (nat_lt max_row (new_number self.now.contents table) || is_full (own self.now.contents t).changes (insertion self.now.contents table values))) (insertion self.now.contents table values)) }
     {
@@ -620,15 +636,21 @@ impl Transactions {
         Ok(())
     }
 
-    /// Adds a recovered commit. No transaction has begun, and afterwards no two rows of a table share a key. An `Err` changes
-    /// nothing but room.
-    pub fn load(&mut self, changes: List<Change>) -> Result<(), NoMemory>
+    /// Adds a recovered commit, where its rows and keys are allowed behind the commits before it: it has from one to 200,000
+    /// changes; the number of each row is from 1 to 9,223,372,036,854,775,807; a row that a change removes is there, behind the
+    /// changes before it; and afterwards no two rows of a table share a key. Of its values it tests nothing else, nor that the
+    /// tables live. No transaction has begun. An `Err` changes nothing but room.
+    pub fn load(&mut self, changes: List<Change>) -> Result<(), LoadFault>
         requires begun { HasNotBegun self.old.contents }
         requires added { OfAdded self.old.contents.tables changes }
-        requires keys { KeysDiffer (self.old.contents.commits ++ changes ∷ []) self.old.contents.tables }
+        ensures answer { AnswersLoad result self.old.contents changes }
         ensures ok { OnOk result (self.new.contents ≡ after_load self.old.contents changes) }
         ensures err { OnErr result (self.new.contents ≡ self.old.contents) }
     {
+        let allowed = is_allowed(self.alloc, &self.versions, changes.as_slice())?;
+        if !allowed {
+            return Err(LoadFault::NotAllowed);
+        }
         self.versions.reserve(&changes)?;
         self.versions.commit(changes);
         Ok(())

@@ -134,7 +134,7 @@ fn had_key(
     ensures { IsTrue result ↔ (key_at (take n commits.now) places.now row ≡ Some key.now) }
 {
     match at(commits, rows, n, row) {
-        Some(values) => is_key_of(values.as_slice(), places, key),
+        Some(values) => is_key_of(values.get().as_slice(), places, key),
         None => false,
     }
 }
@@ -145,7 +145,7 @@ pub fn gives_key(change: &Change, places: &[u16], key: &[Value]) -> bool
     ensures { IsTrue result ↔ Gives places.now key.now change.now }
 {
     match &change.values {
-        Some(values) => is_key_of(values.as_slice(), places, key),
+        Some(values) => is_key_of(values.get().as_slice(), places, key),
         None => false,
     }
 }

@@ -9,7 +9,7 @@ use crate::index::{Entry, Index};
 use crate::print::print_at;
 use crate::table::{Table, Tables};
 use crate::{keys, rows};
-use ebr_base::{Change, List, MAX_COUNT, NoMemory, RowId, RowNo, TableId, Value};
+use ebr_base::{Change, List, MAX_COUNT, NoMemory, RowId, RowNo, Shared, TableId, Value};
 use std::alloc::Global;
 use std::marker::Model;
 
@@ -103,6 +103,13 @@ impl Versions {
         self.commits.len() as u32
     }
 
+    /// The places of a table's key, none where it has no key or wasn't added.
+    pub fn key_places(&self, t: TableId) -> &[u16]
+        ensures { result.now ≡ key_places self.now.tables t }
+    {
+        self.tables.key_places(t)
+    }
+
     /// What a change is filed under: its row, and the number of the key that it gives it.
     pub fn entry(&self, change: &Change) -> Entry
         ensures { result ≡ entry_of self.now.tables change.now }
@@ -119,14 +126,14 @@ impl Versions {
     }
 
     /// The values of a row after the first `n` commits, none where it isn't there.
-    pub fn at(&self, n: u32, row: RowId) -> Option<&List<Value>>
+    pub fn at(&self, n: u32, row: RowId) -> Option<&Shared<List<Value>>>
         ensures { option_copied result ≡ At self.now.commits n row }
     {
         rows::at(self.commits.as_slice(), self.index.rows(), n, row)
     }
 
     /// The values of a row after all commits, none where it isn't there.
-    pub fn latest(&self, row: RowId) -> Option<&List<Value>>
+    pub fn latest(&self, row: RowId) -> Option<&Shared<List<Value>>>
         ensures { option_copied result ≡ Latest self.now.commits row }
     {
         rows::latest(self.commits.as_slice(), self.index.rows(), row)
@@ -211,14 +218,14 @@ fn entry_of(tables: &Tables, change: &Change) -> Entry
     }
 }
 
-fn print_of(places: &[u16], values: &Option<List<Value>>) -> Option<u64>
+fn print_of(places: &[u16], values: &Option<Shared<List<Value>>>) -> Option<u64>
     ensures { result ≡ print_of places.now values.now }
 {
     if places.is_empty() {
         return None;
     }
     match values {
-        Some(values) => Some(print_at(places, values.as_slice())),
+        Some(values) => Some(print_at(places, values.get().as_slice())),
         None => None,
     }
 }

@@ -11,10 +11,10 @@ use Rattle.ebr_tx.proofs.transactions.Transactions.insertion.Goals as goal
 pub returns-in-Some : goal.returns-in-Some
 returns-in-Some c =
     ap (λ (o : Option Code). unless_refused (option_or o (limit_refusal (nat_lt max_row (new_number c.args.self.now.contents c.args.def.now.id) || is_full (own c.args.self.now.contents c.args.t).changes (insertion c.args.self.now.contents c.args.def.now.id c.args.values)))) (insertion c.args.self.now.contents c.args.def.now.id c.args.values))
-    (ap (new_key_refusal c.args.self.now.contents c.args.t c.args.def.now.id None) (sym c.as_slice.ensures) ∙ sym c.in_ok-code.ensures ∙ c.in-Some.is)
+    (ap (new_key_refusal c.args.self.now.contents c.args.t c.args.def.now.id None) (sym (c.as_slice.ensures ∙ c.get.ensures)) ∙ sym c.in_ok-code.ensures ∙ c.in-Some.is)
 
 pub returns : goal.returns
 returns c =
     subst (λ (o : Option Code). Answers c.numbered.result (unless_refused (option_or o (limit_refusal (nat_lt max_row (new_number c.args.self.now.contents c.args.def.now.id) || is_full (own c.args.self.now.contents c.args.t).changes (insertion c.args.self.now.contents c.args.def.now.id c.args.values)))) (insertion c.args.self.now.contents c.args.def.now.id c.args.values)))
-    (sym c.in_default.is ∙ c.in_ok-code.ensures ∙ ap (new_key_refusal c.args.self.now.contents c.args.t c.args.def.now.id None) c.as_slice.ensures)
+    (sym c.in_default.is ∙ c.in_ok-code.ensures ∙ ap (new_key_refusal c.args.self.now.contents c.args.t c.args.def.now.id None) (c.as_slice.ensures ∙ c.get.ensures))
     c.numbered.ensures
