@@ -97,6 +97,7 @@ has_payload d t all may counted =
     record {
       lists = (few, All-from_recursion IsStorable (own d t).changes (of_one t d.live all));
       short = omega (arith, may.short, counted);
+      few = may.few;
     }
 
 -- a call that changes nothing where it fails

@@ -4,7 +4,7 @@
 //! `specs/Transact.antt` says of the transaction on a session's stack, and leave what transactions have changed storable
 //! (`AllStorable`); `commit` has a record kept by a `Keep`.
 //!
-//! That calls succeed with ample memory, over a keeper that keeps, is tested alone (`ebr_servertests`).
+//! That calls succeed with ample memory, over a keeper that keeps, is tested alone (`ebr_enginetests`).
 #![tactic(auto)]
 
 mod failure;

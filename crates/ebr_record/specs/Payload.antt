@@ -8,6 +8,7 @@ use Rattle.ebr_base.specs.declared.value.ColType.{ColType}
 use Rattle.ebr_base.specs.declared.value.ColType.TheVariants as type
 use Rattle.ebr_base.specs.declared.value.Value.{Value}
 use Rattle.ebr_base.specs.declared.value.Value.TheVariants as value
+use Rattle.ebr_tx.specs.Limits.{max_changes}
 use Rattle.ebr_record.specs.declared.record.DroppedClass.{DroppedClass}
 use Rattle.ebr_record.specs.declared.record.DroppedClass.TheVariants as class
 use Rattle.ebr_record.specs.declared.record.Record.{Record}
@@ -87,8 +88,14 @@ HasLists (made.Commit changes) = (length changes < 2 ^ 32) × All (λ (c : Chang
 HasLists (made.Table name columns key) = (length columns < 2 ^ 16) × (length key < 2 ^ 8)
 HasLists r = Unit {0}
 
+-- a commit has no more changes than a transaction
+abbrev pub IsOfFew : Record → Type 0
+IsOfFew (made.Commit changes) = length changes ≤ max_changes
+IsOfFew r = Unit {0}
+
 -- The record has a payload, which can be read back. That names are names, texts of values have a byte, and numbers fit into
 -- their bytes is so by their types.
 pub record HasPayload (r : Record) : Type 0 where
   pub lists : HasLists r
   pub short : length (payload r) ≤ max_payload
+  pub few : IsOfFew r

@@ -45,7 +45,7 @@ fn change_length(c: &Change) -> u64
     ensures { result ≡ change_length c.now }
 {
     match &c.values {
-        Some(values) => 15 + values_length(values.as_slice()),
+        Some(values) => 15 + values_length(values.get().as_slice()),
         None => 13,
     }
 }

@@ -4,7 +4,7 @@ ghost use Rattle.std.specs.Prelude.{◌≡◌, ◌+◌, min, sum_by, length};
 ghost use Rattle.ebr_database.specs.Carried.{value_weight, row_weight, line_weight, ask_weight, answer_weight};
 
 use ebr_asks::{Answer, Ask};
-use ebr_base::{Bytes, List, Value};
+use ebr_base::{Bytes, List, Shared, Value};
 
 /// The most that a session carries.
 pub const MAX_CARRIED: u64 = 16_777_216;
@@ -17,7 +17,7 @@ pub fn ask_weight(ask: &Ask) -> u64
     ensures { result ≡ min 16777217 (ask_weight ask.now) }
 {
     match ask {
-        Ask::Sql { binds, .. } => row_weight(binds.as_slice()),
+        Ask::Sql { binds, .. } => row_weight(binds.get().as_slice()),
         _ => 0,
     }
 }
@@ -27,7 +27,7 @@ pub fn answer_weight(answer: &Answer) -> u64
     ensures { result ≡ min 16777217 (answer_weight answer.now) }
 {
     match answer {
-        Answer::Rows(rows) => rows_weight(rows.as_slice()),
+        Answer::Rows(rows) => rows_weight(rows.get().as_slice()),
         Answer::Count { lines, .. } => lines_weight(lines.as_slice()),
         Answer::Refused { lines, .. } => lines_weight(lines.as_slice()),
         _ => 0,
@@ -69,12 +69,12 @@ fn value_weight(value: &Value) -> u64
 }
 
 /// The weight of lines, counted up to `TOO_MUCH`.
-fn lines_weight(lines: &[Bytes]) -> u64
+fn lines_weight(lines: &[Shared<Bytes>]) -> u64
     ensures { result ≡ min 16777217 (sum_by line_weight lines.now) }
 {
     let mut weight = 0;
     for line in lines {
-        weight = (weight + text_weight(line.as_slice())).min(TOO_MUCH);
+        weight = (weight + text_weight(line.get().as_slice())).min(TOO_MUCH);
     }
     weight
 }

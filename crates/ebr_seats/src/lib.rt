@@ -3,7 +3,7 @@
 //! What is used above: the first tests of an ask (`first_tests`), the asks for transactions, in each of which the seats stay those
 //! of the database's sessions (`Holds` of `specs/Seats.antt`), and the ends of calls and sessions.
 //!
-//! That calls succeed with ample memory is tested alone (`ebr_servertests`).
+//! That calls succeed with ample memory is tested alone (`ebr_enginetests`).
 #![tactic(auto)]
 
 mod call;
