@@ -11,7 +11,8 @@ use Rattle.std.proofs.lemmas.List.{get_or-map, length-map}
 use Rattle.std.proofs.lemmas.List.Kept.{IsStrictlySortedBy-filter}
 use Rattle.std.proofs.lemmas.List.Sorted.{searchable_from_sorted}
 use Rattle.std.proofs.lemmas.Map.Keys.{Less-from_sorted}
-use Rattle.ebr_cross.specs.Places.{as_list, placed}
+use Rattle.ebr_shared_list.specs.Joined.{as_list}
+use Rattle.ebr_cross.specs.Places.{placed}
 
 module _ {K : Type 0} {R : K → K → Ordering} (o : IsTotalOrder R) where
   pub flipped : (a b : K) (r : Ordering) → R a b ≡ r → R b a ≡ ordering_reverse r

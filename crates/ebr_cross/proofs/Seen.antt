@@ -7,6 +7,7 @@ use Rattle.std.specs.BTreeSet.{insert_key}
 use Rattle.ebr_base.specs.declared.numbers.EditionNo.{EditionNo}
 use Rattle.ebr_base.specs.declared.numbers.TheConstants.{MAX_COUNT}
 use Rattle.ebr_base.specs.declared.object.ObjectKey.{ObjectKey}
+use Rattle.ebr_base.specs.declared.table.TableDef.{TableDef}
 use Rattle.ebr_base.specs.Keys.{key_order, same_key}
 use Rattle.ebr_ast.specs.declared.definition.ObjectKind.TheVariants as kind
 use Rattle.ebr_ast.specs.declared.view.EditionView.{EditionView}
@@ -23,8 +24,8 @@ use Rattle.ebr_editions.specs.Held.{ForEntries}
 use Rattle.ebr_cross.specs.Catalogue.{Lists, ForLists, HaveOwnKeys, IsViewOf, View, in_order, as_catalogue, visible}
 use Rattle.ebr_cross.specs.Kinds.{key_of}
 use Rattle.ebr_cross.specs.Records.{with_child, with_object, with_record}
-use Rattle.ebr_cross.specs.Places.{as_list, placed}
-use Rattle.ebr_cross.specs.inside.Places.{with_seen, Shows, StandAround}
+use Rattle.ebr_cross.specs.Places.{placed}
+use Rattle.ebr_cross.specs.inside.Places.{with_seen, Shows}
 use Rattle.ebr_cross.proofs.InOrder.{fold-push}
 use Rattle.ebr_cross.proofs.NewEdition.{line-before-leaf}
 use Rattle.ebr_cross.proofs.OwnKeys.{key_total, key-exact, same-order, same-turned, seen-under, own_kept}
@@ -108,33 +109,33 @@ sorted-view c w own is =
     subst (λ (x : EditionView). IsStrictlySortedBy key_order (map views.key_of x.objects)) (sym is)
     (sorted-seen key_order views.key_of (λ key. visible c w.edition key) (λ q x h. seen-under c own w.edition q x h) (in_order (keys_of c.entries)) (sorted-in_order (keys_of c.entries)))
 
-view : EditionNo → Lists → List Object → EditionView
-view e c objects = record { edition = e; objects = objects; tables = c.tables.living }
+view : EditionNo → List TableDef → List Object → EditionView
+view e tables objects = record { edition = e; objects = objects; tables = tables }
 
-pub shown-view : (c : Lists) (e : EditionNo) (objects : List Object) (v : EditionView) → objects ≡ (View c e).objects → Shows c e objects v → v ≡ View c e
+pub shown-view : (c : Lists) (e : EditionNo) (objects : List Object) (tables : List TableDef) (v : EditionView) → objects ≡ (View c e).objects → tables ≡ c.tables.living → Shows e objects tables v → v ≡ View c e
 unfolding view
-shown-view c e objects v same shows = shows.is ∙ ap (view e c) same
+shown-view c e objects tables v same living shows = shows.is ∙ (ap (view e tables) same ∙ ap (λ ts. view e ts (View c e).objects) living)
 
 -- the objects under the keys in order
 pub looked-up : (now : Catalogue) (c : Lists) (e : EditionNo) (objects : List Object) (ordered keys : List ObjectKey) → now ≡ as_catalogue c → ForEntries now.actuals (λ entries. keys ≡ keys_of entries) → ordered ≡ in_order keys
     → ForLists now (λ lists. objects ≡ filter_map (λ key. visible lists e key) ordered) → objects ≡ (View c e).objects
 looked-up now c e objects ordered keys h ks order found = found c h ∙ ap (filter_map (λ key. visible c e key)) (order ∙ ap in_order (ks c.entries (ap (λ (n : Catalogue). n.actuals) h)))
 
--- what shows the objects that are seen is the view
-pub shown : (c : Lists) (e : EditionNo) (objects : List Object) (v : EditionView) → HaveOwnKeys c → objects ≡ (View c e).objects → Shows c e objects v → IsViewOf c e v
-unfolding view
-shown c e objects v own same shows =
-    let is : v ≡ View c e = shows.is ∙ ap (view e c) same in
+-- what shows the objects that are seen, and the living tables, is the view
+pub shown : (c : Lists) (e : EditionNo) (objects : List Object) (tables : List TableDef) (v : EditionView) → HaveOwnKeys c → objects ≡ (View c e).objects → tables ≡ c.tables.living → Shows e objects tables v → IsViewOf c e v
+shown c e objects tables v own same living shows =
+    let is = shown-view c e objects tables v same living shows in
     record { is = is; order = view-in-order c e v own is shows.few }
 
 -- an object that was made, altered or dropped
 pub after-object : (c : Lists) (r : CatalogueRecord) (d : EditionNo) (k : ObjectKey) (o : Option Object) (w v : EditionView) → HaveOwnKeys c → with_record c r ≡ with_object c d k o → w ≡ View c w.edition
-    → Shows (with_record c r) w.edition (with_seen (with_record c r) w.edition k w.objects) v → IsViewOf (with_record c r) w.edition v
+    → Shows w.edition (with_seen (with_record c r) w.edition k w.objects) w.tables v → IsViewOf (with_record c r) w.edition v
 after-object c r d k o w v own is seen shows =
-    shown (with_record c r) w.edition (with_seen (with_record c r) w.edition k w.objects) v (own_kept c r own)
+    shown (with_record c r) w.edition (with_seen (with_record c r) w.edition k w.objects) w.tables v (own_kept c r own)
     (ap (λ n. with_seen n w.edition k w.objects) is
     ∙ (ap (λ (x : EditionView). with_seen (with_object c d k o) w.edition k x.objects) seen
     ∙ (sym (after-key c d w.edition k o own) ∙ ap (λ n. (View n w.edition).objects) (sym is))))
+    (ap (λ (x : EditionView). x.tables) seen ∙ ap (λ (n : Lists). n.tables.living) (sym is))
     shows
 
 -- a package that was dropped with its body
@@ -189,20 +190,21 @@ module _ (c : Lists) (e : EditionNo) (name : List ℕ) (own : HaveOwnKeys c) whe
       (sorted-seen key_order views.key_of (λ key. visible h e key) (λ q x s. seen-under h hidden-own e q x s) (in_order (keys_of h.entries)) (sorted-in_order (keys_of h.entries)))
 
   after-package : (w v : EditionView) → w ≡ View c e
-      → Shows (with_record c (made.PackageGone e name)) e (with_seen (with_record c (made.PackageGone e name)) e body_key (with_seen (with_record c (made.PackageGone e name)) e head_key w.objects)) v → IsViewOf (with_record c (made.PackageGone e name)) e v
+      → Shows e (with_seen (with_record c (made.PackageGone e name)) e body_key (with_seen (with_record c (made.PackageGone e name)) e head_key w.objects)) w.tables v → IsViewOf (with_record c (made.PackageGone e name)) e v
   unfolding dropped hidden head_key body_key
   after-package w v is shows =
-      shown (with_record c (made.PackageGone e name)) e _ v (own_kept c (made.PackageGone e name) own)
+      shown (with_record c (made.PackageGone e name)) e _ w.tables v (own_kept c (made.PackageGone e name) own)
       (ap (with_seen (with_record c (made.PackageGone e name)) e body_key) (seen-first w is) ∙ second (is_some (visible c e body_key)) refl)
+      (ap (λ (x : EditionView). x.tables) is)
       shows
 
 -- the same where the view is that of the edition in which the package was dropped
 pub after-package-in : (c : Lists) (e : EditionNo) (name : List ℕ) (w v : EditionView) → HaveOwnKeys c → e ≡ w.edition → w ≡ View c w.edition
-    → Shows (with_record c (made.PackageGone e name)) w.edition (with_seen (with_record c (made.PackageGone e name)) w.edition (key_of kind.PackageBody name) (with_seen (with_record c (made.PackageGone e name)) w.edition (key_of kind.Package name) w.objects)) v
+    → Shows w.edition (with_seen (with_record c (made.PackageGone e name)) w.edition (key_of kind.PackageBody name) (with_seen (with_record c (made.PackageGone e name)) w.edition (key_of kind.Package name) w.objects)) w.tables v
     → IsViewOf (with_record c (made.PackageGone e name)) w.edition v
 unfolding head_key body_key
 after-package-in c e name w v own same is =
-    subst (λ d. Shows (with_record c (made.PackageGone d name)) w.edition (with_seen (with_record c (made.PackageGone d name)) w.edition (key_of kind.PackageBody name) (with_seen (with_record c (made.PackageGone d name)) w.edition (key_of kind.Package name) w.objects)) v
+    subst (λ d. Shows w.edition (with_seen (with_record c (made.PackageGone d name)) w.edition (key_of kind.PackageBody name) (with_seen (with_record c (made.PackageGone d name)) w.edition (key_of kind.Package name) w.objects)) w.tables v
     → IsViewOf (with_record c (made.PackageGone d name)) w.edition v) (sym same) (after-package c w.edition name own w v is)
 
 pub sorted-first-in : (c : Lists) (e : EditionNo) (name : List ℕ) (w : EditionView) → HaveOwnKeys c → e ≡ w.edition → w ≡ View c w.edition
@@ -257,16 +259,10 @@ after-edition c r name parent chain w v is now line before seen order copy =
     seen order copy
 
 -- tables alone changed
-pub after-table : (c n : Lists) (w v : EditionView) → HaveOwnKeys n → (View n w.edition).objects ≡ (View c w.edition).objects → w ≡ View c w.edition → Shows n w.edition w.objects v → IsViewOf n w.edition v
-after-table c n w v own same seen shows = shown n w.edition w.objects v own (ap (λ (x : EditionView). x.objects) seen ∙ sym same) shows
+pub after-table : (c n : Lists) (w v : EditionView) → HaveOwnKeys n → (View n w.edition).objects ≡ (View c w.edition).objects → w ≡ View c w.edition → Shows w.edition w.objects n.tables.living v → IsViewOf n w.edition v
+after-table c n w v own same seen shows = shown n w.edition w.objects n.tables.living v own (ap (λ (x : EditionView). x.objects) seen ∙ sym same) refl shows
 
 -- a view that was looked up anew
 pub if-anew : {E : Type 0} (c : Lists) (e : EditionNo) (r : Result EditionView E) → IfOk r (λ v. v ≡ View c e) → IfOk r (λ v. IsInOrder v) → IfOk r (λ v. IsViewOf c e v)
 if-anew c e (Ok v) is order = record { is = is; order = order }
 if-anew c e (Err x) is order = tt
-
--- objects in order, with what a key shows now between those before it and those behind it
-pub joined : (objects before behind seen mid : List Object) (key : ObjectKey) (o new : Option Object) → StandAround key objects before behind → o ≡ new → mid ≡ before ++ as_list o → seen ≡ mid ++ behind
-    → seen ≡ placed key_order views.key_of key new objects
-joined objects before behind seen mid key o new around same put all =
-    all ∙ (ap (λ xs. xs ++ behind) put ∙ (append_assoc before (as_list o) behind ∙ (ap (λ x. before ++ (as_list x ++ behind)) same ∙ sym (around new))))

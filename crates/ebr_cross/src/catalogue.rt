@@ -69,7 +69,7 @@ impl Catalogue {
         e: EditionNo,
         sessions: &[EditionNo],
         what: &Definition,
-        text: &Bytes,
+        text: &Shared<Bytes>,
     ) -> Result<CatalogueRecord, Stop>
         ensures answer { ForLists self.now (λ c. Answers result (outcome c e sessions.now what.now text.now)) }
         ensures follows { IfOk result (λ r. MayFollow self.now r) }

@@ -1,32 +1,35 @@
 //! What an edition sees after a definition.
 
-ghost use Rattle.std.specs.Prelude.{◌≡◌, ◌++◌, ◌+◌, ◌<◌, ◌↔◌, IsTrue, map, take, drop, length, IfOk, OnOk};
-ghost use Rattle.std.specs.List.Sorted.{IsStrictlySortedBy, IsBinarySearchResult, IsSearchInRange};
+ghost use Rattle.std.specs.Prelude.{◌≡◌, ◌<◌, ◌↔◌, IsTrue, map, IfOk, OnOk};
+ghost use Rattle.std.specs.List.Sorted.{IsStrictlySortedBy};
 ghost use Rattle.ebr_base.specs.Keys.{key_order};
 ghost use Rattle.ebr_ast.specs.declared.definition.ObjectKind.TheVariants as kind;
 ghost use Rattle.ebr_ast.specs.Views.{key_of as object_key, IsInOrder};
 ghost use Rattle.ebr_editions.specs.Editions.{leaf, IsLine};
 ghost use Rattle.ebr_cross.specs.declared.record.CatalogueRecord.TheVariants as made;
-ghost use Rattle.ebr_cross.specs.Catalogue.{ForLists, HaveOwnKeys, IsViewOf, View};
+ghost use Rattle.ebr_cross.specs.Catalogue.{ForLists, HaveOwnKeys, IsViewOf, View, visible};
 ghost use Rattle.ebr_cross.specs.Kinds as kinds_spec;
 ghost use Rattle.ebr_cross.specs.Records.{ForChanged, with_record};
-ghost use Rattle.ebr_cross.specs.inside.Places.{with_seen, Shows, StandAround};
+ghost use Rattle.ebr_cross.specs.Places.{placed};
+ghost use Rattle.ebr_cross.specs.inside.Places.{with_seen, Shows};
 
 use crate::catalogue::Catalogue;
 use crate::kinds::key_of;
 use crate::record::CatalogueRecord;
-use crate::view::{view_of, with_objects};
+use crate::view::{living_tables, view_of, view_with};
 use ebr_ast::{EditionView, Object, ObjectKind};
-use ebr_base::{CloneIn, EditionNo, List, Name, NoMemory, ObjectKey, Shared};
+use ebr_base::{CloneIn, EditionNo, Name, NoMemory, ObjectKey, Shared};
 use ebr_editions::Chain;
+use ebr_names::search;
+use ebr_shared_list::SharedList;
 use std::alloc::Global;
-use std::cmp::Ordering;
 
 /// What an edition sees after a definition, from what it saw before it: `c` is the catalogue after the definition, and
 /// `record` what that made.
 ///
 /// It is the same view where the record changes nothing that an edition sees. Where an object was made, altered or dropped,
-/// the other objects are shared with the view before, and no key is looked up again.
+/// the other objects and the tables are shared with the view before, and no other key is looked up again; where a table was,
+/// the objects are.
 pub fn view_after(
     c: &Catalogue,
     alloc: Global,
@@ -95,10 +98,12 @@ fn with_tables(
     alloc: Global,
     view: &EditionView,
 ) -> Result<Shared<EditionView>, NoMemory>
-    ensures { ForLists c.now (λ lists. IfOk result (λ v. Shows lists view.now.edition view.now.objects v)) }
+    ensures { ForLists c.now (λ lists. IfOk result (λ v. Shows view.now.edition view.now.objects lists.tables.living v)) }
 {
     let objects = view.objects.clone_in(alloc)?;
-    shared(c, alloc, view.edition, objects)
+    let tables = living_tables(alloc, &c.tables)?;
+    let next = view_with(view.edition, objects, tables)?;
+    Shared::new(alloc, next)
 }
 
 /// A view with what its edition sees under a key now.
@@ -109,10 +114,10 @@ fn with_key(
     key: &ObjectKey,
 ) -> Result<Shared<EditionView>, NoMemory>
     ensures { IsStrictlySortedBy key_order (map object_key view.now.objects)
-        → ForLists c.now (λ lists. IfOk result (λ v. Shows lists view.now.edition (with_seen lists view.now.edition key.now view.now.objects) v)) }
+        → ForLists c.now (λ lists. IfOk result (λ v. Shows view.now.edition (with_seen lists view.now.edition key.now view.now.objects) view.now.tables v)) }
 {
     let objects = with_seen(c, alloc, view.edition, &view.objects, key)?;
-    shared(c, alloc, view.edition, objects)
+    with_objects(alloc, view, objects)
 }
 
 /// A view after the drop of a package in an edition.
@@ -146,26 +151,26 @@ fn without_package(
 ) -> Result<Shared<EditionView>, NoMemory>
     ensures { IsStrictlySortedBy key_order (map object_key view.now.objects)
         → ForLists c.now (λ lists. IsStrictlySortedBy key_order (map object_key (with_seen lists view.now.edition (kinds_spec.key_of kind.Package name.now) view.now.objects))
-        → IfOk result (λ v. Shows lists view.now.edition (with_seen lists view.now.edition (kinds_spec.key_of kind.PackageBody name.now) (with_seen lists view.now.edition (kinds_spec.key_of kind.Package name.now) view.now.objects)) v)) }
+        → IfOk result (λ v. Shows view.now.edition (with_seen lists view.now.edition (kinds_spec.key_of kind.PackageBody name.now) (with_seen lists view.now.edition (kinds_spec.key_of kind.Package name.now) view.now.objects)) view.now.tables v)) }
 {
     let package = key_of(alloc, ObjectKind::Package, name)?;
     let body = key_of(alloc, ObjectKind::PackageBody, name)?;
     let first = with_seen(c, alloc, view.edition, &view.objects, &package)?;
     let objects = with_seen(c, alloc, view.edition, &first, &body)?;
-    shared(c, alloc, view.edition, objects)
+    with_objects(alloc, view, objects)
 }
 
-/// A view of objects, which can be shared.
-fn shared(
-    c: &Catalogue,
+/// A view of other objects with the same tables.
+fn with_objects(
     alloc: Global,
-    e: EditionNo,
-    objects: List<Shared<Object>>,
+    view: &EditionView,
+    objects: SharedList<Shared<Object>>,
 ) -> Result<Shared<EditionView>, NoMemory>
-    ensures { ForLists c.now (λ lists. IfOk result (λ v. Shows lists e objects v)) }
+    ensures { IfOk result (λ v. Shows view.now.edition objects view.now.tables v) }
 {
-    let view = with_objects(alloc, c, e, objects)?;
-    Ok(Shared::new(alloc, view)?)
+    let tables = view.tables.clone_in(alloc)?;
+    let next = view_with(view.edition, objects, tables)?;
+    Shared::new(alloc, next)
 }
 
 /// Objects in order, with what an edition sees under a key now.
@@ -173,75 +178,45 @@ fn with_seen(
     c: &Catalogue,
     alloc: Global,
     e: EditionNo,
-    objects: &List<Shared<Object>>,
+    objects: &SharedList<Shared<Object>>,
     key: &ObjectKey,
-) -> Result<List<Shared<Object>>, NoMemory>
+) -> Result<SharedList<Shared<Object>>, NoMemory>
     ensures { IsStrictlySortedBy key_order (map object_key objects.now)
         → ForLists c.now (λ lists. IfOk result (λ seen. seen ≡ with_seen lists e key.now objects.now)) }
 {
-    let (before, behind) = around(objects.as_slice(), key);
-    let mut seen = List::new(alloc);
-    add_copies(alloc, &mut seen, before)?;
-    if let Some(object) = c.visible(e, key) {
-        seen.push(object.clone_in(alloc)?)?;
-    }
-    add_copies(alloc, &mut seen, behind)?;
+    let new = seen_under(c, alloc, e, key)?;
+    let mut seen = objects.clone_in(alloc)?;
+    put(alloc, &mut seen, key, new)?;
     Ok(seen)
 }
 
-/// The objects before a key and those behind it.
-fn around<'a>(
-    objects: &'a [Shared<Object>],
-    key: &ObjectKey,
-) -> (&'a [Shared<Object>], &'a [Shared<Object>])
-    ensures { IsStrictlySortedBy key_order (map object_key objects.now) → StandAround key.now objects.now result.0.now result.1.now }
-{
-    match place(objects, key) {
-        Ok(at) => without(objects, at),
-        Err(at) => objects.split_at(at),
-    }
-}
-
-/// What stands before a place and what behind it.
-fn without<T>(objects: &[T], at: usize) -> (&[T], &[T])
-    requires { at < length objects.now }
-    ensures before { result.0.now ≡ take at objects.now }
-    ensures behind { result.1.now ≡ drop (at + 1) objects.now }
-{
-    let (before, _) = objects.split_at(at);
-    let (_, behind) = objects.split_at(at + 1);
-    (before, behind)
-}
-
-/// The place of a key, or the one where it would go. It is searched for by halving.
-fn place(objects: &[Shared<Object>], key: &ObjectKey) -> Result<usize, usize>
-    ensures within { IsSearchInRange result (length objects.now) }
-    ensures found { IsBinarySearchResult (λ o. key_order o.key key.now) objects.now result }
-{
-    objects.binary_search_by(
-        |object: &Shared<Object>| -> Ordering
-            ensures { result ≡ key_order object.now.key key.entry.now }
-        { order_of(&object.get().key, key) },
-    )
-}
-
-/// How one key stands to another.
-fn order_of(a: &ObjectKey, b: &ObjectKey) -> Ordering
-    ensures { result ≡ key_order a.now b.now }
-{
-    a.class.cmp(&b.class).then(a.name.cmp(&b.name))
-}
-
-/// Adds other holders of the same objects.
-fn add_copies(
+/// Another holder of the object that an edition sees under a key.
+fn seen_under(
+    c: &Catalogue,
     alloc: Global,
-    list: &mut List<Shared<Object>>,
-    objects: &[Shared<Object>],
-) -> Result<(), NoMemory>
-    ensures { OnOk result (list.new ≡ list.old ++ objects.now) }
+    e: EditionNo,
+    key: &ObjectKey,
+) -> Result<Option<Shared<Object>>, NoMemory>
+    ensures { ForLists c.now (λ lists. IfOk result (λ object. object ≡ visible lists e key.now)) }
 {
-    for object in objects {
-        list.push(object.clone_in(alloc)?)?;
+    match c.visible(e, key) {
+        Some(object) => Ok(Some(object.clone_in(alloc)?)),
+        None => Ok(None),
     }
-    Ok(())
+}
+
+/// Puts an object, or none, in place of what objects in order have under a key.
+fn put(
+    alloc: Global,
+    objects: &mut SharedList<Shared<Object>>,
+    key: &ObjectKey,
+    new: Option<Shared<Object>>,
+) -> Result<(), NoMemory>
+    ensures { IsStrictlySortedBy key_order (map object_key objects.old)
+        → OnOk result (objects.new ≡ placed key_order object_key key.now new objects.old) }
+{
+    match search(objects, key.class, &key.name) {
+        Ok(at) => objects.splice(alloc, at, 1, new),
+        Err(at) => objects.splice(alloc, at, 0, new),
+    }
 }

@@ -23,5 +23,6 @@ mod view;
 
 pub use catalogue::Catalogue;
 pub use changed::view_after;
+pub use kinds::{key_of, kind_of, name_of};
 pub use record::CatalogueRecord;
 pub use view::view_of;

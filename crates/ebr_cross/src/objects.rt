@@ -23,7 +23,7 @@ impl Catalogue {
         e: EditionNo,
         replace: bool,
         unit: &UnitTree,
-        text: &Bytes,
+        text: &Shared<Bytes>,
     ) -> Result<CatalogueRecord, Stop>
         ensures answer { ForLists self.now (λ c. Answers result (spec.create_object c e replace unit.now text.now)) }
         ensures follows { IfOk result (λ r. MayFollow self.now r) }
@@ -42,7 +42,7 @@ impl Catalogue {
         e: EditionNo,
         replace: bool,
         unit: &UnitTree,
-        text: &Bytes,
+        text: &Shared<Bytes>,
     ) -> Result<Shared<Object>, Stop>
         ensures { ForLists self.now (λ c. MakesObject (spec.create_object c e replace unit.now text.now) result) }
     {
@@ -63,7 +63,7 @@ impl Catalogue {
         kind: ObjectKind,
         name: &Name,
         unit: &UnitTree,
-        text: &Bytes,
+        text: &Shared<Bytes>,
     ) -> Result<Shared<Object>, Stop>
         ensures { ForLists self.now (λ c. MakesObject (spec.object_named c e replace unit.now text.now (Some kind) (Some name.now)) result) }
     {
@@ -110,13 +110,33 @@ impl Catalogue {
         self.allowed_object(alloc, e, &key, &found.text, &found.tree, enabled)
     }
 
+    /// The plan of an object of a unit that is recovered: as it is made now, whatever stands under its key. Refusal: EBR-0034 where
+    /// the edition would see more than 4,096 objects.
+    pub fn plan_recovered(
+        &self,
+        alloc: Global,
+        e: EditionNo,
+        key: &ObjectKey,
+        text: &Shared<Bytes>,
+        tree: &UnitTree,
+        enabled: bool,
+    ) -> Result<CatalogueRecord, Stop>
+        ensures answer { ForLists self.now (λ c. Answers result (spec.put_object c e key.now (spec.object_of c e key.now text.now tree.now enabled))) }
+        ensures follows { IfOk result (λ r. MayFollow self.now r) }
+    {
+        match self.allowed_object(alloc, e, key, text, tree, enabled) {
+            Ok(object) => Ok(CatalogueRecord::Object(object)),
+            Err(stop) => Err(stop),
+        }
+    }
+
     /// An object as it is made now. Refusal: EBR-0034 where the edition would see more than 4,096 objects.
     fn allowed_object(
         &self,
         alloc: Global,
         e: EditionNo,
         key: &ObjectKey,
-        text: &Bytes,
+        text: &Shared<Bytes>,
         tree: &UnitTree,
         enabled: bool,
     ) -> Result<Shared<Object>, Stop>
@@ -135,7 +155,7 @@ impl Catalogue {
         alloc: Global,
         e: EditionNo,
         key: &ObjectKey,
-        text: &Bytes,
+        text: &Shared<Bytes>,
         tree: &UnitTree,
         enabled: bool,
     ) -> Result<Shared<Object>, NoMemory>
@@ -191,7 +211,7 @@ impl Catalogue {
     }
 
     /// Whether the edition sees an object of a kind under a key.
-    fn has_object(&self, e: EditionNo, key: &ObjectKey, kind: ObjectKind) -> bool
+    pub fn has_object(&self, e: EditionNo, key: &ObjectKey, kind: ObjectKind) -> bool
         ensures { ForLists self.now (λ c. result ≡ spec.is_object_of kind (visible c e key.now)) }
     {
         match self.visible(e, key) {

@@ -9,6 +9,7 @@ ghost use Rattle.ebr_cross.specs.inside.Places.{Shows};
 use crate::catalogue::Catalogue;
 use ebr_ast::{EditionView, Object};
 use ebr_base::{CloneIn, EditionNo, List, MAX_COUNT, NoMemory, ObjectKey, Shared, TableDef};
+use ebr_shared_list::SharedList;
 use ebr_tables::Tables;
 use std::alloc::Global;
 use std::collections::BTreeSet;
@@ -21,25 +22,26 @@ pub fn view_of(c: &Catalogue, alloc: Global, e: EditionNo) -> Result<EditionView
 {
     let keys = in_order(alloc, c.actuals.keys())?;
     let objects = objects_under(alloc, c, e, keys)?;
-    with_objects(alloc, c, e, objects)
+    let objects = SharedList::from_slice(alloc, objects.as_slice())?;
+    let tables = living_tables(alloc, &c.tables)?;
+    view_with(e, objects, tables)
 }
 
-/// A view of objects and of copies of the living tables.
-pub(crate) fn with_objects(
-    alloc: Global,
-    c: &Catalogue,
-    e: EditionNo,
-    objects: List<Shared<Object>>,
+/// A view of objects and tables.
+pub(crate) fn view_with(
+    edition: EditionNo,
+    objects: SharedList<Shared<Object>>,
+    tables: Shared<List<TableDef>>,
 ) -> Result<EditionView, NoMemory>
-    ensures { ForLists c.now (λ lists. IfOk result (λ view. Shows lists e objects view)) }
+    ensures { IfOk result (λ view. Shows edition objects tables view) }
 {
     if objects.len() >= MAX_COUNT {
         return Err(NoMemory);
     }
     Ok(EditionView {
-        edition: e,
+        edition,
         objects,
-        tables: living_tables(alloc, &c.tables)?,
+        tables,
     })
 }
 
@@ -75,7 +77,10 @@ fn objects_under(
 }
 
 /// Copies of the living tables, in order of id.
-fn living_tables(alloc: Global, tables: &Tables) -> Result<List<TableDef>, NoMemory>
+pub(crate) fn living_tables(
+    alloc: Global,
+    tables: &Tables,
+) -> Result<Shared<List<TableDef>>, NoMemory>
     ensures { IfOk result (λ copies. copies ≡ tables.now.living) }
 {
     let mut copies = List::new(alloc);
@@ -84,5 +89,5 @@ fn living_tables(alloc: Global, tables: &Tables) -> Result<List<TableDef>, NoMem
         copies.push(def.clone_in(alloc)?)?;
         at += 1;
     }
-    Ok(copies)
+    Shared::new(alloc, copies)
 }

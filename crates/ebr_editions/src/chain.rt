@@ -194,7 +194,7 @@ impl Chain {
     }
 
     /// How many editions live.
-    fn count(&self) -> usize
+    pub fn count(&self) -> usize
         ensures { result ≡ length (living self.now.made) }
     {
         self.living.len()

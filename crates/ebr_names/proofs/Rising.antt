@@ -1,5 +1,5 @@
 -- A walk through objects tells whether they stand in the order of their keys.
-use Rattle.std.proofs.Common.{◌≡◌, true, List, [], ◌∷◌, map, refl, ap}
+use Rattle.std.proofs.Common.{◌≡◌, ℕ, zero, suc, ◌+◌, ◌<◌, Bool, ◌&&◌, true, List, [], ◌∷◌, map, length, drop, Option, slice_get, refl, sym, ap, ◌∙◌, arith}
 use Rattle.std.specs.List.{AllByRecursion}
 use Rattle.std.specs.List.Sorted.{IsStrictlySortedBy}
 use Rattle.std.specs.Ordering.{is_lt}
@@ -10,7 +10,7 @@ use Rattle.ebr_base.specs.declared.object.ObjectKey.{ObjectKey}
 use Rattle.ebr_base.specs.Keys.{key_order}
 use Rattle.ebr_ast.specs.declared.view.Object.{Object}
 use Rattle.ebr_ast.specs.Views.{key_of}
-use Rattle.ebr_names.specs.inside.Rising.{rising, follows}
+use Rattle.ebr_names.specs.inside.Rising.{rising, follows, is_before}
 use Rattle.ebr_names.proofs.Halving.{key_total}
 
 less-from : (o : Ordering) → is_lt o ≡ true → o ≡ Less
@@ -43,3 +43,14 @@ pub rising-from_sorted : (xs : List Object) → IsStrictlySortedBy key_order (ma
 unfolding IsStrictlySortedBy
 rising-from_sorted [] up = refl
 rising-from_sorted (x ∷ xs) up = and_from (follows x xs) (rising xs) (follows-from x xs up.0) (rising-from_sorted xs up.1)
+
+dropped : (xs : List Object) (at : ℕ) → at < length xs → rising (drop at xs) ≡ (is_before (slice_get xs at) (slice_get xs (at + 1)) && rising (drop (at + 1) xs))
+dropped [] at bad = absurd (omega (arith, bad))
+dropped (x ∷ []) zero lt = refl
+dropped (x ∷ (y ∷ ys)) zero lt = refl
+dropped (x ∷ xs) (suc at) lt = let e : suc at + 1 ≡ suc (at + 1) = omega arith in rw e (dropped xs at (omega (arith, lt)))
+
+-- A walk goes on where an object is before the next one, and ends where it isn't.
+pub walked : (xs : List Object) (at : ℕ) (x y : Option Object) (b : Bool) → at < length xs → x ≡ slice_get xs at → y ≡ slice_get xs (at + 1) → b ≡ is_before x y → rising (drop at xs) ≡ rising xs → (b && rising (drop (at + 1) xs)) ≡ rising xs
+walked xs at x y b lt first second is so_far =
+    ap (λ c. c && rising (drop (at + 1) xs)) (is ∙ (ap (λ o. is_before o y) first ∙ ap (is_before (slice_get xs at)) second)) ∙ (sym (dropped xs at lt) ∙ so_far)

@@ -16,7 +16,7 @@ mod visible;
 
 pub use column::{ViewColumn, columns};
 pub use heads::Header;
-pub use lookup::{object, order_of, table};
+pub use lookup::{object, order_of, search, shared_object, table};
 pub use ordered::is_in_order;
 pub use target::{Target, resolve};
 pub use visible::header;

@@ -9,6 +9,7 @@ ghost use Rattle.ebr_names.specs.Names.{target_at, unit_target, table_target, re
 use crate::lookup::{object_at, place, table};
 use ebr_ast::{EditionView, Object, UnitTree};
 use ebr_base::{Class, Name, Shared, TableId};
+use ebr_shared_list::SharedList;
 
 /// What a name in code or SQL stands for.
 #[derive(Clone, Copy, Debug, PartialEq, Eq)]
@@ -28,14 +29,13 @@ pub fn resolve(v: &EditionView, n: &Name) -> Option<Target>
     requires { IsInOrder v.now }
     ensures { result ≡ resolved v.now n.now }
 {
-    let objects = v.objects.as_slice();
-    match place(objects, Class::Unit, n) {
-        Some(place) => unit_target(objects, place),
+    match place(&v.objects, Class::Unit, n) {
+        Some(place) => unit_target(&v.objects, place),
         None => resolve_table(v, n),
     }
 }
 
-fn unit_target(objects: &[Shared<Object>], place: usize) -> Option<Target>
+fn unit_target(objects: &SharedList<Shared<Object>>, place: usize) -> Option<Target>
     requires { place < MAX_COUNT }
     ensures { result ≡ unit_target place (slice_get objects.now place) }
 {

@@ -1,24 +1,21 @@
 -- The objects of a view with what a key shows now.
-use Rattle.std.specs.Prelude.{◌≡◌, ◌<◌, List, ◌++◌, length, Option}
+use Rattle.std.specs.Prelude.{◌≡◌, ◌<◌, List, length}
 use Rattle.ebr_base.specs.declared.numbers.EditionNo.{EditionNo}
 use Rattle.ebr_base.specs.declared.numbers.TheConstants.{MAX_COUNT}
 use Rattle.ebr_base.specs.declared.object.ObjectKey.{ObjectKey}
+use Rattle.ebr_base.specs.declared.table.TableDef.{TableDef}
 use Rattle.ebr_base.specs.Keys as keys
 use Rattle.ebr_ast.specs.declared.view.EditionView.{EditionView}
 use Rattle.ebr_ast.specs.declared.view.Object.{Object}
 use Rattle.ebr_ast.specs.Views.{key_of}
 use Rattle.ebr_cross.specs.Catalogue.{Lists, visible}
-use Rattle.ebr_cross.specs.Places.{as_list, placed}
-
--- These stand before a key and behind it: with what the key shows between them, they are all.
-abbrev pub StandAround : ObjectKey → List Object → List Object → List Object → Type 0
-StandAround key objects before behind = (new : Option Object) → placed keys.key_order key_of key new objects ≡ before ++ (as_list new ++ behind)
+use Rattle.ebr_cross.specs.Places.{placed}
 
 -- the objects with what an edition sees under a key now
 abbrev pub with_seen : Lists → EditionNo → ObjectKey → List Object → List Object
 with_seen c e key objects = placed keys.key_order key_of key (visible c e key) objects
 
--- The view has these objects and the living tables, and its objects can be counted.
-pub record Shows (c : Lists) (e : EditionNo) (objects : List Object) (v : EditionView) : Type 0 where
-  pub is : v ≡ record { edition = e; objects = objects; tables = c.tables.living }
+-- The view has these objects and tables, and its objects can be counted.
+pub record Shows (e : EditionNo) (objects : List Object) (tables : List TableDef) (v : EditionView) : Type 0 where
+  pub is : v ≡ record { edition = e; objects = objects; tables = tables }
   pub few : length v.objects < MAX_COUNT

@@ -3,4 +3,4 @@ use Rattle.ebr_cross.specs.inside.Places.{Shows}
 use Rattle.ebr_cross.proofs.changed.with_key.Goals as goal
 
 pub returns : goal.returns
-returns c = λ up lists h. subst (λ objects. IfOk c.shared.result (λ v. Shows lists c.args.view.now.edition objects v)) (c.in_ok-objects.ensures up lists h) (c.shared.ensures lists h)
+returns c = λ up lists h. subst (λ objects. IfOk c.with_objects.result (λ v. Shows c.args.view.now.edition objects c.args.view.now.tables v)) (c.in_ok-objects.ensures up lists h) c.with_objects.ensures

@@ -13,6 +13,6 @@ returns c = λ up lists h up_first.
     let first : c.in_ok-first.first ≡ with_seen lists e (key_of kind.Package c.args.name.now) c.args.view.now.objects =
     c.in_ok-first.ensures up lists h ∙ ap (λ k. with_seen lists e k c.args.view.now.objects) c.in_ok-package.ensures in
     let sorted : IsStrictlySortedBy key_order (map views.key_of c.in_ok-first.first) = subst (λ objects. IsStrictlySortedBy key_order (map views.key_of objects)) (sym first) up_first in
-    subst (λ objects. IfOk c.shared.result (λ v. Shows lists e objects v))
+    subst (λ objects. IfOk c.with_objects.result (λ v. Shows e objects c.args.view.now.tables v))
     (c.in_ok-objects.ensures sorted lists h ∙ (ap (λ k. with_seen lists e k c.in_ok-first.first) c.in_ok-body.ensures ∙ ap (with_seen lists e (key_of kind.PackageBody c.args.name.now)) first))
-    (c.shared.ensures lists h)
+    c.with_objects.ensures

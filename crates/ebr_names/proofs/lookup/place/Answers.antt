@@ -1,7 +1,6 @@
-use Rattle.std.proofs.Common.{rules, sym, ◌∙◌}
-use Rattle.std.proofs.lemmas.Fn.{always_returns_same}
+use Rattle.std.proofs.Common.{sym, ◌∙◌}
 use Rattle.ebr_base.specs.declared.object.ObjectKey.{ObjectKey}
-use Rattle.ebr_base.specs.Keys.{same_key, key_order}
+use Rattle.ebr_base.specs.Keys.{same_key}
 use Rattle.ebr_ast.specs.declared.view.Object.{Object}
 use Rattle.ebr_ast.specs.Views.{key_of}
 use Rattle.ebr_names.proofs.Halving.{same-equal, key_total, searched}
@@ -9,7 +8,5 @@ use Rattle.ebr_names.proofs.lookup.place.Goals as goal
 
 pub returns-clause-place : goal.returns-clause-place
 returns-clause-place c =
-    let facts = c.binary_search_by.ensures in
     let key : ObjectKey = record { class = c.args.class; name = c.args.name.now } in
-    let by_key = facts.position (λ (o : Object). key_order o.key key) (always_returns_same _ _ _ (λ a r f called. search rules)) in
-    c.ok.ensures.value ∙ sym (searched key_total key_of key (λ (o : Object). same_key key o.key) (λ o. same-equal key o.key) c.args.objects.now c.requires _ facts.bound by_key)
+    c.ok.ensures.value ∙ sym (searched key_total key_of key (λ (o : Object). same_key key o.key) (λ o. same-equal key o.key) c.args.objects.now c.requires _ c.search.ensures.within c.search.ensures.found)

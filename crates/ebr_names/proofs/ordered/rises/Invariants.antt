@@ -1,9 +1,6 @@
-use Rattle.std.proofs.Common.{◌≡◌, length}
+use Rattle.std.proofs.Common.{◌≡◌, drop}
 use Rattle.ebr_names.specs.inside.Rising.{rising}
 use Rattle.ebr_names.proofs.ordered.rises.Given as goal
 
-abbrev pub invariant-loop-first : goal.invariant-loop-first
-invariant-loop-first l = rising l.left ≡ rising l.objects
-
-abbrev pub decreases-loop-first : goal.decreases-loop-first
-decreases-loop-first l = length l.left
+abbrev pub invariant-loop-at : goal.invariant-loop-at
+invariant-loop-at l = rising (drop l.at l.objects) ≡ rising l.objects
