@@ -85,6 +85,7 @@ fn after(
 {
     let old = old_values(alloc, plan, row)?;
     let shown = after_values(alloc, plan, &new)?;
+    let new = Shared::new(alloc, new)?;
     write(tx, t, plan, row.row, new)?;
     Ok(DmlStep::After { old, new: shown })
 }

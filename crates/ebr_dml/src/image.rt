@@ -27,7 +27,11 @@ pub fn filled(alloc: Global, columns: &[Column], values: &[Value]) -> Result<Lis
 pub fn old_values(alloc: Global, plan: &Plan, row: &Taken) -> Result<List<Value>, NoMemory>
     ensures { IfOk result (λ old. old ≡ spec.old_values plan.now row.now) }
 {
-    filled(alloc, plan.table.columns.as_slice(), row.values.as_slice())
+    filled(
+        alloc,
+        plan.table.columns.as_slice(),
+        row.values.get().as_slice(),
+    )
 }
 
 /// The row of all NULL.
@@ -74,7 +78,7 @@ fn updated(
 ) -> Result<List<Value>, Stop>
     ensures { Answers result (spec.set_values (values_at plan.now.source row.now.values) binds.now sets.now (spec.old_values plan.now row.now)) }
 {
-    let cells = values_at(alloc, plan.source.as_slice(), row.values.as_slice())?;
+    let cells = values_at(alloc, plan.source.as_slice(), row.values.get().as_slice())?;
     let mut seen = Row::new(alloc);
     seen.add(cells.as_slice())?;
     let old = old_values(alloc, plan, row)?;

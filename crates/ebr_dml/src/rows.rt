@@ -13,11 +13,11 @@ ghost use Rattle.ebr_dml.specs.inside.Takes.{Takes, numbered_row};
 
 use crate::plan::Plan;
 use crate::taken::Taken;
-use crate::value::{copies, values_at};
+use crate::value::values_at;
 use ebr_ast::SqlTree;
-use ebr_base::{Code, List, NoMemory, RowId, RowNo, Stop, TableId, TxId, Value};
+use ebr_base::{Code, List, NoMemory, RowId, RowNo, Shared, Stop, TableId, TxId, Value};
 use ebr_expr::Row as Cells;
-use ebr_query::{keeps, stored};
+use ebr_query::{keeps, stored_shared};
 use ebr_tx::Transactions;
 use std::alloc::Global;
 
@@ -62,13 +62,12 @@ fn take(
     plan: &Plan,
     binds: &[Value],
     row: RowNo,
-    values: &[Value],
+    values: Shared<List<Value>>,
     found: &mut List<Taken>,
 ) -> Result<(), Stop>
-    ensures { Takes result plan.now binds.now (record { row = Some row; values = values.now }) found.old found.new }
+    ensures { Takes result plan.now binds.now (record { row = Some row; values = values }) found.old found.new }
 {
-    if takes(alloc, plan, binds, values)? {
-        let values = copies(alloc, values)?;
+    if takes(alloc, plan, binds, values.get().as_slice())? {
         found.push(Taken {
             row: Some(row),
             values,
@@ -95,7 +94,8 @@ fn taken(
             table: plan.table.id,
             row: *row,
         };
-        take(alloc, plan, binds, *row, stored(tx, t, id), &mut found)?;
+        let values = stored_shared(alloc, tx, t, id)?;
+        take(alloc, plan, binds, *row, values, &mut found)?;
     }
     Ok(found)
 }
@@ -117,7 +117,7 @@ fn new_row(alloc: Global) -> Result<Found, NoMemory>
     let mut rows = List::new(alloc);
     rows.push(Taken {
         row: None,
-        values: List::new(alloc),
+        values: Shared::new(alloc, List::new(alloc))?,
     })?;
     Ok(Ok(rows))
 }

@@ -10,7 +10,7 @@ ghost use Rattle.ebr_dml.specs.inside.Writes.{Writes};
 
 use crate::columns::columns_refusal;
 use crate::plan::{Plan, Work};
-use ebr_base::{Change, Code, List, RowId, RowNo, Stop, TableDef, TxId, Value};
+use ebr_base::{Change, Code, List, RowId, RowNo, Shared, Stop, TableDef, TxId, Value};
 use ebr_tx::Transactions;
 
 /// NULL in a column that takes none, in an INSERT.
@@ -20,7 +20,12 @@ const NULL_INSERTED: Code = Code::Ora(1400);
 const NULL_UPDATED: Code = Code::Ora(1407);
 
 /// Adds a row.
-fn insert(tx: &mut Transactions, t: TxId, table: &TableDef, values: List<Value>) -> Result<(), Stop>
+fn insert(
+    tx: &mut Transactions,
+    t: TxId,
+    table: &TableDef,
+    values: Shared<List<Value>>,
+) -> Result<(), Stop>
     requires live { IsLive tx.old.contents t }
     requires begun { is_some (own tx.old.contents t).begun ≡ true }
     requires known { IsKnown tx.old.contents table.now }
@@ -28,7 +33,7 @@ fn insert(tx: &mut Transactions, t: TxId, table: &TableDef, values: List<Value>)
     ensures unchanged { OnErr result (tx.new.contents ≡ tx.old.contents) }
     ensures stays { Stays tx.old.contents t tx.new.contents }
 {
-    if let Some(code) = columns_refusal(NULL_INSERTED, table, values.as_slice()) {
+    if let Some(code) = columns_refusal(NULL_INSERTED, table, values.get().as_slice()) {
         return Err(Stop::Raised(code));
     }
     tx.insert(t, values, table)?;
@@ -41,7 +46,7 @@ fn update(
     t: TxId,
     table: &TableDef,
     row: RowId,
-    values: List<Value>,
+    values: Shared<List<Value>>,
 ) -> Result<(), Stop>
     requires live { IsLive tx.old.contents t }
     requires begun { is_some (own tx.old.contents t).begun ≡ true }
@@ -55,7 +60,7 @@ fn update(
     if let Some(code) = tx.test(t, row) {
         return Err(Stop::Raised(code));
     }
-    if let Some(code) = columns_refusal(NULL_UPDATED, table, values.as_slice()) {
+    if let Some(code) = columns_refusal(NULL_UPDATED, table, values.get().as_slice()) {
         return Err(Stop::Raised(code));
     }
     let values = Some(values);
@@ -88,7 +93,7 @@ pub fn write(
     t: TxId,
     plan: &Plan,
     row: Option<RowNo>,
-    values: List<Value>,
+    values: Shared<List<Value>>,
 ) -> Result<(), Stop>
     requires live { IsLive tx.old.contents t }
     requires begun { is_some (own tx.old.contents t).begun ≡ true }
