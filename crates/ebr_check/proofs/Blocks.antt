@@ -11,12 +11,12 @@ use Rattle.ebr_scope.specs.Meanings.{Scope}
 use Rattle.ebr_scope.specs.Declarations.{decl_name}
 use Rattle.ebr_scope.specs.Around.{Env, knowing, within_block, within_loop}
 use Rattle.ebr_scope.specs.Lent.{env}
-use Rattle.ebr_rules.specs.Sites.{Site, Declares, Pragmas, Handles}
+use Rattle.ebr_validity.specs.Sites.{Site, Declares, Pragmas, Handles}
 use Rattle.ebr_rules.specs.Noted.{noted}
-use Rattle.ebr_rules.specs.Targets.{In}
+use Rattle.ebr_validity.specs.Targets.{In}
 use Rattle.ebr_rules.proofs.Laws.{noted_append}
 use Rattle.ebr_check.specs.inside.Caught as written
-use Rattle.ebr_check.specs.Statements.{Handling, each, in_statement, in_body, in_handler, caught_of, inside_of, handlers, decls_sites, with_decls}
+use Rattle.ebr_validity.specs.Statements.{Handling, each, in_statement, in_body, in_handler, caught_of, inside_of, handlers, decls_sites, with_decls}
 use Rattle.ebr_check.proofs.Laws.{body-out, handler-out}
 
 -- ---- blocks

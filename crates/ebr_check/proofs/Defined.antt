@@ -7,8 +7,8 @@ use Rattle.std.proofs.lemmas.Option.{same_Some}
 use Rattle.ebr_ast.specs.declared.unit.Head.{Head}
 use Rattle.ebr_ast.specs.declared.unit.Subprogram.{Subprogram}
 use Rattle.ebr_ast.specs.Members.{is_named}
-use Rattle.ebr_rules.specs.Rules.{same_head, same_parameters, same_result, is_defined}
-use Rattle.ebr_check.specs.Units.{head_of_subprogram}
+use Rattle.ebr_validity.specs.Rules.{same_head, same_parameters, same_result, is_defined}
+use Rattle.ebr_validity.specs.Units.{head_of_subprogram}
 
 or-true : (b : Bool) → (b || true) ≡ true
 or-true true = refl

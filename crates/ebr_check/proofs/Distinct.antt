@@ -6,7 +6,7 @@ use Rattle.std.specs.Option.{option_eq}
 use Rattle.std.specs.Str.{bytes_eq}
 use Rattle.std.proofs.lemmas.Cmp.{nat_list_eq_equiv}
 use Rattle.std.proofs.lemmas.List.Folds.{list_any-append}
-use Rattle.ebr_rules.specs.Rules.{are_distinct, are_distinct_paths, same_path, same_member}
+use Rattle.ebr_validity.specs.Rules.{are_distinct, are_distinct_paths, same_path, same_member}
 use Rattle.ebr_check.specs.inside.Caught.{Key, as_path}
 use Rattle.ebr_check.specs.inside.Names.{are_fresh}
 

@@ -5,7 +5,7 @@ use Rattle.std.specs.Str.{bytes_eq}
 use Rattle.ebr_ast.specs.declared.statement.Decl.{Decl}
 use Rattle.ebr_ast.specs.declared.statement.Decl.TheVariants as decl
 use Rattle.ebr_scope.specs.Meanings.{Word}
-use Rattle.ebr_rules.specs.Rules.{is_exception_named, is_exception_number, init_stands}
+use Rattle.ebr_validity.specs.Rules.{is_exception_named, is_exception_number, init_stands}
 use Rattle.ebr_check.specs.inside.Names.{HasExceptions, NotesException}
 use Rattle.ebr_check.specs.inside.Names as inside
 

@@ -5,8 +5,8 @@ use Rattle.ebr_ast.specs.declared.statement.Branch.{Branch, out-Branch}
 use Rattle.ebr_ast.specs.declared.statement.Handler.{Handler, out-Handler}
 use Rattle.ebr_ast.specs.declared.statement.Stmt.{Stmt, out-Stmt}
 use Rattle.ebr_ast.specs.declared.statement.Stmt.TheFolds.{fold_out-Stmt, fold_out-Block, fold_out-Branch, fold_out-Handler, map-Stmt, map-Block, map-Branch, map-Handler}
-use Rattle.ebr_rules.specs.Targets.{In}
-use Rattle.ebr_check.specs.Statements.{Handling, act, in_block, branch, handler, in_statement, in_body, in_branch, in_handler}
+use Rattle.ebr_validity.specs.Targets.{In}
+use Rattle.ebr_validity.specs.Statements.{Handling, act, in_block, branch, handler, in_statement, in_body, in_branch, in_handler}
 
 pub statement-out : (x : Stmt) → in_statement x ≡ act (map-Stmt Stmt Block Branch Handler In In In Handling in_statement in_body in_branch in_handler (out-Stmt x))
 unfolding in_statement in_body in_branch in_handler

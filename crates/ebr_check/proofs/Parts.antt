@@ -19,11 +19,11 @@ use Rattle.ebr_scope.specs.Meanings.{Scope}
 use Rattle.ebr_scope.specs.Names.{visible_items}
 use Rattle.ebr_scope.specs.Around.{Env, knowing, outside}
 use Rattle.ebr_scope.specs.Declarations.{with_parameters, with_heads, parameter_type, decl_name, item_name}
-use Rattle.ebr_rules.specs.Sites.{Site, Declares, Pragmas, Specifies, Implements}
+use Rattle.ebr_validity.specs.Sites.{Site, Declares, Pragmas, Specifies, Implements}
 use Rattle.ebr_rules.specs.Noted.{noted}
 use Rattle.ebr_rules.proofs.Laws.{noted_append}
-use Rattle.ebr_check.specs.Statements.{in_body, in_statement, in_handler, each, handlers, decls_sites, with_decls}
-use Rattle.ebr_check.specs.Units.{type_sites, parameter_sites, result_sites, head_sites, in_subprogram, subprogram_sites, subprograms_sites, parameter_name, items_sites, in_specification, package_sites, behind_specification, in_package_body, head_of_subprogram, head_name, tree_of, body_parts, package_body_sites, trigger_body}
+use Rattle.ebr_validity.specs.Statements.{in_body, in_statement, in_handler, each, handlers, decls_sites, with_decls}
+use Rattle.ebr_validity.specs.Units.{type_sites, parameter_sites, result_sites, head_sites, in_subprogram, subprogram_sites, subprograms_sites, parameter_name, items_sites, in_specification, package_sites, behind_specification, in_package_body, head_of_subprogram, head_name, tree_of, body_parts, package_body_sites, trigger_body}
 
 -- ---- heads, which no known name changes
 

@@ -3,11 +3,11 @@ use Rattle.std.proofs.Common.{◌≡◌, ◌↔◌, ℕ, true, Option, Some, Non
 use Rattle.std.specs.Option.{option_map}
 use Rattle.ebr_ast.specs.declared.unit.UnitTree.{UnitTree}
 use Rattle.ebr_ast.specs.declared.view.EditionView.{EditionView}
-use Rattle.ebr_rules.specs.Rules.{rules}
+use Rattle.ebr_validity.specs.Rules.{rules}
 use Rattle.ebr_rules.proofs.Least.{none_first}
 use Rattle.ebr_check.specs.declared.faults.CheckFault.{CheckFault}
-use Rattle.ebr_check.specs.Units.{sites_in}
-use Rattle.ebr_check.specs.Verdict.{verdict, is_valid}
+use Rattle.ebr_validity.specs.Units.{sites_in}
+use Rattle.ebr_validity.specs.Verdict.{verdict, is_valid}
 
 abbrev number : CheckFault → ℕ
 number f = f.rule

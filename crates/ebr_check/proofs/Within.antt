@@ -9,7 +9,7 @@ use Rattle.ebr_ast.specs.declared.view.EditionView.{EditionView}
 use Rattle.ebr_scope.specs.Meanings.{Entry, Scope}
 use Rattle.ebr_scope.specs.Declarations.{with_parameters}
 use Rattle.ebr_scope.specs.Around.{Env, knowing}
-use Rattle.ebr_check.specs.Statements.{with_decl, with_decls}
+use Rattle.ebr_validity.specs.Statements.{with_decl, with_decls}
 
 -- the inner names are more than the outer ones
 pub record IsWithin (outer inner : Scope) : Type 0 where

@@ -1,4 +1,1 @@
-pub mod Statements
-pub mod Units
-pub mod Verdict
 pub mod inside

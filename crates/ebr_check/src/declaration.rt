@@ -1,9 +1,9 @@
 //! Declarations.
 
 ghost use Rattle.std.specs.Prelude.{◌≡◌, ◌∷◌, ◌++◌, [], OnOk};
-ghost use Rattle.ebr_rules.specs.Sites as site;
-ghost use Rattle.ebr_check.specs.Statements as spec;
-ghost use Rattle.ebr_check.specs.Units as units;
+ghost use Rattle.ebr_validity.specs.Sites as site;
+ghost use Rattle.ebr_validity.specs.Statements as spec;
+ghost use Rattle.ebr_validity.specs.Units as units;
 ghost use Rattle.ebr_scope.specs.Declarations as declared;
 ghost use Rattle.ebr_rules.specs.Noted.{noted};
 ghost use Rattle.ebr_scope.specs.Lent.{env};

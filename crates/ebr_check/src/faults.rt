@@ -2,7 +2,7 @@
 
 ghost use Rattle.std.specs.Prelude.{◌≡◌, ◌↔◌, None, true, IfOk, option_map};
 ghost use Rattle.ebr_ast.specs.Views.{IsInOrder};
-ghost use Rattle.ebr_check.specs.Verdict.{verdict, is_valid};
+ghost use Rattle.ebr_validity.specs.Verdict.{verdict, is_valid};
 
 use crate::unit::unit;
 use ebr_ast::{EditionView, UnitTree};

@@ -1,8 +1,8 @@
 //! The handlers of a block.
 
 ghost use Rattle.std.specs.Prelude.{◌≡◌, ◌∷◌, ◌++◌, [], map, IfOk, OnOk};
-ghost use Rattle.ebr_rules.specs.Sites as site;
-ghost use Rattle.ebr_rules.specs.Rules as rules;
+ghost use Rattle.ebr_validity.specs.Sites as site;
+ghost use Rattle.ebr_validity.specs.Rules as rules;
 ghost use Rattle.ebr_rules.specs.Noted.{noted};
 ghost use Rattle.ebr_check.specs.inside.Caught.{caught_of, as_path};
 

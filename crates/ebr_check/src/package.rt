@@ -4,9 +4,9 @@ ghost use Rattle.std.specs.Prelude.{◌≡◌, ◌∷◌, [], Some, map, filter_
 ghost use Rattle.std.specs.List.{list_all};
 ghost use Rattle.ebr_ast.specs.Views.{unit_named};
 ghost use Rattle.ebr_names.specs.Headers.{head_in};
-ghost use Rattle.ebr_rules.specs.Sites as site;
-ghost use Rattle.ebr_rules.specs.Rules as rules;
-ghost use Rattle.ebr_check.specs.Units as units;
+ghost use Rattle.ebr_validity.specs.Sites as site;
+ghost use Rattle.ebr_validity.specs.Rules as rules;
+ghost use Rattle.ebr_validity.specs.Units as units;
 ghost use Rattle.ebr_rules.specs.Noted.{noted};
 
 use ebr_ast::{

@@ -5,10 +5,10 @@ ghost use Rattle.std.specs.Option.{option_copied};
 ghost use Rattle.std.specs.List.{list_all, list_any};
 ghost use Rattle.std.specs.Str.{bytes_eq};
 ghost use Rattle.ebr_names.specs.Headers.{declaration_in};
-ghost use Rattle.ebr_rules.specs.Sites as site;
-ghost use Rattle.ebr_rules.specs.Rules as rules;
+ghost use Rattle.ebr_validity.specs.Sites as site;
+ghost use Rattle.ebr_validity.specs.Rules as rules;
 ghost use Rattle.ebr_scope.specs.Declarations as declarations;
-ghost use Rattle.ebr_check.specs.Units as units;
+ghost use Rattle.ebr_validity.specs.Units as units;
 ghost use Rattle.ebr_rules.specs.Noted.{noted};
 ghost use Rattle.ebr_check.specs.inside.Names as inside;
 

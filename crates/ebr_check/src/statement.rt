@@ -5,9 +5,9 @@ ghost use Rattle.std.specs.Option.{option_copied};
 ghost use Rattle.ebr_expr.specs.Operators.{builtin_at};
 ghost use Rattle.ebr_scope.specs.Meanings.{Subprogram, Record, Constant, entry, with_fields};
 ghost use Rattle.ebr_scope.specs.Names as names;
-ghost use Rattle.ebr_rules.specs.Expressions.{reading_of, wanted};
-ghost use Rattle.ebr_rules.specs.Sites as site;
-ghost use Rattle.ebr_check.specs.Statements as spec;
+ghost use Rattle.ebr_validity.specs.Expressions.{reading_of, wanted};
+ghost use Rattle.ebr_validity.specs.Sites as site;
+ghost use Rattle.ebr_validity.specs.Statements as spec;
 ghost use Rattle.ebr_rules.specs.Noted.{noted};
 ghost use Rattle.ebr_scope.specs.Lent.{env, lent};
 

@@ -2,7 +2,7 @@
 use Rattle.std.proofs.Common.{◌≡◌, List, ◌∷◌, map, Option, ℕ, refl}
 use Rattle.ebr_sqlcheck.specs.Sources.{Relation}
 use Rattle.ebr_scope.specs.Around.{Env}
-use Rattle.ebr_rules.specs.Embedded.{InSql, each}
+use Rattle.ebr_validity.specs.Embedded.{InSql, each}
 use Rattle.ebr_rules.specs.Noted.{noted}
 use Rattle.ebr_rules.proofs.Laws.{more}
 

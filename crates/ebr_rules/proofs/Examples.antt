@@ -6,8 +6,8 @@ use Rattle.ebr_ast.specs.declared.statement.Caught.TheVariants as caught
 use Rattle.ebr_ast.specs.declared.statement.Decl.TheVariants as decl
 use Rattle.ebr_sqlcheck.specs.declared.value_type.ValueType.TheVariants as type
 use Rattle.ebr_scope.specs.Meanings.{Constant}
-use Rattle.ebr_rules.specs.Sites as site
-use Rattle.ebr_rules.specs.Rules.{rules, first_broken}
+use Rattle.ebr_validity.specs.Sites as site
+use Rattle.ebr_validity.specs.Rules.{rules, first_broken}
 
 -- the least number is told, wherever its place stands
 least : first_broken rules (site.Leaves false ∷ site.Assigns None ∷ site.Sql (Err (Ora 942)) ∷ []) ≡ Some 1

@@ -3,11 +3,11 @@ use Rattle.std.proofs.Common.{◌≡◌, ℕ, List, [], ◌∷◌, ◌++◌, Opt
 use Rattle.ebr_exprtree.specs.declared.expression.Addend.{Addend, out-Addend}
 use Rattle.ebr_exprtree.specs.declared.expression.Expr.{Expr, out-Expr}
 use Rattle.ebr_exprtree.specs.declared.expression.Expr.TheFolds.{fold_out-Expr, fold_out-Addend, map-Expr, map-Addend}
-use Rattle.ebr_rules.specs.Sites.{Site}
-use Rattle.ebr_rules.specs.Rules.{rules as the_rules}
+use Rattle.ebr_validity.specs.Sites.{Site}
+use Rattle.ebr_validity.specs.Rules.{rules as the_rules}
 use Rattle.ebr_rules.specs.Noted.{noted, judged}
-use Rattle.ebr_rules.specs.Expressions.{Read, Term, reads, reads_term, reading_of, term_of}
-use Rattle.ebr_rules.specs.Embedded.{InSql, mention, mention_term, mentions}
+use Rattle.ebr_validity.specs.Expressions.{Read, Term, reads, reads_term, reading_of, term_of}
+use Rattle.ebr_validity.specs.Embedded.{InSql, mention, mention_term, mentions}
 use Rattle.ebr_rules.specs.inside.Terms.{mentions_in_term}
 
 pub noted_append : (xs ys : List Site) (l : Option ℕ) → noted (xs ++ ys) l ≡ noted ys (noted xs l)

@@ -4,8 +4,8 @@ use Rattle.std.specs.Prelude.{nat_le, min}
 use Rattle.std.specs.List.{list_all}
 use Rattle.std.proofs.Math.Nat.{min_comm, min-eq_left}
 use Rattle.std.proofs.lemmas.Bool.{leb-true}
-use Rattle.ebr_rules.specs.Sites.{Site}
-use Rattle.ebr_rules.specs.Rules.{Rule, rules, holds, first_broken}
+use Rattle.ebr_validity.specs.Sites.{Site}
+use Rattle.ebr_validity.specs.Rules.{Rule, rules, holds, first_broken}
 use Rattle.ebr_rules.specs.Noted.{lower, judged, noted}
 
 -- all places at once, rule by rule

@@ -1,7 +1,7 @@
 -- The first rule that is broken, by going from place to place with the least number so far.
 use Rattle.std.specs.Prelude.{ℕ, Bool, true, false, min, List, [], ◌∷◌, Option, Some, None}
-use Rattle.ebr_rules.specs.Sites.{Site}
-use Rattle.ebr_rules.specs.Rules.{Rule, rules}
+use Rattle.ebr_validity.specs.Sites.{Site}
+use Rattle.ebr_validity.specs.Rules.{Rule, rules}
 
 -- the lesser of the number of a rule and that of another, if there is one
 abbrev pub lesser : Option ℕ → ℕ → ℕ

@@ -2,27 +2,27 @@
 
 ghost use Rattle.std.specs.Prelude.{◌≡◌, ◌∷◌, [], Some, None, map, drop, option_map};
 ghost use Rattle.std.specs.Option.{option_copied};
-ghost use Rattle.ebr_rules.specs.Sites as site;
-ghost use Rattle.ebr_rules.specs.Expressions as spec;
+ghost use Rattle.ebr_validity.specs.Sites as site;
+ghost use Rattle.ebr_validity.specs.Expressions as spec;
 ghost use Rattle.ebr_scope.specs.Names as names;
-ghost use Rattle.ebr_scope.specs.Around as around;
 ghost use Rattle.ebr_rules.specs.Noted.{noted};
 ghost use Rattle.ebr_scope.specs.Lent.{lent, env};
 ghost use Rattle.ebr_expr.specs.Operators.{builtin_at};
 
 use crate::judge::{applies, asks, is_after, operand};
-use crate::typed::Typed;
 use crate::verdict::must;
 use ebr_ast::{Addend, Attribute, Comparison, Expr, Head, Parameter, Path, RowImage};
 use ebr_base::{List, Name, Shared};
 use ebr_expr::builtin;
+use ebr_fields::image_type;
 use ebr_scope::{
     Meaning, Place, Scopes, applied, is_out, is_target, meant, parameter_type, plain, result_type,
 };
 use ebr_sqlcheck::{
-    ValueType, adds, alike, builtin_type, compares, first_known, named_type, sum_type, taken,
-    takes_any_type, takes_count, type_of_text,
+    ValueType, adds, alike, builtin_type, compares, first_known, sum_type, taken, takes_any_type,
+    takes_count, type_of_text,
 };
+use ebr_validity::Typed;
 use ebr_value::Builtin;
 
 /// A value that can't be assigned.
@@ -71,13 +71,6 @@ fn is_image_target(image: RowImage, place: &Place<'_>) -> bool
         RowImage::New => !is_after(place.timing),
         RowImage::Old => false,
     }
-}
-
-/// The type of a column of what the trigger is on; none where there is no such column.
-pub fn image_type(name: &Name, place: &Place<'_>) -> Option<ValueType>
-    ensures { result ≡ around.image_type (env place.now []) name.now }
-{
-    named_type(place.columns, name)
 }
 
 /// `:NEW.c` or `:OLD.c`: it stands in a trigger, and there is such a column.

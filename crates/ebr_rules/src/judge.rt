@@ -3,10 +3,10 @@
 ghost use Rattle.std.specs.Prelude.{◌≡◌, ◌∷◌, [], option_map};
 ghost use Rattle.std.specs.List.{list_all};
 ghost use Rattle.std.specs.Option.{option_copied};
-ghost use Rattle.ebr_rules.specs.Sites as site;
+ghost use Rattle.ebr_validity.specs.Sites as site;
 ghost use Rattle.ebr_scope.specs.Names as names;
-ghost use Rattle.ebr_rules.specs.Rules as rules;
-ghost use Rattle.ebr_rules.specs.Expressions as expressions;
+ghost use Rattle.ebr_validity.specs.Rules as rules;
+ghost use Rattle.ebr_validity.specs.Expressions as expressions;
 ghost use Rattle.ebr_rules.specs.Noted.{noted};
 ghost use Rattle.ebr_scope.specs.Lent.{lent};
 

@@ -1,20 +1,21 @@
 //! The names in a statement of SQL that stands in code.
 
 ghost use Rattle.std.specs.Prelude.{◌≡◌, [], map};
-ghost use Rattle.ebr_rules.specs.Embedded as spec;
+ghost use Rattle.ebr_validity.specs.Embedded as spec;
 ghost use Rattle.ebr_rules.specs.inside.Terms as inside;
 ghost use Rattle.ebr_rules.specs.Noted.{noted};
 ghost use Rattle.ebr_scope.specs.Lent.{env};
 
-use crate::expressions::{fires, image_type, images};
+use crate::expressions::{fires, images};
 use crate::verdict::must;
 use ebr_ast::{
     Addend, Aggregate, Assignment, Expr, Item, ItemKind, Path, Query, SelectList, SortKey, Update,
 };
 use ebr_base::{List, Shared};
 use ebr_expr::builtin;
+use ebr_fields::image_type;
 use ebr_scope::{Place, Scopes, meant, variable_type};
-use ebr_sqlcheck::{Meant, Relations, ValueType, column_meant};
+use ebr_sqlcheck::{Meant, Relations, column_meant};
 
 /// A name: it is a column, and else a variable.
 fn name(

@@ -2,15 +2,16 @@
 
 ghost use Rattle.std.specs.Prelude.{◌≡◌, [], drop};
 ghost use Rattle.std.specs.Option.{option_copied};
-ghost use Rattle.ebr_rules.specs.Targets as spec;
+ghost use Rattle.ebr_validity.specs.Targets as spec;
 ghost use Rattle.ebr_rules.specs.Noted.{noted};
 ghost use Rattle.ebr_scope.specs.Lent.{env};
 
-use crate::expressions::{image_type, images};
+use crate::expressions::images;
 use crate::judge::{assigns, is_after};
 use crate::verdict::must;
 use ebr_ast::{Path, Target};
 use ebr_base::{List, Name, Shared};
+use ebr_fields::image_type;
 use ebr_scope::{Field, Place, Scopes, meant, variable_type};
 use ebr_sqlcheck::{ValueType, alike, type_in};
 

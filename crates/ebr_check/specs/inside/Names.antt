@@ -5,7 +5,7 @@ use Rattle.std.specs.Str.{bytes_eq}
 use Rattle.ebr_ast.specs.declared.statement.Decl.{Decl}
 use Rattle.ebr_ast.specs.declared.statement.Decl.TheVariants as decl
 use Rattle.ebr_scope.specs.Meanings.{Word}
-use Rattle.ebr_rules.specs.Rules.{is_exception_named, is_exception_number}
+use Rattle.ebr_validity.specs.Rules.{is_exception_named, is_exception_number}
 
 -- whether keys differ from each other and from those before them
 abbrev pub are_fresh : {K : Type 0} → (K → K → Bool) → List K → List K → Bool

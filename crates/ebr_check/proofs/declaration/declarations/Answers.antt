@@ -2,7 +2,7 @@ use Rattle.std.proofs.Common.{◌≡◌, ◌+◌, ◌∷◌, drop, refl, arith, 
 use Rattle.std.proofs.lemmas.Grind.{common_steps}
 use Rattle.ebr_scope.specs.Lent.{env}
 use Rattle.ebr_rules.proofs.Laws.{more_with}
-use Rattle.ebr_check.specs.Statements.{decls_sites, decl_sites, with_decl}
+use Rattle.ebr_validity.specs.Statements.{decls_sites, decl_sites, with_decl}
 use Rattle.ebr_check.proofs.declaration.declarations.Goals as goal
 
 pub loop-it-preserved : goal.loop-it-preserved

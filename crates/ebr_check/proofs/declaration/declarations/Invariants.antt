@@ -1,7 +1,7 @@
 use Rattle.std.proofs.Common.{◌≡◌, drop}
 use Rattle.ebr_scope.specs.Lent.{env}
 use Rattle.ebr_rules.specs.Noted.{noted}
-use Rattle.ebr_check.specs.Statements.{decls_sites, with_decls}
+use Rattle.ebr_validity.specs.Statements.{decls_sites, with_decls}
 use Rattle.ebr_check.proofs.declaration.declarations.Given as goal
 
 abbrev pub invariant-loop-it : goal.invariant-loop-it

@@ -2,7 +2,7 @@ use Rattle.std.proofs.Common.{◌≡◌, ◌+◌, ◌∷◌, [], drop, refl, ari
 use Rattle.std.proofs.lemmas.Grind.{common_steps}
 use Rattle.ebr_scope.specs.Lent.{env}
 use Rattle.ebr_rules.proofs.Laws.{more}
-use Rattle.ebr_check.specs.Units.{parameter_sites, type_sites}
+use Rattle.ebr_validity.specs.Units.{parameter_sites, type_sites}
 use Rattle.ebr_check.proofs.declaration.parameter_sizes.Goals as goal
 
 pub loop-parameter-preserved : goal.loop-parameter-preserved

@@ -1,7 +1,7 @@
 use Rattle.std.proofs.Common.{◌≡◌, drop, []}
 use Rattle.ebr_scope.specs.Lent.{env}
 use Rattle.ebr_rules.specs.Noted.{noted}
-use Rattle.ebr_check.specs.Units.{parameter_sites}
+use Rattle.ebr_validity.specs.Units.{parameter_sites}
 use Rattle.ebr_check.proofs.declaration.parameter_sizes.Given as goal
 
 abbrev pub invariant-loop-parameter : goal.invariant-loop-parameter

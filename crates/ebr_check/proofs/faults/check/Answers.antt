@@ -1,6 +1,6 @@
 use Rattle.std.proofs.Common.{rules}
 use Rattle.ebr_rules.proofs.Least.{noted_first}
-use Rattle.ebr_check.specs.Verdict.{verdict}
+use Rattle.ebr_validity.specs.Verdict.{verdict}
 use Rattle.ebr_check.proofs.Validity.{valid}
 use Rattle.ebr_check.proofs.faults.check.Goals as goal
 

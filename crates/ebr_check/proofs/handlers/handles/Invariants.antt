@@ -1,5 +1,5 @@
 use Rattle.std.proofs.Common.{◌≡◌, ◌++◌, map, drop, flat_map}
-use Rattle.ebr_rules.specs.Rules.{caught_paths}
+use Rattle.ebr_validity.specs.Rules.{caught_paths}
 use Rattle.ebr_check.specs.inside.Caught.{caught_of, as_path}
 use Rattle.ebr_check.proofs.handlers.handles.Given as goal
 

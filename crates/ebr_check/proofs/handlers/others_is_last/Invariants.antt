@@ -1,5 +1,5 @@
 use Rattle.std.proofs.Common.{◌≡◌, map, length}
-use Rattle.ebr_rules.specs.Rules.{others_is_last}
+use Rattle.ebr_validity.specs.Rules.{others_is_last}
 use Rattle.ebr_check.specs.inside.Caught.{caught_of}
 use Rattle.ebr_check.proofs.handlers.others_is_last.Given as goal
 

@@ -1,8 +1,8 @@
 use Rattle.std.proofs.Common.{◌≡◌, map, drop}
 use Rattle.std.specs.List.{filter_map, list_all}
 use Rattle.ebr_names.specs.Headers.{head_in}
-use Rattle.ebr_rules.specs.Rules.{is_defined}
-use Rattle.ebr_check.specs.Units.{head_of_subprogram}
+use Rattle.ebr_validity.specs.Rules.{is_defined}
+use Rattle.ebr_validity.specs.Units.{head_of_subprogram}
 use Rattle.ebr_check.proofs.package.are_defined.Given as goal
 
 abbrev pub invariant-loop-item : goal.invariant-loop-item

@@ -1,6 +1,6 @@
 use Rattle.std.proofs.Common.{◌≡◌, map, drop}
-use Rattle.ebr_rules.specs.Rules.{is_defined}
-use Rattle.ebr_check.specs.Units.{head_of_subprogram}
+use Rattle.ebr_validity.specs.Rules.{is_defined}
+use Rattle.ebr_validity.specs.Units.{head_of_subprogram}
 use Rattle.ebr_check.proofs.package.has_head.Given as goal
 
 abbrev pub invariant-loop-subprogram : goal.invariant-loop-subprogram

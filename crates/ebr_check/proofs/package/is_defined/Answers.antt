@@ -1,7 +1,7 @@
 use Rattle.std.proofs.Common.{◌≡◌, true, Some, None, sym, rules}
 use Rattle.std.specs.Prelude.{find}
 use Rattle.ebr_ast.specs.Members.{is_named}
-use Rattle.ebr_rules.specs.Rules.{same_head}
+use Rattle.ebr_validity.specs.Rules.{same_head}
 use Rattle.ebr_check.proofs.Defined.{first_defines, none_defines}
 use Rattle.ebr_check.proofs.package.is_defined.Goals as goal
 

@@ -1,5 +1,5 @@
 use Rattle.std.proofs.Common.{◌≡◌, length}
-use Rattle.ebr_rules.specs.Rules.{same_parameters}
+use Rattle.ebr_validity.specs.Rules.{same_parameters}
 use Rattle.ebr_check.proofs.package.same_parameters.Given as goal
 
 abbrev pub invariant-loop-first : goal.invariant-loop-first

@@ -1,5 +1,5 @@
 use Rattle.std.proofs.Common.{◌≡◌, map, drop}
-use Rattle.ebr_rules.specs.Rules.{autonomous_stands}
+use Rattle.ebr_validity.specs.Rules.{autonomous_stands}
 use Rattle.ebr_check.proofs.scope.autonomous_stands.Given as goal
 
 abbrev pub invariant-loop-at : goal.invariant-loop-at

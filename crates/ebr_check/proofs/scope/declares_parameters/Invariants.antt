@@ -1,5 +1,5 @@
 use Rattle.std.proofs.Common.{◌≡◌, ◌++◌, map, drop}
-use Rattle.ebr_check.specs.Units.{parameter_name}
+use Rattle.ebr_validity.specs.Units.{parameter_name}
 use Rattle.ebr_check.proofs.scope.declares_parameters.Given as goal
 
 abbrev pub invariant-loop-parameter : goal.invariant-loop-parameter

@@ -1,6 +1,6 @@
 use Rattle.std.proofs.Common.{◌≡◌, ◌++◌, map, drop}
 use Rattle.std.specs.List.{filter_map}
-use Rattle.ebr_rules.specs.Rules.{field_name}
+use Rattle.ebr_validity.specs.Rules.{field_name}
 use Rattle.ebr_check.proofs.scope.differ.Given as goal
 
 abbrev pub invariant-loop-field : goal.invariant-loop-field

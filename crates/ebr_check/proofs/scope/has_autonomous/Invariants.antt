@@ -1,5 +1,5 @@
 use Rattle.std.proofs.Common.{◌≡◌, map, drop}
-use Rattle.ebr_rules.specs.Rules.{has_autonomous}
+use Rattle.ebr_validity.specs.Rules.{has_autonomous}
 use Rattle.ebr_check.proofs.scope.has_autonomous.Given as goal
 
 abbrev pub invariant-loop-declaration : goal.invariant-loop-declaration

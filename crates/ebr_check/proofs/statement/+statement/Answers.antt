@@ -5,9 +5,9 @@ use Rattle.ebr_ast.specs.declared.statement.Stmt.TheViews.{the_lemmas}
 use Rattle.ebr_sqlcheck.specs.declared.value_type.ValueType.TheVariants as type
 use Rattle.ebr_scope.specs.Meanings.{Constant, Record, entry, with_fields}
 use Rattle.ebr_scope.specs.Lent.{env}
-use Rattle.ebr_rules.specs.Sites.{Loops}
+use Rattle.ebr_validity.specs.Sites.{Loops}
 use Rattle.ebr_rules.proofs.Laws.{noted_append, more}
-use Rattle.ebr_check.specs.Statements.{in_statement, in_branch, in_handler, inside_of, each, range_sites, rows_sites, rows_fields}
+use Rattle.ebr_validity.specs.Statements.{in_statement, in_branch, in_handler, inside_of, each, range_sites, rows_sites, rows_fields}
 use Rattle.ebr_check.proofs.Laws.{statement-out, branch-out, handler-out}
 use Rattle.ebr_check.proofs.Blocks.{block_noted, loop_noted, handlers_noted}
 use Rattle.ebr_check.proofs.Within.{IsWithin, cut_back, decls_within, one}

@@ -1,7 +1,7 @@
 use Rattle.std.proofs.Common.{◌≡◌, map, drop}
 use Rattle.ebr_scope.specs.Lent.{env}
 use Rattle.ebr_rules.specs.Noted.{noted}
-use Rattle.ebr_check.specs.Statements.{each, in_statement, in_branch, in_handler, inside_of}
+use Rattle.ebr_validity.specs.Statements.{each, in_statement, in_branch, in_handler, inside_of}
 use Rattle.ebr_check.proofs.statement.+statement.Given as goal
 
 abbrev pub invariant-statements-loop-it : goal.invariant-statements-loop-it

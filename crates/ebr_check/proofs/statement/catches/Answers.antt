@@ -2,9 +2,9 @@ use Rattle.std.proofs.Common.{◌≡◌, ◌+◌, ◌∷◌, [], drop, refl, ari
 use Rattle.std.proofs.lemmas.Grind.{common_steps}
 use Rattle.ebr_scope.specs.Lent.{env}
 use Rattle.ebr_scope.specs.Names.{raised}
-use Rattle.ebr_rules.specs.Sites.{Raises}
+use Rattle.ebr_validity.specs.Sites.{Raises}
 use Rattle.ebr_rules.proofs.Laws.{more}
-use Rattle.ebr_check.specs.Statements.{catches}
+use Rattle.ebr_validity.specs.Statements.{catches}
 use Rattle.ebr_check.proofs.statement.catches.Goals as goal
 
 pub loop-path-preserved : goal.loop-path-preserved

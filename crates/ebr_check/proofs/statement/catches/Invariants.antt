@@ -1,7 +1,7 @@
 use Rattle.std.proofs.Common.{◌≡◌, drop}
 use Rattle.ebr_scope.specs.Lent.{env}
 use Rattle.ebr_rules.specs.Noted.{noted}
-use Rattle.ebr_check.specs.Statements.{catches}
+use Rattle.ebr_validity.specs.Statements.{catches}
 use Rattle.ebr_check.proofs.statement.catches.Given as goal
 
 abbrev pub invariant-loop-path : goal.invariant-loop-path

@@ -1,6 +1,6 @@
 use Rattle.std.proofs.Common.{◌≡◌, map, drop}
 use Rattle.ebr_scope.specs.Declarations.{with_heads}
-use Rattle.ebr_check.specs.Units.{head_of_subprogram}
+use Rattle.ebr_validity.specs.Units.{head_of_subprogram}
 use Rattle.ebr_check.proofs.unit.add_subprograms.Given as goal
 
 abbrev pub invariant-loop-it : goal.invariant-loop-it

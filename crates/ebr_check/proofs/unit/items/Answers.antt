@@ -2,7 +2,7 @@ use Rattle.std.proofs.Common.{◌≡◌, ◌+◌, ◌∷◌, drop, refl, arith, 
 use Rattle.std.proofs.lemmas.Grind.{common_steps}
 use Rattle.ebr_scope.specs.Lent.{env}
 use Rattle.ebr_rules.proofs.Laws.{more_with}
-use Rattle.ebr_check.specs.Units.{items_sites, item_sites, with_item}
+use Rattle.ebr_validity.specs.Units.{items_sites, item_sites, with_item}
 use Rattle.ebr_check.proofs.unit.items.Goals as goal
 
 pub loop-it-preserved : goal.loop-it-preserved

@@ -3,8 +3,8 @@ use Rattle.std.specs.List.{filter_map}
 use Rattle.ebr_scope.specs.Lent.{env}
 use Rattle.ebr_rules.specs.Noted.{noted}
 use Rattle.ebr_names.specs.Headers.{declaration_in}
-use Rattle.ebr_check.specs.Statements.{with_decls}
-use Rattle.ebr_check.specs.Units.{items_sites}
+use Rattle.ebr_validity.specs.Statements.{with_decls}
+use Rattle.ebr_validity.specs.Units.{items_sites}
 use Rattle.ebr_check.proofs.unit.items.Given as goal
 
 abbrev pub invariant-loop-it : goal.invariant-loop-it

@@ -2,7 +2,7 @@ use Rattle.std.proofs.Common.{sym, subst, ap, ◌∙◌}
 use Rattle.ebr_scope.specs.Declarations.{with_parameters}
 use Rattle.ebr_scope.specs.Lent.{env}
 use Rattle.ebr_rules.specs.Noted.{noted}
-use Rattle.ebr_check.specs.Statements.{in_body}
+use Rattle.ebr_validity.specs.Statements.{in_body}
 use Rattle.ebr_check.proofs.Within.{IsWithin, cut_back, parameters_within}
 use Rattle.ebr_check.proofs.Parts.{subprogram_noted}
 use Rattle.ebr_check.proofs.unit.subprogram.Goals as goal

@@ -2,7 +2,7 @@ use Rattle.std.proofs.Common.{◌≡◌, ◌+◌, ◌∷◌, drop, refl, arith, 
 use Rattle.std.proofs.lemmas.Grind.{common_steps}
 use Rattle.ebr_scope.specs.Lent.{env}
 use Rattle.ebr_rules.proofs.Laws.{more}
-use Rattle.ebr_check.specs.Units.{subprograms_sites, subprogram_sites}
+use Rattle.ebr_validity.specs.Units.{subprograms_sites, subprogram_sites}
 use Rattle.ebr_check.proofs.unit.subprograms.Goals as goal
 
 pub loop-it-preserved : goal.loop-it-preserved

@@ -1,7 +1,7 @@
 use Rattle.std.proofs.Common.{◌≡◌, drop}
 use Rattle.ebr_scope.specs.Lent.{env}
 use Rattle.ebr_rules.specs.Noted.{noted}
-use Rattle.ebr_check.specs.Units.{subprograms_sites}
+use Rattle.ebr_validity.specs.Units.{subprograms_sites}
 use Rattle.ebr_check.proofs.unit.subprograms.Given as goal
 
 abbrev pub invariant-loop-it : goal.invariant-loop-it

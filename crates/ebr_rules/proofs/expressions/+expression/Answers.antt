@@ -7,8 +7,8 @@ use Rattle.ebr_sqlcheck.specs.Functions.{taken}
 use Rattle.ebr_sqlcheck.specs.Operands.{sum_type}
 use Rattle.ebr_sqlcheck.specs.Types.{first_known}
 use Rattle.ebr_scope.specs.Lent.{env}
-use Rattle.ebr_rules.specs.Sites.{Fits}
-use Rattle.ebr_rules.specs.Expressions.{reading_of, term_of, sites_of, type_of, wanted, all_wanted, compared, all_compared, added_sites, sum_from, one_type, operands_from, passed, arguments}
+use Rattle.ebr_validity.specs.Sites.{Fits}
+use Rattle.ebr_validity.specs.Expressions.{reading_of, term_of, sites_of, type_of, wanted, all_wanted, compared, all_compared, added_sites, sum_from, one_type, operands_from, passed, arguments}
 use Rattle.ebr_rules.proofs.Laws.{reading_of-out, term_of-out, noted_append, more, more_with}
 use Rattle.ebr_rules.proofs.expressions.+expression.Goals as goal
 

@@ -1,7 +1,7 @@
 use Rattle.std.proofs.Common.{◌≡◌, drop, map, None}
 use Rattle.ebr_exprtree.specs.declared.expression.Comparison.TheVariants as comparison
 use Rattle.ebr_scope.specs.Lent.{env}
-use Rattle.ebr_rules.specs.Expressions.{reading_of, term_of, all_wanted, all_compared, sum_from, one_type, operands_from, arguments}
+use Rattle.ebr_validity.specs.Expressions.{reading_of, term_of, all_wanted, all_compared, sum_from, one_type, operands_from, arguments}
 use Rattle.ebr_rules.specs.Noted.{noted}
 use Rattle.ebr_rules.proofs.expressions.+expression.Given as goal
 

@@ -2,7 +2,7 @@ use Rattle.std.proofs.Common.{◌≡◌, ◌+◌, ◌∷◌, drop, map, refl, ar
 use Rattle.std.proofs.lemmas.Grind.{common_steps}
 use Rattle.ebr_exprtree.specs.declared.expression.Expr.TheViews.{the_lemmas}
 use Rattle.ebr_scope.specs.Lent.{env}
-use Rattle.ebr_rules.specs.Embedded.{each, mentions}
+use Rattle.ebr_validity.specs.Embedded.{each, mentions}
 use Rattle.ebr_rules.specs.inside.Terms.{mentions_in_term}
 use Rattle.ebr_rules.proofs.Laws.{mentions-out, mentions_in_term-out, noted_append, more}
 use Rattle.ebr_rules.proofs.mention.+mentions.Goals as goal

@@ -1,6 +1,6 @@
 use Rattle.std.proofs.Common.{◌≡◌, drop, map}
 use Rattle.ebr_scope.specs.Lent.{env}
-use Rattle.ebr_rules.specs.Embedded.{each, mentions}
+use Rattle.ebr_validity.specs.Embedded.{each, mentions}
 use Rattle.ebr_rules.specs.inside.Terms.{mentions_in_term}
 use Rattle.ebr_rules.specs.Noted.{noted}
 use Rattle.ebr_rules.proofs.mention.+mentions.Given as goal

@@ -1,7 +1,7 @@
 use Rattle.std.proofs.Common.{◌≡◌, ◌+◌, ◌∷◌, drop, arith, rules}
 use Rattle.std.proofs.lemmas.Grind.{common_steps}
 use Rattle.ebr_scope.specs.Lent.{env}
-use Rattle.ebr_rules.specs.Embedded.{in_key}
+use Rattle.ebr_validity.specs.Embedded.{in_key}
 use Rattle.ebr_rules.proofs.EachSite.{each_more}
 use Rattle.ebr_rules.proofs.mention.in_keys.Goals as goal
 

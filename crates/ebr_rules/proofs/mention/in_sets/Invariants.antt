@@ -1,6 +1,6 @@
 use Rattle.std.proofs.Common.{◌≡◌, drop, map}
 use Rattle.ebr_scope.specs.Lent.{env}
-use Rattle.ebr_rules.specs.Embedded.{each, in_assignment}
+use Rattle.ebr_validity.specs.Embedded.{each, in_assignment}
 use Rattle.ebr_rules.specs.Noted.{noted}
 use Rattle.ebr_rules.proofs.mention.in_sets.Given as goal
 

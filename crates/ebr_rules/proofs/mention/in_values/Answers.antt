@@ -1,7 +1,7 @@
 use Rattle.std.proofs.Common.{◌≡◌, ◌+◌, ◌∷◌, drop, [], arith, rules}
 use Rattle.std.proofs.lemmas.Grind.{common_steps}
 use Rattle.ebr_scope.specs.Lent.{env}
-use Rattle.ebr_rules.specs.Embedded.{mentions}
+use Rattle.ebr_validity.specs.Embedded.{mentions}
 use Rattle.ebr_rules.proofs.EachSite.{each_more}
 use Rattle.ebr_rules.proofs.mention.in_values.Goals as goal
 

@@ -1,7 +1,7 @@
 use Rattle.std.proofs.Common.{◌≡◌, ◌++◌, map, drop}
 use Rattle.ebr_scope.specs.Lent.{env}
-use Rattle.ebr_rules.specs.Columns.{item_field}
-use Rattle.ebr_rules.proofs.sql.item_fields.Given as goal
+use Rattle.ebr_fields.specs.Columns.{item_field}
+use Rattle.ebr_fields.proofs.columns.item_fields.Given as goal
 
 abbrev pub invariant-loop-item : goal.invariant-loop-item
 invariant-loop-item l =

@@ -8,7 +8,7 @@ use Rattle.ebr_scope.specs.declared.field.Field.{Field}
 use Rattle.ebr_scope.specs.Meanings.{Fields}
 use Rattle.ebr_scope.specs.Names.{meant}
 use Rattle.ebr_scope.specs.Around.{Env, image_type, variable_type}
-use Rattle.ebr_rules.specs.Sites.{Site, Assigns, Fits, SetsNew, Counts, Images}
+use Rattle.ebr_validity.specs.Sites.{Site, Assigns, Fits, SetsNew, Counts, Images}
 
 -- what stands in a part of the code, where this is known
 abbrev pub In : Type 0

@@ -26,12 +26,12 @@ use Rattle.ebr_sqlcheck.specs.declared.value_type.ValueType.TheVariants as type
 use Rattle.ebr_sqlcheck.specs.Types.{Known, first_known, type_of_text}
 use Rattle.ebr_sqlcheck.specs.Functions.{takes_any_type, taken, builtin_type}
 use Rattle.ebr_sqlcheck.specs.Operands.{sum_type}
-use Rattle.ebr_rules.specs.declared.typed.Typed.{Typed}
+use Rattle.ebr_validity.specs.declared.typed.Typed.{Typed}
 use Rattle.ebr_scope.specs.Meanings.{Word, Meaning, Variable, Constant, Parameter as Passed, Subprogram, is_out, is_target}
 use Rattle.ebr_scope.specs.Declarations.{parameter_type, result_type}
 use Rattle.ebr_scope.specs.Names.{meant, meant_at, applied}
 use Rattle.ebr_scope.specs.Around.{Env, image_type}
-use Rattle.ebr_rules.specs.Sites.{Site, Operand, Applies, Asks, Fits, Builtins, Adds, Compares, Passes, Images, Fires, Placed}
+use Rattle.ebr_validity.specs.Sites.{Site, Operand, Applies, Asks, Fits, Builtins, Adds, Compares, Passes, Images, Fires, Placed}
 
 -- what is read of an expression
 pub record Reading : Type 0 where

@@ -26,9 +26,9 @@ use Rattle.ebr_scope.specs.Meanings.{Word, Scope}
 use Rattle.ebr_scope.specs.Declarations.{column_type_of, parameter_type, decl_name, item_name, with_parameters, with_heads}
 use Rattle.ebr_scope.specs.Names.{visible_items}
 use Rattle.ebr_scope.specs.Around.{Env, outside, knowing}
-use Rattle.ebr_rules.specs.Sites.{Site, Declares, OfColumn, Pragmas, Specifies, Implements, OnRows}
-use Rattle.ebr_rules.specs.Targets.{In}
-use Rattle.ebr_check.specs.Statements.{each, decl_sites, decls_sites, with_decl, with_decls, handlers, in_statement, in_handler, in_body}
+use Rattle.ebr_validity.specs.Sites.{Site, Declares, OfColumn, Pragmas, Specifies, Implements, OnRows}
+use Rattle.ebr_validity.specs.Targets.{In}
+use Rattle.ebr_validity.specs.Statements.{each, decl_sites, decls_sites, with_decl, with_decls, handlers, in_statement, in_handler, in_body}
 
 -- ---- heads and subprograms
 

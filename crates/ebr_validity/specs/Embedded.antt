@@ -30,7 +30,7 @@ use Rattle.ebr_sqlcheck.specs.Names.{column_meant}
 use Rattle.ebr_sqlcheck.specs.Statements.{query_check, insert_check, update_check, delete_check, only_relation}
 use Rattle.ebr_scope.specs.Around.{Env, image_type, variable_type, others}
 use Rattle.ebr_scope.specs.Names.{meant}
-use Rattle.ebr_rules.specs.Sites.{Site, Named, Computed, OnlyInCode, Images, Fires, Placed, Sql}
+use Rattle.ebr_validity.specs.Sites.{Site, Named, Computed, OnlyInCode, Images, Fires, Placed, Sql}
 
 -- ---- expressions
 

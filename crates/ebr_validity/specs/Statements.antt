@@ -34,11 +34,11 @@ use Rattle.ebr_scope.specs.Meanings.{Word, Constant, Exception, Cursor, Record, 
 use Rattle.ebr_scope.specs.Declarations.{column_type_of, declared_type, decl_name, variable}
 use Rattle.ebr_scope.specs.Names.{entry_fields, meant_at, called, applied, raised}
 use Rattle.ebr_scope.specs.Around.{Env, knowing, within_block, within_loop, within_handler}
-use Rattle.ebr_rules.specs.Columns.{fields_of}
-use Rattle.ebr_rules.specs.Sites.{Calls, Raises, Cursors, Fits, Prints, RaisesNumber, Unset, Gives, Leaves, Reraises, Handles, Loops, Declares, Sized, OfColumn, Pragmas}
-use Rattle.ebr_rules.specs.Expressions.{reading_of, sites_of, type_of, wanted, arguments, parameters_of}
-use Rattle.ebr_rules.specs.Targets.{In, target_sites, into}
-use Rattle.ebr_rules.specs.Embedded.{query_sites, insert_sites, update_sites, delete_sites}
+use Rattle.ebr_fields.specs.Columns.{fields_of}
+use Rattle.ebr_validity.specs.Sites.{Calls, Raises, Cursors, Fits, Prints, RaisesNumber, Unset, Gives, Leaves, Reraises, Handles, Loops, Declares, Sized, OfColumn, Pragmas}
+use Rattle.ebr_validity.specs.Expressions.{reading_of, sites_of, type_of, wanted, arguments, parameters_of}
+use Rattle.ebr_validity.specs.Targets.{In, target_sites, into}
+use Rattle.ebr_validity.specs.Embedded.{query_sites, insert_sites, update_sites, delete_sites}
 
 abbrev pub each : List In → In
 each [] env = []

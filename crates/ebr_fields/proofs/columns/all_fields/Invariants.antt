@@ -1,6 +1,6 @@
 use Rattle.std.proofs.Common.{◌≡◌, ◌++◌, drop, flat_map}
-use Rattle.ebr_rules.specs.Columns.{relation_fields}
-use Rattle.ebr_rules.proofs.sql.all_fields.Given as goal
+use Rattle.ebr_fields.specs.Columns.{relation_fields}
+use Rattle.ebr_fields.proofs.columns.all_fields.Given as goal
 
 abbrev pub invariant-loop-relation : goal.invariant-loop-relation
 invariant-loop-relation l =

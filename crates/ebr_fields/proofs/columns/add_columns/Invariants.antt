@@ -1,6 +1,6 @@
 use Rattle.std.proofs.Common.{◌≡◌, ◌++◌, map, drop}
-use Rattle.ebr_rules.specs.Columns.{column_field}
-use Rattle.ebr_rules.proofs.sql.add_columns.Given as goal
+use Rattle.ebr_fields.specs.Columns.{column_field}
+use Rattle.ebr_fields.proofs.columns.add_columns.Given as goal
 
 abbrev pub invariant-loop-column : goal.invariant-loop-column
 invariant-loop-column l =

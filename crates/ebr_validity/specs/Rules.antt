@@ -29,8 +29,8 @@ use Rattle.ebr_sqlcheck.specs.Operands.{adds, compares}
 use Rattle.ebr_scope.specs.declared.field.Field.{Field}
 use Rattle.ebr_scope.specs.Meanings.{Word, Meaning, Variable, Constant, Parameter as Passed, Exception, Cursor, Subprogram, Fields, is_out, is_target}
 use Rattle.ebr_scope.specs.Names.{is_function}
-use Rattle.ebr_rules.specs.Sites.{Site, Operand, Applies, Calls, Raises, Cursors, Asks, Assigns, Fits, Builtins, Adds, Compares, Prints, RaisesNumber, Passes, SetsNew, Unset, Gives, Leaves, Reraises, Handles, Counts, Loops, Named, Computed, OnlyInCode, Sql, Declares, Sized, OfColumn, Pragmas, Specifies, Implements, OnRows, Images, Fires, Placed}
-use Rattle.ebr_rules.specs.Expressions.{is_after}
+use Rattle.ebr_validity.specs.Sites.{Site, Operand, Applies, Calls, Raises, Cursors, Asks, Assigns, Fits, Builtins, Adds, Compares, Prints, RaisesNumber, Passes, SetsNew, Unset, Gives, Leaves, Reraises, Handles, Counts, Loops, Named, Computed, OnlyInCode, Sql, Declares, Sized, OfColumn, Pragmas, Specifies, Implements, OnRows, Images, Fires, Placed}
+use Rattle.ebr_validity.specs.Expressions.{is_after}
 
 -- ---- 1: a name in code is found, and is of the kind that stands there
 

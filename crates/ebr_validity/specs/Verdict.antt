@@ -3,8 +3,8 @@ use Rattle.std.specs.Prelude.{ℕ, Bool, Option}
 use Rattle.std.specs.List.{list_all}
 use Rattle.ebr_ast.specs.declared.unit.UnitTree.{UnitTree}
 use Rattle.ebr_ast.specs.declared.view.EditionView.{EditionView}
-use Rattle.ebr_check.specs.Units.{sites_in}
-use Rattle.ebr_rules.specs.Rules.{Rule, rules, holds, first_broken}
+use Rattle.ebr_validity.specs.Units.{sites_in}
+use Rattle.ebr_validity.specs.Rules.{Rule, rules, holds, first_broken}
 
 -- A unit is valid against what an edition sees exactly where each rule holds.
 unfoldable pub is_valid : EditionView → UnitTree → Bool
