@@ -21,7 +21,7 @@ use Rattle.ebr_ast.specs.declared.unit.UnitTree.TheVariants as unit
 use Rattle.ebr_ast.specs.declared.view.EditionView.{EditionView}
 use Rattle.ebr_ast.specs.declared.view.Object.{Object}
 use Rattle.ebr_ast.specs.Views.{object_of}
-use Rattle.ebr_check.specs.Units.{row_columns, columns_or_none}
+use Rattle.ebr_validity.specs.Units.{row_columns, columns_or_none}
 use Rattle.ebr_dml.specs.Plans.{places_of, trigger_key}
 use Rattle.ebr_exec.specs.Places.{Names, Place}
 use Rattle.ebr_fire.specs.declared.firing.Firing.{Firing}

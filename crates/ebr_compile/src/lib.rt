@@ -9,7 +9,7 @@
 
 ghost use Rattle.std.specs.Prelude.{◌≡◌, ◌+◌, ◌≤◌, true, IfOk, OnOk};
 ghost use Rattle.ebr_ast.specs.Views.{IsInOrder};
-ghost use Rattle.ebr_check.specs.Verdict.{is_valid};
+ghost use Rattle.ebr_validity.specs.Verdict.{is_valid};
 ghost use Rattle.ebr_code.specs.Units.{Codes};
 
 mod held;

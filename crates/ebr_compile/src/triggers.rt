@@ -1,7 +1,7 @@
 //! The units of triggers.
 
 ghost use Rattle.std.specs.Prelude.{◌≡◌, Some, IfOk};
-ghost use Rattle.ebr_check.specs.Units as checks;
+ghost use Rattle.ebr_validity.specs.Units as checks;
 ghost use Rattle.ebr_run.specs.Units as run;
 ghost use Rattle.ebr_code.specs.Units as spec;
 

@@ -9,9 +9,9 @@ use Rattle.ebr_base.specs.declared.row.RowId.{RowId}
 use Rattle.ebr_versions.specs.Data.{is_of, is_row, last_change, changes_row, Latest}
 use Rattle.ebr_versions.proofs.KeyLemmas.{is_row-true}
 use Rattle.ebr_versions.proofs.LawLemmas.{changes_row_is}
+use Rattle.ebr_tx.specs.Commits.{AreThere, IsThere}
 use Rattle.ebr_tx.specs.Reads.{over}
 use Rattle.ebr_tx.proofs.FreeKeys.{latest_over}
-use Rattle.ebr_integrity.specs.Commits.{AreThere, IsThere}
 use Rattle.ebr_integrity.specs.Integrity.{ShareNoRow}
 
 -- ---- all of some changes

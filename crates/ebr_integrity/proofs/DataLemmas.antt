@@ -11,6 +11,7 @@ use Rattle.ebr_base.specs.declared.row.TxId.{TxId}
 use Rattle.ebr_versions.specs.Data.{changes_in, changes_row}
 use Rattle.ebr_versions.specs.Keys.{KeysDiffer}
 use Rattle.ebr_locks.specs.Locks.{same_tx}
+use Rattle.ebr_tx.specs.Commits.{IsAllowedOf, IsNumbered, IsThere}
 use Rattle.ebr_tx.specs.declared.savepoints.Savepoint.{Savepoint}
 use Rattle.ebr_tx.specs.declared.savepoints.TxMark.{TxMark}
 use Rattle.ebr_tx.specs.Data.{Transaction, Data, IsLive, changed, is_named, named_at, names_of, not_begun, own, stack_of}
@@ -19,7 +20,6 @@ use Rattle.ebr_tx.specs.inside.Sound.{IsSound, MayAdd}
 use Rattle.ebr_tx.proofs.FreeKeys.{keys_differ}
 use Rattle.ebr_tx.proofs.Kept.{sound_back_to, sound_begun, sound_changed_more, sound_done, sound_ended, sound_marked, sound_pushed, sound_removed, sound_savepoint}
 use Rattle.ebr_tx.proofs.SoundLemmas.{own_found}
-use Rattle.ebr_integrity.specs.Commits.{IsAllowedOf, IsNumbered, IsThere}
 use Rattle.ebr_integrity.specs.Integrity.{HasIntegrity, IsOfAdded, IsIntactBy, changes_of}
 use Rattle.ebr_integrity.proofs.ChangeLemmas.{all_append, all_weaker}
 use Rattle.ebr_integrity.proofs.OrderLemmas.{order_changed, order_cut, order_kept, order_pushed, order_removed, order_settled}

@@ -10,10 +10,10 @@ use Rattle.ebr_base.specs.declared.row.TxId.{TxId}
 use Rattle.ebr_versions.specs.Data.{changes_row}
 use Rattle.ebr_locks.specs.Locks.{same_tx}
 use Rattle.ebr_locks.proofs.Taken.{tx-same}
+use Rattle.ebr_tx.specs.Commits.{AreThere, IsThere}
 use Rattle.ebr_tx.specs.Data.{Transaction, is_named, named_at, not_begun, changed}
 use Rattle.ebr_tx.specs.Calls.{ended, first_transactions, with_change}
 use Rattle.ebr_tx.proofs.SoundLemmas.{find-other, names, tx-itself}
-use Rattle.ebr_integrity.specs.Commits.{AreThere, IsThere}
 use Rattle.ebr_integrity.specs.Integrity.{AreOrderly, ShareNoRow, changes_of}
 use Rattle.ebr_integrity.proofs.ChangeLemmas.{all_push, all_take, share_none, share_push, share_sym, share_take, there_commit, there_push, there_take}
 

@@ -17,6 +17,7 @@ use Rattle.ebr_versions.proofs.KeyLemmas.{is_row-true, last_change-of}
 use Rattle.ebr_versions.proofs.LawLemmas.{unchanged_rows_stay}
 use Rattle.ebr_locks.specs.Locks.{holder_of}
 use Rattle.ebr_locks.proofs.Taken.{tx-same}
+use Rattle.ebr_tx.specs.Commits.{IsNumbered, is_numbered, row_behind}
 use Rattle.ebr_tx.specs.Data.{Transaction, Data, IsLive, is_named, not_begun, own, some_other}
 use Rattle.ebr_tx.specs.Reads.{Sees, committed, over}
 use Rattle.ebr_tx.specs.Conflicts.{HeldBy, Late, changes_row_by, is_late, is_other, touch_refusal}
@@ -30,7 +31,7 @@ use Rattle.ebr_dml.specs.declared.plan.Work.TheVariants.{Set, Remove}
 use Rattle.ebr_dml.specs.declared.taken.Taken.{Taken}
 use Rattle.ebr_dml.specs.Steps.{IsSeen}
 use Rattle.ebr_dml.specs.Tests.{change_limit, columns_refusal, delete_tests, first_code, insert_tests, new_row_limit, null_inserted, null_updated, removal, tested, update, update_tests, written, written_to}
-use Rattle.ebr_integrity.specs.Commits.{IsNumbered, IsSuitable, is_numbered, row_behind, suits_table}
+use Rattle.ebr_integrity.specs.Commits.{IsSuitable, suits_table}
 use Rattle.ebr_integrity.specs.Integrity.{IsIntactBy, changes_of}
 use Rattle.ebr_integrity.proofs.DataLemmas.{intact_changed}
 use Rattle.ebr_integrity.proofs.FitLemmas.{none_both, row_fits}

@@ -9,10 +9,11 @@ use Rattle.ebr_base.specs.declared.table.TableDef.{TableDef}
 use Rattle.ebr_versions.specs.declared.table.Table.{Table}
 use Rattle.ebr_versions.specs.Data.{changes_row, changes_in}
 use Rattle.ebr_versions.specs.Keys.{KeysDiffer, is_added}
+use Rattle.ebr_tx.specs.Commits.{AreThere, IsNumbered}
 use Rattle.ebr_tx.specs.Data.{Transaction, Data, is_named, not_begun}
 use Rattle.ebr_tx.specs.inside.Sound.{IsSound}
 use Rattle.ebr_tables.specs.Tables.{has_id}
-use Rattle.ebr_integrity.specs.Commits.{AreThere, IsNumbered, IsSuitable}
+use Rattle.ebr_integrity.specs.Commits.{IsSuitable}
 
 -- the changes of the transaction of that name; none where it isn't live
 abbrev pub changes_of : List Transaction → TxId → List Change

@@ -9,7 +9,7 @@ ghost use Rattle.ebr_names.specs.Columns.{column_named};
 ghost use Rattle.ebr_names.specs.Headers.{head_in};
 ghost use Rattle.ebr_scope.specs.Lent as checked;
 ghost use Rattle.ebr_scope.specs.Meanings as known;
-ghost use Rattle.ebr_rules.specs.Columns.{fields_of};
+ghost use Rattle.ebr_fields.specs.Columns.{fields_of};
 ghost use Rattle.ebr_run.specs.Binds.{bound_query};
 ghost use Rattle.ebr_run.specs.Scope as spec;
 ghost use Rattle.ebr_run.specs.Statements.{with_decl};
@@ -24,8 +24,8 @@ use crate::members::{packaged, subprogram_of};
 use crate::names::Names;
 use ebr_ast::{DeclaredType, Head, PackageItem, Parameter, Query, Subprogram};
 use ebr_base::{Class, CloneIn, ColType, List, Name, NoMemory, ObjectKey, Shared, both};
+use ebr_fields::fields;
 use ebr_names::ViewColumn;
-use ebr_rules::query;
 use ebr_run::{Location, VariableType};
 use ebr_scope::{Field, Meaning, Place, Seen, variable};
 use ebr_sqlcheck::ValueType;
@@ -241,8 +241,7 @@ impl<'a> Around<'a> {
             columns: self.columns,
             ..Place::outside(self.seen)
         };
-        let mut least = None;
-        query(alloc, q, &place, self.names.known(), &mut least)
+        fields(alloc, q, &place, self.names.known())
     }
 
     /// Into the part of the tree at a place.

@@ -37,7 +37,7 @@ use Rattle.ebr_scope.specs.Declarations as known_type
 use Rattle.ebr_scope.specs.Declarations.{column_of, decl_name, item_named, is_name}
 use Rattle.ebr_scope.specs.Names.{visible_head, visible_items, is_function}
 use Rattle.ebr_scope.specs.Around as checked
-use Rattle.ebr_rules.specs.Rules.{is_exception_number}
+use Rattle.ebr_validity.specs.Rules.{is_exception_number}
 use Rattle.ebr_run.specs.declared.callee.Callee.{Callee}
 use Rattle.ebr_run.specs.declared.fault.Exception as declaring
 use Rattle.ebr_run.specs.declared.fault.Fault.{Fault}

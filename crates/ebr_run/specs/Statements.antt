@@ -48,7 +48,7 @@ use Rattle.ebr_scope.specs.declared.field.Field.{Field}
 use Rattle.ebr_scope.specs.Meanings as known
 use Rattle.ebr_scope.specs.Meanings.{Word, Fields}
 use Rattle.ebr_scope.specs.Declarations as known_type
-use Rattle.ebr_rules.specs.Columns.{fields_of}
+use Rattle.ebr_fields.specs.Columns.{fields_of}
 use Rattle.ebr_asks.specs.declared.ask.Ask.{Ask}
 use Rattle.ebr_asks.specs.declared.ask.Ask.TheVariants as ask
 use Rattle.ebr_asks.specs.declared.answer.Answer.{Answer}

@@ -27,8 +27,8 @@ use Rattle.ebr_ast.specs.Views.{object_of, unit_key}
 use Rattle.ebr_names.specs.Headers.{head_in}
 use Rattle.ebr_scope.specs.Meanings.{Word}
 use Rattle.ebr_scope.specs.Names.{visible_items, is_function}
-use Rattle.ebr_check.specs.Units.{row_columns, columns_or_none}
-use Rattle.ebr_check.specs.Verdict.{is_valid}
+use Rattle.ebr_validity.specs.Units.{row_columns, columns_or_none}
+use Rattle.ebr_validity.specs.Verdict.{is_valid}
 use Rattle.ebr_run.specs.declared.callee.Callee.{Callee}
 use Rattle.ebr_run.specs.State.{Runs, Normal, ended}
 use Rattle.ebr_run.specs.Scope.{Env, parameter_type, body_key, declaration_in, with_parameters, with_heads, with_subprograms, part, hands_back}

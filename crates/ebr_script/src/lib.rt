@@ -3,7 +3,7 @@
 //! What the server uses is `pieces`: the pieces are those that the relation `Cut` allows, in one way. A stored text is
 //! read again by `stored`.
 //!
-//! That calls succeed with ample memory is tested alone (`ebr_servertests`).
+//! That calls succeed with ample memory is tested alone (`ebr_enginetests`).
 #![tactic(auto)]
 
 mod piece;
