@@ -5,7 +5,7 @@ ghost use Rattle.std.specs.Prelude.{List as Sequence};
 ghost use Rattle.ebr_asks.specs.declared.ask.Ask as asked;
 ghost use Rattle.ebr_ast.specs.declared.unit.UnitTree.TheVariants.{Block as block_tree};
 ghost use Rattle.ebr_ast.specs.Views.{IsInOrder};
-ghost use Rattle.ebr_check.specs.Verdict.{is_valid};
+ghost use Rattle.ebr_validity.specs.Verdict.{is_valid};
 ghost use Rattle.ebr_run.specs.Packages.{PackageState};
 ghost use Rattle.ebr_code.specs.Books.{Book};
 ghost use Rattle.ebr_laws.specs.Served.{HasCodeOf};
@@ -148,7 +148,7 @@ impl<B: CodeBook + Drop> Call<B> {
 }
 
 /// The elements from a place on.
-fn behind(items: &[Bytes], at: usize) -> &[Bytes]
+fn behind(items: &[Shared<Bytes>], at: usize) -> &[Shared<Bytes>]
     ensures { at ≤ length items.now → result.now ≡ drop at items.now }
 {
     if at <= items.len() {

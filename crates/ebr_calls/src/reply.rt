@@ -25,7 +25,7 @@ pub fn print_result(
     match answer {
         Answer::Done => print_line(out, text),
         Answer::Invalid => print_line(out, b"INVALID"),
-        Answer::Rows(rows) => print_rows(alloc, out, rows),
+        Answer::Rows(rows) => print_rows(alloc, out, rows.get()),
         Answer::Count { n, lines, .. } => {
             print_lines(out, lines.as_slice())?;
             print_count(alloc, out, *n)

@@ -108,19 +108,19 @@ pub fn go<B: CodeBook>(
     ensures still { OnOk result (IsStill run.new.flow run.new.tasks) }
     ensures says { IfOk result (λ next. next ≡ inside.says run.new.flow run.new.fault run.new.ask) }
 {
-    start(run, arrived)?;
+    start(run, alloc, arrived)?;
     run_on(run, alloc, book, edition)?;
     Ok(say(run, alloc)?)
 }
 
 /// Takes the answer that has arrived.
-fn start(run: &mut Running, arrived: Option<Answer>) -> Result<(), NoMemory>
+fn start(run: &mut Running, alloc: Global, arrived: Option<Answer>) -> Result<(), NoMemory>
     ensures { OnOk result ((book : Book) (asks : Sequence asked.Ask) (answers : Sequence answered.Answer) → rest_of book run.new asks answers ≡ rest.stands book run.old arrived asks answers) }
 {
     match arrived {
         None => Ok(()),
         Some(answer) => {
-            run.absorb(answer)?;
+            run.absorb(alloc, answer)?;
             Ok(())
         }
     }

@@ -132,7 +132,7 @@ impl Machine {
     }
 
     /// The lines that were printed.
-    pub fn lines(&self) -> &List<Bytes>
+    pub fn lines(&self) -> &List<Shared<Bytes>>
         ensures { result.now ≡ self.now.inner.lines }
     {
         &self.inner.lines

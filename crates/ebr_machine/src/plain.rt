@@ -91,7 +91,7 @@ pub fn plain(run: &mut Running, alloc: Global, operation: &Operation) -> Result<
             Ok(())
         }
         Operation::Attribute(cursor, attribute) => run.attribute(cursor, *attribute),
-        Operation::Fetch(cursor, types) => run.fetch(cursor, types),
+        Operation::Fetch(cursor, types) => run.fetch(alloc, cursor, types),
         Operation::Call(_) => Ok(()),
         Operation::Refer(_, _) => Ok(()),
     }

@@ -7,19 +7,20 @@ ghost use Rattle.ebr_memory.specs.inside.OpenRows.{cursor_of};
 
 use crate::row::count;
 use crate::rows::row_fits;
-use crate::stack::Stack;
+use crate::shared_row::SharedRow;
 use ebr_ast::Attribute;
-use ebr_base::{List, NoMemory, Value};
+use ebr_base::{CloneIn, List, NoMemory, Shared, Value};
 use ebr_sqlcheck::ValueType;
+use std::alloc::Global;
 use std::marker::Model;
 
 /// The rows of an open cursor.
 #[derive(Drop)]
 struct Rows {
-    /// The rows that are left, the next one topmost.
-    left: Stack<List<Value>>,
-    /// How many rows were fetched.
-    fetched: u64,
+    /// All rows of the query, in the memory of its answer.
+    all: Shared<List<List<Value>>>,
+    /// How many of them were fetched.
+    fetched: usize,
     /// Whether the last fetch gave a row.
     found: Option<bool>,
 }
@@ -39,7 +40,7 @@ pub enum Fetched {
     NoRow,
     /// The row doesn't have a value of each type.
     Unfit,
-    Row(List<Value>),
+    Row(SharedRow),
 }
 
 impl Model for Cursor {
@@ -60,12 +61,12 @@ impl Cursor {
     }
 
     /// An open cursor over rows, of which none was fetched.
-    pub fn opened(rows: List<List<Value>>) -> Cursor
+    pub fn opened(rows: Shared<List<List<Value>>>) -> Cursor
         ensures { result ≡ spec.Open rows 0 None }
     {
         Cursor {
             rows: Some(Rows {
-                left: Stack::of(rows),
+                all: rows,
                 fetched: 0,
                 found: None,
             }),
@@ -93,12 +94,12 @@ impl Cursor {
     }
 
     /// Fetches a row for values of these types, and goes on to the next one, also where that row doesn't fit.
-    pub fn fetch(&mut self, types: &[Option<ValueType>]) -> Result<Fetched, NoMemory>
+    pub fn fetch(&mut self, alloc: Global, types: &[Option<ValueType>]) -> Result<Fetched, NoMemory>
         ensures given { IfOk result (λ given. fetched_of given ≡ spec.fetched types.now self.old) }
         ensures moved { OnOk result (self.new ≡ spec.after_fetch self.old) }
     {
         match &mut self.rows {
-            Some(rows) => rows.fetch(types),
+            Some(rows) => rows.fetch(alloc, types),
             None => Ok(Fetched::Unopened),
         }
     }
@@ -112,28 +113,30 @@ impl Rows {
             Attribute::IsOpen => Ok(Value::Bool(true)),
             Attribute::Found => Ok(found_value(self.found)),
             Attribute::NotFound => Ok(not_found_value(self.found)),
-            Attribute::RowCount => count(self.fetched),
+            Attribute::RowCount => count(self.fetched as u64),
         }
     }
 
-    fn fetch(&mut self, types: &[Option<ValueType>]) -> Result<Fetched, NoMemory>
+    fn fetch(&mut self, alloc: Global, types: &[Option<ValueType>]) -> Result<Fetched, NoMemory>
         ensures given { IfOk result (λ given. fetched_of given ≡ spec.fetched types.now (cursor_of (Some self.old))) }
         ensures moved { OnOk result (cursor_of (Some self.new) ≡ spec.after_fetch (cursor_of (Some self.old))) }
     {
-        let Some(row) = self.left.pop() else {
+        let place = self.fetched;
+        let Some(row) = self.all.get().get(place) else {
             self.found = Some(false);
             return Ok(Fetched::NoRow);
         };
-        let Some(fetched) = self.fetched.checked_add(1) else {
+        let fits = row_fits(types, row.as_slice());
+        let Some(fetched) = place.checked_add(1) else {
             return Err(NoMemory);
         };
         self.fetched = fetched;
         self.found = Some(true);
-        if row_fits(types, row.as_slice()) {
-            Ok(Fetched::Row(row))
-        } else {
-            Ok(Fetched::Unfit)
+        if fits {
+            let all = self.all.clone_in(alloc)?;
+            return Ok(Fetched::Row(SharedRow::new(all, place)));
         }
+        Ok(Fetched::Unfit)
     }
 }
 

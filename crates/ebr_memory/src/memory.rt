@@ -99,6 +99,7 @@ pub fn cursor_attribute(
 
 /// Fetches from a cursor.
 pub fn fetch(
+    alloc: Global,
     cursors: &mut Levels<Cursor>,
     place: usize,
     types: &[Option<ValueType>],
@@ -107,7 +108,7 @@ pub fn fetch(
     ensures moved { OnOk result (cursors.new ≡ with_top (put Closed place (spec.after_fetch (at Closed place cursors.old.top)) cursors.old.top) cursors.old) }
 {
     let mut cursor = taken(cursors, place);
-    let given = cursor.fetch(types)?;
+    let given = cursor.fetch(alloc, types)?;
     put_cursor(cursors, place, cursor)?;
     Ok(given)
 }

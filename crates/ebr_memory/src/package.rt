@@ -177,6 +177,7 @@ impl Packages {
     /// Fetches from a package's cursor.
     pub fn fetch(
         &mut self,
+        alloc: Global,
         name: &Name,
         place: usize,
         types: &[Option<ValueType>],
@@ -187,7 +188,7 @@ impl Packages {
         let Some(state) = self.states.get_mut(name) else {
             return Ok(Fetched::Unopened);
         };
-        let given = fetch_in(state, place, types)?;
+        let given = fetch_in(alloc, state, place, types)?;
         Ok(given)
     }
 }
@@ -243,6 +244,7 @@ fn put_cursor_in(state: &mut PackageState, place: usize, cursor: Cursor) -> Resu
 }
 
 fn fetch_in(
+    alloc: Global,
     state: &mut PackageState,
     place: usize,
     types: &[Option<ValueType>],
@@ -250,5 +252,5 @@ fn fetch_in(
     ensures given { IfOk result (λ given. fetched_of given ≡ cursors.fetched types.now (inside.cursor_at place state.old)) }
     ensures moved { OnOk result (state.new ≡ inside.with_cursor place (cursors.after_fetch (inside.cursor_at place state.old)) state.old) }
 {
-    fetch(&mut state.cursors, place, types)
+    fetch(alloc, &mut state.cursors, place, types)
 }

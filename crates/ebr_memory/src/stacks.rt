@@ -3,7 +3,7 @@
 ghost use Rattle.std.specs.Prelude.{◌≡◌, [], ◌∷◌, ◌++◌, length, take, drop, reverse, MatchOption, OnOk, IfOk};
 ghost use Rattle.ebr_memory.specs.Levels.{with_top, opened, closed, joined};
 
-use ebr_base::{List, NoMemory, rest_from};
+use ebr_base::{CloneIn, List, NoMemory, rest_from};
 use std::alloc::Global;
 use std::marker::Model;
 
@@ -77,20 +77,6 @@ impl<T: Drop> Stacks<T> {
         Ok(())
     }
 
-    /// Puts the elements of a list on the topmost stack, the first one topmost.
-    pub fn push_all(&mut self, list: List<T>) -> Result<(), NoMemory>
-        ensures { OnOk result (self.new ≡ with_top (list ++ self.old.top) self.old) }
-    {
-        let mut items = list.into_vec();
-        'items: for _turn in 0..u64::MAX {
-            match items.pop() {
-                Some(item) => self.push(item)?,
-                None => return Ok(()),
-            }
-        }
-        Err(NoMemory)
-    }
-
     /// Takes the topmost element of the topmost stack away.
     pub fn pop(&mut self) -> Option<T>
         ensures { MatchOption result ((self.old.top ≡ []) × (self.new ≡ self.old)) (λ top. self.old ≡ with_top (top ∷ self.new.top) self.new) }
@@ -152,5 +138,17 @@ impl<T: Drop> Stacks<T> {
         ensures { self.new ≡ joined self.old }
     {
         self.base = self.bases.pop().unwrap_or(0);
+    }
+}
+
+impl<T: CloneIn> Stacks<T> {
+    /// Puts copies of elements on the topmost stack, the first one topmost.
+    pub fn push_copies(&mut self, alloc: Global, items: &[T]) -> Result<(), NoMemory>
+        ensures { OnOk result (self.new ≡ with_top (items.now ++ self.old.top) self.old) }
+    {
+        for at in (0..items.len()).rev() {
+            self.push(items[at].clone_in(alloc)?)?;
+        }
+        Ok(())
     }
 }

@@ -10,12 +10,13 @@ ghost use Rattle.ebr_running.specs.Rest.{Moves, row_of};
 
 use crate::running::{BodyFrame, Flow, Left, Pending, Running};
 use ebr_asks::Answer;
-use ebr_base::{Bytes, Code, List, NoMemory};
+use ebr_base::{Bytes, Code, List, NoMemory, Shared};
 use ebr_code::{Fault, Lookup};
+use std::alloc::Global;
 
 impl Running {
     /// What an answer does.
-    pub fn absorb(&mut self, answer: Answer) -> Result<(), NoMemory>
+    pub fn absorb(&mut self, alloc: Global, answer: Answer) -> Result<(), NoMemory>
         ensures { OnOk result (Moves self.old self.new (rest.absorbed answer self.old)) }
     {
         match answer {
@@ -42,7 +43,7 @@ impl Running {
                 Ok(())
             }
             Answer::Rows(rows) => {
-                self.take_rows(rows)?;
+                self.take_rows(alloc, rows)?;
                 Ok(())
             }
             Answer::View(_) => {
@@ -69,7 +70,7 @@ impl Running {
     }
 
     /// Counts the steps and lines of an answer.
-    fn spend(&mut self, steps: u32, lines: List<Bytes>) -> Result<(), NoMemory>
+    fn spend(&mut self, steps: u32, lines: List<Shared<Bytes>>) -> Result<(), NoMemory>
         ensures { OnOk result (self.new ≡ record self.old { lines = self.old.lines ++ lines; room = run.room_behind (option_map row_of self.old.row) lines self.old.room; steps = self.old.steps + steps }) }
     {
         let Some(steps) = self.steps.checked_add(steps) else {
@@ -147,7 +148,7 @@ fn is_uncatchable(code: Code) -> bool
 }
 
 /// The room that the lines of triggers leave.
-fn room_behind(row: &Option<BodyFrame>, lines: &List<Bytes>, room: usize) -> usize
+fn room_behind(row: &Option<BodyFrame>, lines: &List<Shared<Bytes>>, room: usize) -> usize
     ensures { result ≡ run.room_behind (option_map row_of row.now) lines.now room }
 {
     match row {
@@ -156,12 +157,12 @@ fn room_behind(row: &Option<BodyFrame>, lines: &List<Bytes>, room: usize) -> usi
     }
 }
 
-fn room_left(lines: &[Bytes], room: usize) -> usize
+fn room_left(lines: &[Shared<Bytes>], room: usize) -> usize
     ensures { (row : run.Row) → result ≡ run.room_behind (Some row) lines.now room }
 {
     let mut left = room;
     for line in lines {
-        left = room_after(left, line);
+        left = room_after(left, line.get());
     }
     left
 }
@@ -174,7 +175,7 @@ fn room_after(room: usize, line: &Bytes) -> usize
 }
 
 /// Moves lines to the end of others.
-fn append(to: &mut List<Bytes>, lines: List<Bytes>) -> Result<(), NoMemory>
+fn append(to: &mut List<Shared<Bytes>>, lines: List<Shared<Bytes>>) -> Result<(), NoMemory>
     ensures { OnOk result (to.new ≡ to.old ++ lines) }
 {
     for line in lines.into_vec() {

@@ -27,7 +27,7 @@ impl Running {
     {
         self.lookup = lookup.clone_in(alloc)?;
         let stmt = stmt.clone_in(alloc)?;
-        let binds = self.operands.take(binds)?;
+        let binds = Shared::new(alloc, self.operands.take(binds)?)?;
         self.operands.clear();
         self.ask = Ask::Sql {
             stmt,

@@ -15,6 +15,7 @@ use ebr_base::{Code, List, Name, NoMemory, Value};
 use ebr_code::{Fault, Location};
 use ebr_memory::{Fetched, cursor_attribute, fetch};
 use ebr_sqlcheck::ValueType;
+use std::alloc::Global;
 
 impl Running {
     /// Pushes an attribute of a cursor.
@@ -31,6 +32,7 @@ impl Running {
     /// FETCH: pushes the values of a row of these types, the first topmost, and above them TRUE; without a row FALSE alone.
     pub fn fetch(
         &mut self,
+        alloc: Global,
         cursor: &Location,
         types: &List<Option<ValueType>>,
     ) -> Result<(), NoMemory>
@@ -38,8 +40,8 @@ impl Running {
         ensures { OnOk result (Computes self.old self.new (operate (does.Fetch cursor.now types.now))) }
     {
         match cursor {
-            Location::Own(place) => self.fetch_own(*place, types),
-            Location::Member(name, place) => self.fetch_member(name, *place, types),
+            Location::Own(place) => self.fetch_own(alloc, *place, types),
+            Location::Member(name, place) => self.fetch_member(alloc, name, *place, types),
         }
     }
 
@@ -86,18 +88,24 @@ impl Running {
     }
 
     /// FETCH from a cursor of the running subprogram.
-    fn fetch_own(&mut self, place: usize, types: &List<Option<ValueType>>) -> Result<(), NoMemory>
+    fn fetch_own(
+        &mut self,
+        alloc: Global,
+        place: usize,
+        types: &List<Option<ValueType>>,
+    ) -> Result<(), NoMemory>
         requires { self.old.flow ≡ Flow.Normal }
         ensures { OnOk result (Computes self.old self.new (operate (does.Fetch (Own place) types.now))) }
     {
-        let fetched = fetch(&mut self.cursors, place, types.as_slice())?;
-        self.take_fetched(fetched)?;
+        let fetched = fetch(alloc, &mut self.cursors, place, types.as_slice())?;
+        self.take_fetched(alloc, fetched)?;
         Ok(())
     }
 
     /// FETCH from a package's cursor.
     fn fetch_member(
         &mut self,
+        alloc: Global,
         name: &Name,
         place: usize,
         types: &List<Option<ValueType>>,
@@ -105,13 +113,13 @@ impl Running {
         requires { self.old.flow ≡ Flow.Normal }
         ensures { OnOk result (Computes self.old self.new (operate (does.Fetch (Member name.now place) types.now))) }
     {
-        let fetched = self.packages.fetch(name, place, types.as_slice())?;
-        self.take_fetched(fetched)?;
+        let fetched = self.packages.fetch(alloc, name, place, types.as_slice())?;
+        self.take_fetched(alloc, fetched)?;
         Ok(())
     }
 
     /// Pushes what was fetched, or raises.
-    fn take_fetched(&mut self, fetched: Fetched) -> Result<(), NoMemory>
+    fn take_fetched(&mut self, alloc: Global, fetched: Fetched) -> Result<(), NoMemory>
         requires { self.old.flow ≡ Flow.Normal }
         ensures { OnOk result (Moves self.old self.new (row_fetched (fetched_of fetched))) }
     {
@@ -131,7 +139,7 @@ impl Running {
             }
             Fetched::Row(row) => {
                 self.operands.clear();
-                self.operands.push_all(row)?;
+                self.operands.push_copies(alloc, row.values())?;
                 self.operands.push(Value::Bool(true))?;
                 Ok(())
             }

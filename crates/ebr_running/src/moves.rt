@@ -7,7 +7,7 @@ ghost use Rattle.ebr_code.specs.declared.instruction.Operation.TheVariants as do
 ghost use Rattle.ebr_running.specs.Rest.{Computes, Does, Moves, row_of};
 
 use crate::running::{BodyFrame, Flow, Running};
-use ebr_base::{Bytes, Code, NoMemory, Value};
+use ebr_base::{Bytes, Code, NoMemory, Shared, Value};
 use ebr_code::Fault;
 use ebr_value::text_of;
 use std::alloc::Global;
@@ -70,7 +70,7 @@ impl Running {
     {
         match self.operands.pop() {
             Some(value) => {
-                self.line(text_of(alloc, &value)?)?;
+                self.line(alloc, text_of(alloc, &value)?)?;
                 Ok(())
             }
             None => {
@@ -81,7 +81,7 @@ impl Running {
     }
 
     /// Adds a line, where there is room for it.
-    fn line(&mut self, line: Bytes) -> Result<(), NoMemory>
+    fn line(&mut self, alloc: Global, line: Bytes) -> Result<(), NoMemory>
         requires { self.old.flow ≡ Flow.Normal }
         ensures { OnOk result (Moves self.old self.new (spec.line line)) }
     {
@@ -90,7 +90,7 @@ impl Running {
             self.no_room();
             return Ok(());
         }
-        self.lines.push(line)?;
+        self.lines.push(Shared::new(alloc, line)?)?;
         self.room -= takes;
         self.operands.clear();
         Ok(())

@@ -11,20 +11,25 @@ ghost use Rattle.ebr_running.specs.Rest as rest;
 ghost use Rattle.ebr_running.specs.Rest.{Moves};
 
 use crate::running::{Flow, Pending, Running};
-use ebr_base::{Code, List, NoMemory, Value};
+use ebr_base::{Code, List, NoMemory, Shared, Value};
 use ebr_code::{Fault, Location, Lookup};
 use ebr_memory::{Cursor, first_fits, put_cursor};
+use std::alloc::Global;
 
 impl Running {
     /// Takes the rows of a query.
-    pub fn take_rows(&mut self, rows: List<List<Value>>) -> Result<(), NoMemory>
+    pub fn take_rows(
+        &mut self,
+        alloc: Global,
+        rows: Shared<List<List<Value>>>,
+    ) -> Result<(), NoMemory>
         ensures { OnOk result (Moves self.old self.new (rest.after self.old.pending self.old.lookup self.old.fault (answer.Rows rows))) }
     {
         match self.pending {
             Pending::Lookup => match self.lookup.get() {
                 Lookup::Row(types) => {
-                    let fits = first_fits(types, &rows);
-                    self.take_row(rows, fits)?;
+                    let fits = first_fits(types, rows.get());
+                    self.take_row(alloc, rows.get().as_slice(), fits)?;
                     Ok(())
                 }
                 Lookup::Open(Location::Own(place)) => {
@@ -57,32 +62,31 @@ impl Running {
     }
 
     /// Takes the one row of a query, where there is just one, and it fits.
-    fn take_row(&mut self, rows: List<List<Value>>, fits: bool) -> Result<(), NoMemory>
-        ensures { OnOk result ((types : Sequence Known) → fits ≡ fit.first_fits types rows → Moves self.old self.new (only_row types rows holding)) }
+    fn take_row(&mut self, alloc: Global, rows: &[List<Value>], fits: bool) -> Result<(), NoMemory>
+        ensures { OnOk result ((types : Sequence Known) → fits ≡ fit.first_fits types rows.now → Moves self.old self.new (only_row types rows.now holding)) }
     {
-        let mut rows = rows.into_vec();
-        let Some(row) = rows.pop() else {
+        let Some((row, others)) = rows.split_first() else {
             self.raise(Fault::Code(Code::Ora(1403)));
             return Ok(());
         };
-        if rows.len() > 0 {
+        if others.len() > 0 {
             self.raise(Fault::Code(Code::Ora(1422)));
             return Ok(());
         }
         if fits {
-            self.hold(row)?;
+            self.hold(alloc, row.as_slice())?;
             return Ok(());
         }
         self.raise(Fault::Code(Code::Ora(932)));
         Ok(())
     }
 
-    /// Pushes the values of a row, the first topmost.
-    fn hold(&mut self, row: List<Value>) -> Result<(), NoMemory>
-        ensures { OnOk result (Moves self.old self.new (holding row)) }
+    /// Pushes copies of the values of a row, the first topmost.
+    fn hold(&mut self, alloc: Global, row: &[Value]) -> Result<(), NoMemory>
+        ensures { OnOk result (Moves self.old self.new (holding row.now)) }
     {
         self.operands.clear();
-        self.operands.push_all(row)?;
+        self.operands.push_copies(alloc, row)?;
         self.flow = Flow::Normal;
         Ok(())
     }

@@ -97,7 +97,7 @@ pub struct Running {
     pub packages: Packages,
     pub row: Option<BodyFrame>,
     pub affected: Option<u64>,
-    pub lines: List<Bytes>,
+    pub lines: List<Shared<Bytes>>,
     /// How many bytes of lines there may still be.
     pub room: usize,
     pub steps: u32,

@@ -9,7 +9,7 @@ use Rattle.ebr_ast.specs.declared.definition.Statement.TheVariants as statement
 use Rattle.ebr_ast.specs.declared.statement.Block.{Block}
 use Rattle.ebr_ast.specs.declared.unit.UnitTree.TheVariants as unit
 use Rattle.ebr_ast.specs.declared.view.EditionView.{EditionView}
-use Rattle.ebr_check.specs.Verdict.{is_valid}
+use Rattle.ebr_validity.specs.Verdict.{is_valid}
 use Rattle.ebr_asks.specs.declared.ask.Ask.{Ask}
 use Rattle.ebr_asks.specs.declared.ask.Ask.TheVariants as ask
 use Rattle.ebr_asks.specs.declared.answer.Answer.{Answer}

@@ -116,7 +116,7 @@ fn sql(alloc: Global, tree: SqlTree) -> Result<Request, NoMemory>
     Ok(Request {
         ask: Ask::Sql {
             stmt: Shared::new(alloc, tree)?,
-            binds: List::new(alloc),
+            binds: Shared::new(alloc, List::new(alloc))?,
             left: MOST_STEPS,
         },
         after: After::Print(Said::Nothing),

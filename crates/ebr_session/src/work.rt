@@ -5,7 +5,7 @@ ghost use Rattle.std.specs.Prelude.{List as Sequence};
 ghost use Rattle.ebr_asks.specs.declared.ask.Ask as asked;
 ghost use Rattle.ebr_ast.specs.declared.unit.UnitTree.TheVariants.{Block as block_tree};
 ghost use Rattle.ebr_ast.specs.Views.{IsInOrder};
-ghost use Rattle.ebr_check.specs.Verdict.{is_valid};
+ghost use Rattle.ebr_validity.specs.Verdict.{is_valid};
 ghost use Rattle.ebr_laws.specs.Served.{HasCodeOf};
 ghost use Rattle.ebr_machine.specs.Has.{IsOut};
 ghost use Rattle.ebr_calls.specs.Steps.{Step, run_seen, run_valid, then_run};

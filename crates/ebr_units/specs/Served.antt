@@ -2,7 +2,7 @@
 use Rattle.std.specs.Prelude.{ℕ, List, length, count_by, option_map}
 use Rattle.ebr_ast.specs.declared.view.EditionView.{EditionView}
 use Rattle.ebr_ast.specs.declared.view.Object.{Object}
-use Rattle.ebr_check.specs.Verdict.{is_valid}
+use Rattle.ebr_validity.specs.Verdict.{is_valid}
 use Rattle.ebr_run.specs.Units.{valid_unit, stamp_in}
 use Rattle.ebr_code.specs.Books.{Book}
 use Rattle.ebr_code.specs.Units.{unit_code}

@@ -135,8 +135,9 @@ fn entries_of<L: Ledger>(
     ensures step { OnOk result (steps.new ≡ steps.old + valid_count v.now) }
     ensures most { steps.new ≤ steps.old + valid_count v.now }
 {
+    let objects = v.objects.to_list(alloc)?;
     let mut entries = List::new(alloc);
-    for it in v.objects.as_slice() {
+    for it in objects.as_slice() {
         entries.push(entry_of(alloc, v, it, steps)?)?;
     }
     Ok(entries)
