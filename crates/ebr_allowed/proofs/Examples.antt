@@ -14,7 +14,8 @@ use Rattle.ebr_cross.specs.Catalogue.{Lists, first_lists}
 use Rattle.ebr_record.specs.declared.record.DroppedClass.TheVariants as dropped
 use Rattle.ebr_record.specs.declared.record.Record.{Record}
 use Rattle.ebr_record.specs.declared.record.Record.TheVariants as left
-use Rattle.ebr_integrity.specs.Commits.{AreThere, is_suitable}
+use Rattle.ebr_tx.specs.Commits.{AreThere}
+use Rattle.ebr_integrity.specs.Commits.{is_suitable}
 use Rattle.ebr_core.specs.Records.{after_record}
 use Rattle.ebr_allowed.specs.Allowed.{Allowed, AreAllowed, allows}
 

@@ -14,6 +14,7 @@ use Rattle.ebr_versions.specs.declared.table.Table.{Table as Added}
 use Rattle.ebr_versions.specs.Data.{changes_in}
 use Rattle.ebr_versions.specs.Keys.{is_added}
 use Rattle.ebr_versions.specs.Store.{OfAdded}
+use Rattle.ebr_tx.specs.Commits.{IsNumbered, is_numbered}
 use Rattle.ebr_tx.specs.Data.{Transaction, is_named, not_begun}
 use Rattle.ebr_tx.specs.Calls.{first_transactions}
 use Rattle.ebr_tx.specs.Limits.{max_changes, max_record, record_length}
@@ -26,7 +27,7 @@ use Rattle.ebr_database.specs.Database.{Database, Session, commit_in, data_of, s
 use Rattle.ebr_seats.specs.Ends.{begun_in}
 use Rattle.ebr_seats.proofs.First.{one_of}
 use Rattle.ebr_levels.proofs.EarlyLemmas.{early_not_begun}
-use Rattle.ebr_integrity.specs.Commits.{IsNumbered, IsSuitable, is_numbered, suits_table}
+use Rattle.ebr_integrity.specs.Commits.{IsSuitable, suits_table}
 use Rattle.ebr_integrity.specs.Integrity.{HasIntegrity, IsOfAdded}
 use Rattle.ebr_integrity.proofs.OrderLemmas.{none_changed, order_first}
 use Rattle.ebr_integrity.proofs.ChangeLemmas.{all_append, all_weaker}

@@ -15,7 +15,8 @@ use Rattle.ebr_base.specs.declared.value.Value.{Value}
 use Rattle.ebr_tables.specs.Definitions.{has_repetition}
 use Rattle.ebr_tables.specs.Tables.{AllTables, IdsAscend, has_id, same_table_name, widened, with_column, without_table}
 use Rattle.ebr_cross.specs.Records.{table_name}
-use Rattle.ebr_integrity.specs.Commits.{IsSuitable, is_numbered, suits_table}
+use Rattle.ebr_tx.specs.Commits.{is_numbered}
+use Rattle.ebr_integrity.specs.Commits.{IsSuitable, suits_table}
 
 own_id : (n : ℕ) → (n == n) ≡ true
 own_id n = eq-eqb n n refl

@@ -33,7 +33,7 @@ key_bytes (k ∷ key) = omega (arith, length-append (to_be_bytes w16 k) (flat_ma
 
 pub table_payload : (name : List ℕ) (columns : List Column) (key : List ℕ) → length name ≤ 128 → length columns ≤ 64 → length key ≤ 64 → All HasShortName columns
     → HasPayload (left.Table name columns key)
-table_payload name columns key short few few_keys all = record { lists = (omega (arith, few), omega (arith, few_keys)); short = within }
+table_payload name columns key short few few_keys all = record { lists = (omega (arith, few), omega (arith, few_keys)); short = within; few = tt }
   where
     head : List ℕ
     head = name_bytes name ++ to_be_bytes w16 (length columns)

@@ -12,7 +12,7 @@ use Rattle.ebr_ast.specs.declared.definition.Definition.{Definition}
 use Rattle.ebr_ast.specs.declared.definition.Definition.TheVariants as definition
 use Rattle.ebr_ast.specs.declared.sql.SqlTree.{SqlTree}
 use Rattle.ebr_ast.specs.declared.view.EditionView.{EditionView}
-use Rattle.ebr_check.specs.Verdict.{is_valid}
+use Rattle.ebr_validity.specs.Verdict.{is_valid}
 use Rattle.ebr_cross.specs.declared.record.CatalogueRecord.{CatalogueRecord}
 use Rattle.ebr_cross.specs.Catalogue.{Lists, table_in}
 use Rattle.ebr_cross.specs.Catalogue as catalogue

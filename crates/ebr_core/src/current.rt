@@ -130,11 +130,11 @@ fn reply_without_view<K: Keep>(
             s,
             e,
             stmt.get(),
-            binds.as_slice(),
+            binds.get().as_slice(),
             *left,
             ask,
         ),
-        Ask::Ddl { what, text } => ddl(alloc, current, s, e, what.get(), text.get()),
+        Ask::Ddl { what, text } => ddl(alloc, current, s, e, what.get(), text),
         Ask::EndCall { failed } => {
             end(current, s, *failed);
             Ok(Answer::Done)

@@ -3,7 +3,7 @@
 ghost use Rattle.std.specs.Prelude.{◌≡◌, IfOk, OnOk, Ok, option_map};
 ghost use Rattle.std.specs.Option.{option_copied};
 ghost use Rattle.ebr_ast.specs.Views.{IsInOrder};
-ghost use Rattle.ebr_check.specs.Verdict.{is_valid};
+ghost use Rattle.ebr_validity.specs.Verdict.{is_valid};
 ghost use Rattle.ebr_cross.specs.Catalogue.{ForLists, HaveOwnKeys, Lists, View, as_catalogue};
 ghost use Rattle.ebr_cross.specs.Definitions.{outcome};
 ghost use Rattle.ebr_cross.specs.Following.{MayFollow};
@@ -27,7 +27,9 @@ use crate::current::{Current, refusal};
 use crate::kept::record_of;
 use ebr_asks::Answer;
 use ebr_ast::{Definition, EditionView, UnitTree};
-use ebr_base::{Bytes, CloneIn, Code, EditionNo, NoMemory, SessionId, Stop, TableDef, TableId};
+use ebr_base::{
+    Bytes, CloneIn, Code, EditionNo, NoMemory, SessionId, Shared, Stop, TableDef, TableId,
+};
 use ebr_check::check;
 use ebr_cross::{Catalogue, CatalogueRecord};
 use ebr_database::{Failure, Halt, keep_record};
@@ -43,7 +45,7 @@ pub fn ddl<K: Keep>(
     s: SessionId,
     e: EditionNo,
     what: &Definition,
-    text: &Bytes,
+    text: &Shared<Bytes>,
 ) -> Result<Answer, Halt>
     requires held { IsHeld K.as_keeper current.old s }
     requires text { IsTextOf what.now text.now }
@@ -63,7 +65,7 @@ fn defined<K: Keep>(
     s: SessionId,
     e: EditionNo,
     what: &Definition,
-    text: &Bytes,
+    text: &Shared<Bytes>,
 ) -> Result<Answer, Halt>
     requires held { IsHeld K.as_keeper current.old s }
     requires text { IsTextOf what.now text.now }
@@ -83,7 +85,7 @@ fn define<K: Keep>(
     s: SessionId,
     e: EditionNo,
     what: &Definition,
-    text: &Bytes,
+    text: &Shared<Bytes>,
 ) -> Result<(), Failure>
     requires held { IsHeld K.as_keeper current.old s }
     requires text { IsTextOf what.now text.now }
@@ -105,7 +107,7 @@ fn carry_out<K: Keep>(
     e: EditionNo,
     sessions: &[EditionNo],
     what: &Definition,
-    text: &Bytes,
+    text: &Shared<Bytes>,
 ) -> Result<(), Failure>
     requires held { IsHeld K.as_keeper current.old s }
     requires text { IsTextOf what.now text.now }

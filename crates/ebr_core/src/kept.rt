@@ -7,9 +7,7 @@ ghost use Rattle.ebr_core.specs.Records as spec;
 ghost use Rattle.ebr_core.specs.inside.Stored.{HasShortName, IsSmall, max_text};
 
 use ebr_ast::Object;
-use ebr_base::{
-    Class, CloneIn, Column, EditionNo, List, Name, NoMemory, Shared, TableDef, TableId,
-};
+use ebr_base::{Class, CloneIn, Column, EditionNo, List, Name, NoMemory, TableDef, TableId};
 use ebr_cross::CatalogueRecord;
 use ebr_record::{DroppedClass, Record};
 use std::alloc::Global;
@@ -63,11 +61,10 @@ fn object_kept(alloc: Global, object: &Object) -> Result<Record, NoMemory>
     ensures record { IfOk result (λ r. r ≡ left.Object object.now.stamp.edition object.now.enabled object.now.text) }
     ensures payload { IfOk result (λ r. HasPayload r) }
 {
-    let text = Shared::new(alloc, object.text.clone_in(alloc)?)?;
     Ok(Record::Object {
         edition: object.stamp.edition,
         enabled: object.enabled,
-        text,
+        text: object.text.clone_in(alloc)?,
     })
 }
 

@@ -3,7 +3,7 @@
 //! What is used above: `Engine::answer`, which replies as `Reply` of `specs/Machine.antt` defines it, in the database that the asks
 //! before it left, and adds the entry; the whole history is `Legal` (`specs/History.antt`).
 //!
-//! That calls succeed with ample memory is tested alone.
+//! That calls succeed with ample memory is tested alone (`ebr_enginetests`).
 #![tactic(auto)]
 
 mod asks;

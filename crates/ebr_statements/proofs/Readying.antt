@@ -10,7 +10,7 @@ use Rattle.ebr_ast.specs.declared.unit.UnitTree.{UnitTree}
 use Rattle.ebr_ast.specs.declared.view.EditionView.{EditionView}
 use Rattle.ebr_ast.specs.declared.view.Object.{Object}
 use Rattle.ebr_ast.specs.Views.{object_of}
-use Rattle.ebr_check.specs.Verdict.{is_valid}
+use Rattle.ebr_validity.specs.Verdict.{is_valid}
 use Rattle.ebr_code.specs.declared.book.Unit as compiled
 use Rattle.ebr_code.specs.Units.{unit_code}
 use Rattle.ebr_run.specs.Units.{if_valid, valid_unit}

@@ -226,7 +226,7 @@ fn serve<K: Keep>(
                 t,
                 &site.changing,
                 stmt.get(),
-                binds.as_slice(),
+                binds.get().as_slice(),
                 *left,
                 room,
                 site.levels,

@@ -19,7 +19,7 @@ ghost use Rattle.ebr_statements.specs.inside.Given.{GivesRows};
 use crate::site::Under;
 use ebr_asks::Answer;
 use ebr_ast::{EditionView, Query};
-use ebr_base::{Code, List, Stop, TxId, Value};
+use ebr_base::{Code, List, Shared, Stop, TxId, Value};
 use ebr_exec::has_room;
 use ebr_query::run;
 use ebr_tx::Transactions;
@@ -66,7 +66,7 @@ fn rows_of_query(
     binds: &[Value],
     changing: &[Under],
     room: u32,
-) -> Result<List<List<Value>>, Stop>
+) -> Result<Shared<List<List<Value>>>, Stop>
     requires order { IsInOrder v.now }
     requires live { IsLive tx.old.contents t }
     requires begun { is_some (own tx.old.contents t).begun ≡ true }
@@ -78,7 +78,7 @@ fn rows_of_query(
     if !is_carried(rows.as_slice(), changing, room) {
         return Err(Stop::Raised(Code::Ebr(11)));
     }
-    Ok(rows)
+    Ok(Shared::new(alloc, rows)?)
 }
 
 /// Whether there is room for the values of rows. Those of a body's query take none.

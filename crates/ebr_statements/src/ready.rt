@@ -1,14 +1,13 @@
 //! The triggers that a statement fires, and what their bodies run with.
 
-ghost use Rattle.std.specs.Prelude.{◌≡◌, IfOk, Some, find, option_map};
+ghost use Rattle.std.specs.Prelude.{◌≡◌, IfOk, Some, option_map};
 ghost use Rattle.std.specs.List.{list_any};
 ghost use Rattle.std.specs.Option.{option_copied};
 ghost use Rattle.std.specs.Prelude.{List as Sequence};
 ghost use Rattle.ebr_ast.specs.Views.{IsInOrder};
 ghost use Rattle.ebr_ast.specs.Views as views;
 ghost use Rattle.ebr_ast.specs.declared.unit.Direction.TheVariants as direction;
-ghost use Rattle.ebr_base.specs.Keys.{same_class, same_key};
-ghost use Rattle.ebr_check.specs.Units.{row_columns as columns_behind, columns_or_none};
+ghost use Rattle.ebr_validity.specs.Units.{row_columns as columns_behind, columns_or_none};
 ghost use Rattle.ebr_ast.specs.declared.view.EditionView.{EditionView as Sees};
 ghost use Rattle.ebr_base.specs.declared.numbers.EditionNo.{EditionNo as Edition};
 ghost use Rattle.ebr_cross.specs.Catalogue.{Lists, View, as_catalogue};
@@ -27,14 +26,12 @@ ghost use Rattle.ebr_statements.specs.Fits.{ForViews, IsCurrent};
 ghost use Rattle.ebr_statements.specs.inside.Views.{place_at};
 
 use ebr_ast::{Direction, EditionView, Object, Op, Origin, SqlTree, Timing, Trigger, UnitTree};
-use ebr_base::{
-    Class, CloneIn, Code, EditionNo, List, Name, NoMemory, ObjectKey, Shared, Stop, TxId,
-};
+use ebr_base::{Class, CloneIn, Code, EditionNo, List, Name, NoMemory, Shared, Stop, TxId};
 use ebr_check::row_columns;
 use ebr_code::{CodeBook, Unit};
 use ebr_cross::{Catalogue, view_of};
 use ebr_fire::{Firing, fires};
-use ebr_names::{ViewColumn, object};
+use ebr_names::{ViewColumn, object, shared_object};
 use ebr_scope::Seen;
 use ebr_units::{Book, Units};
 use std::alloc::Global;
@@ -86,28 +83,6 @@ fn new_book(
 {
     let seen = Shared::new(alloc, view_of(c, alloc, e)?)?;
     units.book_of(alloc, &seen)
-}
-
-/// The visible object of a key.
-fn object_in<'a>(objects: &'a [Shared<Object>], key: &ObjectKey) -> Option<&'a Shared<Object>>
-    ensures { option_copied result ≡ find (λ o. same_key key.now o.key) objects.now }
-{
-    objects.iter().find(|object| is_key(key, object.get()))
-}
-
-fn is_key(key: &ObjectKey, object: &Object) -> bool
-    ensures { result ≡ same_key key.now object.now.key }
-{
-    is_class(key.class, object.key.class) && key.name == object.key.name
-}
-
-fn is_class(a: Class, b: Class) -> bool
-    ensures { result ≡ same_class a b }
-{
-    matches!(
-        (a, b),
-        (Class::Unit, Class::Unit) | (Class::Body, Class::Body) | (Class::Trigger, Class::Trigger)
-    )
 }
 
 fn origin_of(crossedition: Option<Direction>) -> Origin
@@ -202,7 +177,7 @@ fn unit_of<'a>(book: &'a Shared<Book>, f: &Firing) -> Option<&'a Shared<Unit>>
 fn object_of<'a>(book: &'a Shared<Book>, f: &Firing) -> Option<&'a Shared<Object>>
     ensures { option_copied result ≡ views.object_of f.now.key book.now.objects }
 {
-    object_in(book.get().view().get().objects.as_slice(), &f.key)
+    shared_object(book.get().view().get(), f.key.class, &f.key.name)
 }
 
 /// The origin of a body's statements, and the places of its columns, by what the edition of this book sees.

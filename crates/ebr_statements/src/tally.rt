@@ -2,7 +2,7 @@
 
 ghost use Rattle.std.specs.Prelude.{◌≡◌, ◌+◌, [], ◌++◌, IfOk, OnOk};
 
-use ebr_base::{Bytes, CloneIn, List, NoMemory};
+use ebr_base::{Bytes, CloneIn, List, NoMemory, Shared};
 use ebr_machine::Machine;
 use std::alloc::Global;
 
@@ -11,7 +11,7 @@ use std::alloc::Global;
 pub struct Tally {
     pub steps: u32,
     pub room: u32,
-    pub lines: List<Bytes>,
+    pub lines: List<Shared<Bytes>>,
 }
 
 impl Tally {
@@ -60,7 +60,12 @@ pub fn small(n: usize) -> Result<u32, NoMemory>
     }
 }
 
-fn add_lines(alloc: Global, lines: &mut List<Bytes>, more: &[Bytes]) -> Result<(), NoMemory>
+/// Adds lines, each another holder of the one that was printed.
+fn add_lines(
+    alloc: Global,
+    lines: &mut List<Shared<Bytes>>,
+    more: &[Shared<Bytes>],
+) -> Result<(), NoMemory>
     ensures { OnOk result (lines.new ≡ lines.old ++ more.now) }
 {
     for line in more {

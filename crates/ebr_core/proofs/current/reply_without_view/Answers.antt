@@ -8,7 +8,7 @@ use Rattle.ebr_core.proofs.current.reply_without_view.Goals as goal
 
 pub returns-in-Sql : goal.returns-in-Sql
 returns-in-Sql g c = λ db e x h has same.
-    let is : c.args.ask.now ≡ Sql c.get.result.now c.as_slice.result.now c.in-Sql.left = c.in-Sql.is ∙ (λ i. Sql (sym c.get.ensures i) (sym c.as_slice.ensures i) c.in-Sql.left) in
+    let is : c.args.ask.now ≡ Sql c.get.result.now c.as_slice.result.now c.in-Sql.left = c.in-Sql.is ∙ (λ i. Sql (sym c.get.ensures i) (sym (c.as_slice.ensures ∙ c.get-in-Sql.ensures) i) c.in-Sql.left) in
     subst (λ a. Replies g.K.Keep.as_keeper c.args.current.now c.sql.new.current c.sql.result (reply_in e db c.args.s x a)) (sym is) (c.sql.ensures db e x h has same)
 
 pub returns-in-EndCall : goal.returns-in-EndCall

@@ -1,5 +1,5 @@
 use Rattle.std.proofs.Common.{refl, sym, ap, ◌∙◌}
-use Rattle.ebr_check.specs.Verdict.{is_valid}
+use Rattle.ebr_validity.specs.Verdict.{is_valid}
 use Rattle.ebr_core.specs.Machine.{lists_of, creation_answer}
 use Rattle.ebr_core.proofs.HeldAgain.{viewed}
 use Rattle.ebr_core.proofs.define.creation_answer.Goals as goal

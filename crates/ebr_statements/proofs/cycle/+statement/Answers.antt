@@ -61,7 +61,7 @@ serve-returns-in_err-t-in-Sql-clause-remains g t c = remains_open_same c.args.c.
 pub serve-returns-in_ok-t-in-Sql-clause-exact : goal.serve-returns-in_ok-t-in-Sql-clause-exact
 serve-returns-in_ok-t-in-Sql-clause-exact g t c = λ lists keys current is is_served.
     let on : top c.args.tx.now.contents c.args.site.now.t.session ≡ c.in_ok-t-in-Sql.t = open_is_top c.args.c.now c.args.units.now c.args.tx.now.contents (under_by c.args.site.now.changing) c.args.site.now.t c.args.opened.now c.requires.fit ∙ sym c.in_ok-t-in-Sql.ensures in
-    let asked : c.args.ask.now ≡ ask.Sql c.get-in-Sql-2.result.now c.as_slice.result.now c.in-Sql.left = c.in-Sql.is ∙ (λ i. ask.Sql (sym c.get-in-Sql-2.ensures i) (sym c.as_slice.ensures i) c.in-Sql.left) in
+    let asked : c.args.ask.now ≡ ask.Sql c.get-in-Sql-2.result.now c.as_slice.result.now c.in-Sql.left = c.in-Sql.is ∙ (λ i. ask.Sql (sym c.get-in-Sql-2.ensures i) (sym (c.as_slice.ensures ∙ c.get-in-Sql-3.ensures) i) c.in-Sql.left) in
     subst (λ n. Tells (serve (site_at (names_of lists) c.args.site.now) (ready_of c.args.r.now) n c.args.ask.now (base_of c.args.tx.now.contents (g.K.Keep.as_keeper c.args.keeper.now))) (base_of c.statement.new.tx.contents (g.K.Keep.as_keeper c.statement.new.keeper)) (g.K.Keep.as_keeper c.args.keeper.now) (g.K.Keep.as_keeper c.statement.new.keeper) c.statement.result) c.in_ok-room-in-Sql.ensures (
     subst (λ o. Tells o (base_of c.statement.new.tx.contents (g.K.Keep.as_keeper c.statement.new.keeper)) (g.K.Keep.as_keeper c.args.keeper.now) (g.K.Keep.as_keeper c.statement.new.keeper) c.statement.result)
     (sym (serves_statement lists c.args.site.now c.args.r.now is_served c.in_ok-room-in-Sql.room c.args.tx.now.contents (g.K.Keep.as_keeper c.args.keeper.now) c.get-in-Sql.result.now c.in_ok-t-in-Sql.t c.get-in-Sql-2.result.now c.as_slice.result.now c.in-Sql.left c.args.ask.now (c.get-in-Sql.ensures ∙ c.view.ensures.view ∙ c.get.ensures) on asked))
