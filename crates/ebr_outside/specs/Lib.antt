@@ -1,6 +1,9 @@
 pub mod Source
 pub mod Sink
+pub mod Disk
 pub mod Calls
 pub mod HostCalls
+pub mod MemDisk
 pub mod Memory
 pub mod Files
+pub mod inside

@@ -7,6 +7,7 @@ use Rattle.ebr_outside.specs.declared.memory.host.MemFile.{MemFile}
 use Rattle.ebr_outside.specs.declared.host_call.HostCall.{HostCall}
 use Rattle.ebr_outside.specs.declared.host_call.HostMethod.{HostMethod}
 use Rattle.ebr_outside.specs.Calls.{after_call, after_fault, none_made}
+use Rattle.ebr_outside.specs.MemDisk.{DiskState}
 
 -- a source: the bytes that are still to be read, and its calls of `read`
 pub record SourceState : Type 0 where
@@ -18,8 +19,8 @@ pub record SinkState : Type 0 where
   pub held : List ℕ
   pub calls : Calls
 
--- A host: its files, the writes of the next report that fail, and its calls of `source` and `sink`, as they are counted and as they are
--- told.
+-- A host: its files, the writes of the next report that fail, and its calls of `source`, `sink` and `disk`, as they are counted and
+-- as they are told.
 pub record HostState : Type 0 where
   pub files : List MemFile
   pub report : List Fail
@@ -49,3 +50,15 @@ source_of files word = option_map (λ (file : MemFile). record { left = file.byt
 -- the writes that fail of a sink that is made for a word: none where no file has it
 abbrev pub failing_writes : List MemFile → List ℕ → List Fail
 failing_writes files word = unwrap_or (option_map (λ (file : MemFile). file.sink) (file_of files word)) []
+
+-- the bytes of a word's disk: none where no file has it
+abbrev pub disk_bytes_of : List MemFile → List ℕ → List ℕ
+disk_bytes_of files word = unwrap_or (bytes_of files word) []
+
+-- the calls that fail of a disk that is opened for a word
+abbrev pub failing_calls : List MemFile → List ℕ → List Fail
+failing_calls files word = unwrap_or (option_map (λ (file : MemFile). file.disk) (file_of files word)) []
+
+-- the disk of a word, which no call has changed
+abbrev pub disk_of : List MemFile → List ℕ → DiskState
+disk_of files word = record { first = disk_bytes_of files word; past = []; calls = none_made (failing_calls files word) }

@@ -1,10 +1,13 @@
 //! The outside of the system: files and the standard output. It counts its faults and tells no bytes.
 
+mod disk;
+mod file_number;
 mod host;
 mod out;
 mod sink;
 mod source;
 
+pub use disk::FileDisk;
 pub use host::FileHost;
 pub use out::OutSink;
 pub use sink::FileSink;

@@ -1,11 +1,13 @@
-//! What opens sources and makes sinks.
+//! What opens sources and disks, and makes sinks.
 
 ghost use Rattle.std.specs.Prelude.{◌≡◌, ℕ, ◌≤◌, List, [], Option, Some, IfOk, IfSome, IsErrOf};
 ghost use Rattle.ebr_faults.specs.Faults.{Rises};
+ghost use Rattle.ebr_outside.specs.Disk.{HoldsJust};
 ghost use Rattle.ebr_outside.specs.HostCalls.{calls_after};
 ghost use Rattle.ebr_outside.specs.declared.host.HostErr.TheVariants as variants;
 ghost use Rattle.ebr_outside.specs.declared.host_call.HostMethod.TheVariants as method;
 
+use crate::disk::Disk;
 use crate::sink::Sink;
 use crate::source::Source;
 use ebr_base::{Bytes, NoMemory};
@@ -36,14 +38,19 @@ pub trait Host {
 
     type Source: Source;
 
-    type Sink: Sink;
+    type Sink: Sink + Send;
 
     type Report: Sink;
+
+    type Disk: Disk + Send;
 
     /// The bytes behind a word, where the host tells them.
     ghost bytes: { Self → List ℕ → Option (List ℕ) };
 
-    /// The calls of `source` and `sink` in order, each with its word and whether it failed, where the host tells them. One that
+    /// The bytes of the disk that a word names, where the host tells them.
+    ghost disk_bytes: { Self → List ℕ → Option (List ℕ) };
+
+    /// The calls of `source`, `sink` and `disk` in order, each with its word and whether it failed, where the host tells them. One that
     /// found no memory isn't among them.
     ghost calls: { Self → Option (List HostCall) };
 
@@ -60,6 +67,7 @@ pub trait Host {
             IfSome (bytes self.old word.now) (λ b. Self.Source.left s ≡ Some b)) }
         ensures fresh { IfOk result (λ s. Self.Source.faults s ≡ 0) }
         ensures same { (w : List ℕ) → bytes self.new w ≡ bytes self.old w }
+        ensures same_disks { (w : List ℕ) → disk_bytes self.new w ≡ disk_bytes self.old w }
         ensures called { calls self.new ≡ calls_after (calls self.old) method.Source word.now result }
         ensures counted { faults self.old ≤ faults self.new }
         ensures failed { IsErrOf result HostErr.Failed
@@ -73,7 +81,23 @@ pub trait Host {
         ensures empty { IfOk result (λ s. IfSome (Self.Sink.held s) (λ h. h ≡ [])) }
         ensures fresh { IfOk result (λ s. Self.Sink.faults s ≡ 0) }
         ensures same { (w : List ℕ) → bytes self.new w ≡ bytes self.old w }
+        ensures same_disks { (w : List ℕ) → disk_bytes self.new w ≡ disk_bytes self.old w }
         ensures called { calls self.new ≡ calls_after (calls self.old) method.Sink word.now result }
+        ensures counted { faults self.old ≤ faults self.new }
+        ensures failed { IsErrOf result HostErr.Failed
+            → Rises (faults self.old) (faults self.new) };
+
+    /// Opens the disk that a word names. Where there is none, an empty one is made.
+    ///
+    /// `Failed` comes only where the host's count of faults rose in this call, or stands at its
+    /// end.
+    fn disk(&mut self, word: &Bytes) -> Result<Self::Disk, HostErr>
+        ensures told { IfOk result (λ d.
+            IfSome (disk_bytes self.old word.now) (λ b. HoldsJust (Self.Disk.as_medium d) b)) }
+        ensures fresh { IfOk result (λ d. (Self.Disk.as_medium d).faults ≡ 0) }
+        ensures same { (w : List ℕ) → bytes self.new w ≡ bytes self.old w }
+        ensures same_disks { (w : List ℕ) → disk_bytes self.new w ≡ disk_bytes self.old w }
+        ensures called { calls self.new ≡ calls_after (calls self.old) method.Disk word.now result }
         ensures counted { faults self.old ≤ faults self.new }
         ensures failed { IsErrOf result HostErr.Failed
             → Rises (faults self.old) (faults self.new) };
@@ -83,6 +107,10 @@ pub trait Host {
         ensures empty { IfSome (Self.Report.held result) (λ h. h ≡ []) }
         ensures fresh { Self.Report.faults result ≡ 0 }
         ensures same { (w : List ℕ) → bytes self.new w ≡ bytes self.old w }
+        ensures same_disks { (w : List ℕ) → disk_bytes self.new w ≡ disk_bytes self.old w }
         ensures uncalled { calls self.new ≡ calls self.old }
         ensures counted { faults self.old ≤ faults self.new };
+
+    /// The bytes behind a word are those of its disk.
+    ghost disk_of_bytes: { (host : Self) (w : List ℕ) → IfSome (bytes host w) (λ b. disk_bytes host w ≡ Some b) };
 }

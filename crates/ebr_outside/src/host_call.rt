@@ -9,6 +9,8 @@ pub enum HostMethod {
     Source,
     /// A sink for a word.
     Sink,
+    /// The disk of a word.
+    Disk,
 }
 
 /// A call that a host has answered.

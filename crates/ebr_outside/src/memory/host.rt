@@ -2,11 +2,12 @@
 
 ghost use Rattle.std.specs.Prelude.{◌≡◌, [], false, ◌⊎◌, IsTrue, IsErr, IsErrOf, IsNone, IsSomeAnd, IfOk, OnOk, Some};
 ghost use Rattle.std.specs.Option.{option_copied};
-ghost use Rattle.ebr_outside.specs.Memory.{failing_writes, file_of, source_of};
+ghost use Rattle.ebr_outside.specs.Memory.{disk_of, failing_writes, file_of, source_of};
 ghost use Rattle.ebr_outside.specs.declared.host_call.HostMethod.TheVariants as method;
 
 use crate::host::{Host, HostErr};
 use crate::host_call::{HostCall, HostMethod};
+use crate::memory::disk::MemDisk;
 use crate::memory::fail::{Calls, Fail};
 use crate::memory::sink::MemSink;
 use crate::memory::source::MemSource;
@@ -24,6 +25,8 @@ pub struct MemFile {
     pub source: List<Fail>,
     /// Which writes fail of a sink that is made for the word.
     pub sink: List<Fail>,
+    /// Which calls fail of a disk that is opened for the word.
+    pub disk: List<Fail>,
 }
 
 /// Files as a host that tells their bytes. Of two files for one word the first counts.
@@ -48,8 +51,8 @@ impl MemHost {
     ghost use Rattle.ebr_outside.specs.Calls.{fails_next, none_made};
     ghost use Rattle.ebr_outside.specs.Memory.{called, failed};
 
-    /// A host of these files. The calls of `source` and `sink`, counted together, that `failing` names
-    /// fail, and of its first report the writes that `report` names.
+    /// A host of these files. The calls of `source`, `sink` and `disk`, counted together, that `failing`
+    /// names fail, and of its first report the writes that `report` names.
     pub fn new(
         alloc: Global,
         files: List<MemFile>,
@@ -67,7 +70,7 @@ impl MemHost {
         }
     }
 
-    /// The calls of `source` and `sink` in order, but for those that found no memory.
+    /// The calls of `source`, `sink` and `disk` in order, but for those that found no memory.
     pub fn calls(&self) -> &[HostCall]
         ensures { result.now ≡ self.now.made }
     {
@@ -105,10 +108,17 @@ impl Host for MemHost {
 
     type Report = MemSink;
 
+    type Disk = MemDisk;
+
     ghost use Rattle.ebr_outside.specs.Calls.{fails_next, none_made};
-    ghost use Rattle.ebr_outside.specs.Memory.{bytes_of, called, failed, failing_writes};
+    ghost use Rattle.ebr_outside.specs.Memory.{bytes_of, called, disk_bytes_of, disk_of, failed, failing_writes};
+    ghost use Rattle.ebr_outside.specs.inside.DiskOfBytes.{disk_of_bytes};
 
     ghost bytes = { λ h w. bytes_of h.files w };
+
+    ghost disk_bytes = { λ h w. Some (disk_bytes_of h.files w) };
+
+    ghost disk_of_bytes = { λ h w. disk_of_bytes h.files w };
 
     ghost calls = { λ h. Some h.made };
 
@@ -157,6 +167,22 @@ impl Host for MemHost {
         Ok(MemSink::new(self.alloc, failing))
     }
 
+    /// A disk of the bytes behind a word, empty where no file has the word. `Failed` comes only where this call is named.
+    fn disk(&mut self, word: &Bytes) -> Result<MemDisk, HostErr>
+        ensures named { IsTrue (fails_next self.old.calls) → IsErr result }
+        ensures fails { IsErrOf result HostErr.Failed → IsTrue (fails_next self.old.calls) }
+        ensures made { IfOk result (λ d. d ≡ disk_of self.old.files word.now) }
+
+        // What becomes of the host.
+        ensures ok { OnOk result (self.new ≡ called self.old method.Disk word.now) }
+        ensures failed { IsErrOf result HostErr.Failed → self.new ≡ failed self.old method.Disk word.now }
+        ensures no_memory { IsErrOf result HostErr.NoMemory → self.new ≡ self.old }
+    {
+        let disk = disk_of(self.alloc, self.files.as_slice(), word.as_slice())?;
+        self.call(HostMethod::Disk, word, true)?;
+        Ok(disk)
+    }
+
     /// An empty sink. The first report fails at the writes that the host was made with, and a later
     /// one at none.
     fn report(&mut self) -> MemSink
@@ -196,5 +222,19 @@ fn failing_writes(alloc: Global, files: &[MemFile], word: &[u8]) -> Result<List<
     match file_of(files, word) {
         Some(file) => file.sink.clone_in(alloc),
         None => Ok(List::new(alloc)),
+    }
+}
+
+/// A disk of the bytes behind a word.
+fn disk_of(alloc: Global, files: &[MemFile], word: &[u8]) -> Result<MemDisk, NoMemory>
+    ensures { IfOk result (λ disk. disk ≡ disk_of files.now word.now) }
+{
+    match file_of(files, word) {
+        Some(file) => {
+            let bytes = file.bytes.clone_in(alloc)?;
+            let failing = file.disk.clone_in(alloc)?;
+            MemDisk::new(alloc, bytes, failing)
+        }
+        None => MemDisk::new(alloc, Bytes::new(alloc), List::new(alloc)),
     }
 }

@@ -1,0 +1,3 @@
+pub mod LeftByCrash
+pub mod Crash
+pub mod DiskOfBytes
