@@ -1,0 +1,10 @@
+pub mod Loop
+pub mod Laws
+pub mod Fields
+pub mod Listed
+pub mod Takings
+pub mod Decoding
+pub mod Again
+pub mod Spellings
+pub mod Writing
+pub mod Fitting

@@ -1,0 +1,17 @@
+use Rattle.std.proofs.lemmas.Result.{err_from_is_err_and}
+use Rattle.ebr_encoding.specs.Reading.{many}
+use Rattle.ebr_encoding.proofs.Loop.{ends, goes_on, is_done}
+use Rattle.ebr_encoding.proofs.reader.many.Goals as goal
+
+pub returns-in_err-item : goal.returns-in_err-item
+returns-in_err-item g c =
+    let p = err_from_is_err_and c.from_residual.result c.from_residual.ensures.1 in
+    rw (p.1, p.2) (ends g.T.Readable.read c.in_err-item.field-0.0 c.loop.items c.args.count c.loop.counter c.loop.rest.now (many g.T.Readable.read c.args.count c.args.bytes.now) c.loop-test.true c.in_err-item.ensures c.loop.invariant)
+
+pub loop-preserved : goal.loop-preserved
+loop-preserved g c =
+    let x = c.in_ok-item.item in
+    rw c.in_ok-push.ensures.ok (goes_on g.T.Readable.read c.loop.items c.args.count c.loop.counter c.loop.rest.now x c.in_ok-item.after.now (many g.T.Readable.read c.args.count c.args.bytes.now) c.loop-test.true c.in_ok-item.ensures c.loop.invariant)
+
+pub returns : goal.returns
+returns g c = is_done g.T.Readable.read c.loop.items c.args.count c.loop.counter c.loop.rest.now (many g.T.Readable.read c.args.count c.args.bytes.now) c.loop-test.false c.loop.invariant

@@ -1,0 +1,4 @@
+pub mod Gives
+pub mod Written
+pub mod Said
+pub mod Fits
