@@ -1,0 +1,15 @@
+pub mod Bytes
+pub mod Records
+pub mod Pieces
+pub mod Moments
+pub mod Gates
+pub mod Putting
+pub mod Layouts
+pub mod Keeping
+pub mod Appending
+pub mod Upgrading
+pub mod Reading
+pub mod Making
+pub mod Opening
+pub mod Starting
+pub mod Damage
