@@ -1,0 +1,3 @@
+pub mod Written
+pub mod Ready
+pub mod Rows
