@@ -60,6 +60,7 @@ pub fn file(alloc: Global, word: &[u8], bytes: &[u8]) -> Result<MemFile, NoMemor
         bytes: Bytes::from_slice(alloc, bytes)?,
         source: List::new(alloc),
         sink: List::new(alloc),
+        disk: List::new(alloc),
     })
 }
 

@@ -41,6 +41,7 @@ fn file_of(alloc: Global, script: &[u8], source: List<Fail>) -> Result<MemFile, 
         bytes: Bytes::from_slice(alloc, script)?,
         source,
         sink: List::new(alloc),
+        disk: List::new(alloc),
     })
 }
 
