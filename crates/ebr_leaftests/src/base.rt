@@ -193,7 +193,7 @@ fn change(alloc: Global) -> Result<Change, NoMemory> {
             table: TableId(1),
             row: RowNo(3),
         },
-        values: Some(values),
+        values: Some(Shared::new(alloc, values)?),
     })
 }
 

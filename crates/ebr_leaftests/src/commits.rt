@@ -6,7 +6,7 @@ ghost use Rattle.ebr_leaftests.specs.Keyless.{IsAdded, the_loose};
 
 use crate::stores::drawn;
 use crate::versions::number_of;
-use ebr_base::{Change, List, NoMemory, RowId, RowNo, TableId, Value};
+use ebr_base::{Change, List, NoMemory, RowId, RowNo, Shared, TableId, Value};
 use ebr_versions::Versions;
 use std::alloc::Global;
 use std::test::Fail;
@@ -36,13 +36,13 @@ fn row_of(n: u8) -> RowId
     row(u64::from(n))
 }
 
-fn values(alloc: Global, number: u8) -> Result<Option<List<Value>>, NoMemory> {
+fn values(alloc: Global, number: u8) -> Result<Option<Shared<List<Value>>>, NoMemory> {
     if number == 0 {
         return Ok(None);
     }
     let mut values = List::new(alloc);
     values.push(Value::Num(i64::from(number)))?;
-    Ok(Some(values))
+    Ok(Some(Shared::new(alloc, values)?))
 }
 
 fn change(alloc: Global, put: Put) -> Result<Change, NoMemory>
@@ -218,13 +218,14 @@ const EACH: u64 = 100_000;
 const ALL: u64 = 1_000_000;
 
 /// A row without values.
-fn empty(alloc: Global, n: u64) -> Change
-    ensures { IsAdded result }
+fn empty(alloc: Global, n: u64) -> Result<Change, NoMemory>
+    ensures { IfOk result IsAdded }
 {
-    Change {
+    let values = Some(Shared::new(alloc, List::new(alloc))?);
+    Ok(Change {
         row: row(n),
-        values: Some(List::new(alloc)),
-    }
+        values,
+    })
 }
 
 /// The rows behind the first so many.
@@ -234,7 +235,8 @@ fn rows_behind(alloc: Global, first: u64) -> Result<List<Change>, NoMemory>
     let mut changes = List::new(alloc);
     for at in 0..EACH {
         let n = first.saturating_add(at).saturating_add(1);
-        changes.push(empty(alloc, n))?;
+        let change = empty(alloc, n)?;
+        changes.push(change)?;
     }
     Ok(changes)
 }

@@ -6,7 +6,7 @@ ghost use Rattle.ebr_leaftests.specs.TwoSessions.{HasTheTable, IsTheTable, names
 
 use crate::answers::release;
 use crate::transactions::{A, B, TABLE, commit, savepoint_name, table, two_sessions};
-use ebr_base::{Code, List, NoMemory, RowId, RowNo, Stop, TableDef, TxId, Value};
+use ebr_base::{Code, List, NoMemory, RowId, RowNo, Shared, Stop, TableDef, TxId, Value};
 use ebr_tx::Transactions;
 use std::alloc::Global;
 use std::test::Fail;
@@ -25,10 +25,10 @@ fn row(n: u64) -> RowId {
 }
 
 /// A row that is its key.
-fn values(alloc: Global, n: u64) -> Result<List<Value>, NoMemory> {
+fn values(alloc: Global, n: u64) -> Result<Shared<List<Value>>, NoMemory> {
     let mut values = List::new(alloc);
     values.push(Value::Num(n.cast_signed()))?;
-    Ok(values)
+    Shared::new(alloc, values)
 }
 
 fn numbered(answer: Result<RowNo, Stop>) -> Result<Result<u64, Code>, NoMemory> {
@@ -106,7 +106,7 @@ fn fills(alloc: Global, tx: &mut Transactions, def: &TableDef, first: u64) -> Re
 fn seen(tx: &Transactions, n: u64) -> i64
     requires { IsLive tx.now.contents B }
 {
-    match tx.see(B, row(n)).and_then(|values| values.get(0)) {
+    match tx.see(B, row(n)).and_then(|values| values.get().get(0)) {
         Some(Value::Num(n)) => *n,
         _ => 0,
     }

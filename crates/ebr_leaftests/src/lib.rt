@@ -14,7 +14,11 @@ mod commits;
 #[cfg(test)]
 mod cut;
 #[cfg(test)]
+mod disks;
+#[cfg(test)]
 mod editions;
+#[cfg(test)]
+mod encoding;
 #[cfg(test)]
 mod functions;
 #[cfg(test)]

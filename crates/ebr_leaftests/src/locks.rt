@@ -138,3 +138,47 @@ fn thousands_of_rows_are_held(rt: HostRuntime) -> Result<(), Fail> {
     assert!(rt; locks.holder(row(2000)) == None);
     Ok(())
 }
+
+/// Two transactions lock rows in turn, and each then frees its rows one by one while the other keeps its own.
+fn rows_go_one_by_one(locks: &mut Locks, n: u32) -> Result<bool, NoMemory> {
+    for i in 0..n {
+        for by in [A, B] {
+            let row = row(i as u64 * 2 + by.session.0 as u64);
+            locks.reserve(row, by)?;
+            if locks.take(row, by) != Ok(()) {
+                return Ok(false);
+            }
+        }
+    }
+    for by in [A, B] {
+        for mark in (0..n).rev() {
+            locks.release_to(by, mark);
+            let freed = row(mark as u64 * 2 + by.session.0 as u64);
+            if locks.held(by) != mark || locks.holder(freed) != None {
+                return Ok(false);
+            }
+        }
+        if by == A && locks.held(B) != n {
+            return Ok(false);
+        }
+    }
+    Ok(true)
+}
+
+/// A place for one more row doesn't hide the rows that its transaction holds.
+fn place_hides_no_lock(locks: &mut Locks) -> Result<bool, NoMemory> {
+    let first = row(1);
+    locks.reserve(first, A)?;
+    let taken = locks.take(first, A) == Ok(());
+    locks.reserve(row(2), A)?;
+    let held = locks.holds_in(TableId(1), B) && !locks.holds_in(TableId(1), A);
+    Ok(taken && held && locks.held(A) == 1 && !locks.holds_in(TableId(2), B))
+}
+
+#[test]
+fn rows_are_freed_among_those_of_others(rt: HostRuntime) -> Result<(), Fail> {
+    let mut locks = Locks::new(rt.alloc())?;
+    assert!(rt; rows_go_one_by_one(&mut locks, 2000)?);
+    assert!(rt; place_hides_no_lock(&mut locks)?);
+    Ok(())
+}

@@ -9,6 +9,7 @@ use ebr_base::{
     TableDef, TableId,
 };
 use ebr_names::{Header, ViewColumn, columns, header, is_in_order, resolve};
+use ebr_shared_list::SharedList;
 use std::alloc::Global;
 use std::fmt::Debug;
 use std::test::Fail;
@@ -298,13 +299,14 @@ fn class_of(made: &Made) -> Class {
 }
 
 fn object(alloc: Global, made: &Made) -> Result<Object, NoMemory> {
+    let text = shared(alloc, Ok(Bytes::new(alloc)))?;
     let (name, tree) = pair(name(alloc, made.name), tree(alloc, made))?;
     Ok(Object {
         key: ObjectKey {
             class: class_of(made),
             name,
         },
-        text: Bytes::new(alloc),
+        text,
         tree,
         stamp: Stamp {
             edition: EditionNo(1),
@@ -314,12 +316,12 @@ fn object(alloc: Global, made: &Made) -> Result<Object, NoMemory> {
     })
 }
 
-fn objects(alloc: Global) -> Result<List<Shared<Object>>, NoMemory> {
+fn objects(alloc: Global) -> Result<SharedList<Shared<Object>>, NoMemory> {
     let mut objects = List::new(alloc);
     for made in &OBJECTS {
         objects.push(shared(alloc, object(alloc, made))?)?;
     }
-    Ok(objects)
+    SharedList::from_slice(alloc, objects.as_slice())
 }
 
 fn column(alloc: Global, text: &str, ty: ColType) -> Result<Column, NoMemory> {
@@ -348,12 +350,12 @@ fn table(alloc: Global, id: u32, text: &str) -> Result<TableDef, NoMemory> {
     })
 }
 
-fn tables(alloc: Global) -> Result<List<TableDef>, NoMemory> {
+fn tables(alloc: Global) -> Result<Shared<List<TableDef>>, NoMemory> {
     let mut tables = List::new(alloc);
     for (id, text) in &TABLES {
         tables.push(table(alloc, *id, text)?)?;
     }
-    Ok(tables)
+    Shared::new(alloc, tables)
 }
 
 /// What the edition sees.

@@ -9,18 +9,25 @@ use ebr_outside::{
 use std::alloc::Global;
 
 /// The call of this number fails, and with `onward` each later one.
-fn failing(alloc: Global, at: u32, onward: bool) -> Result<List<Fail>, NoMemory> {
+pub fn failing(alloc: Global, at: u32, onward: bool) -> Result<List<Fail>, NoMemory> {
     let mut failing = List::new(alloc);
     failing.push(Fail { at, onward })?;
     Ok(failing)
 }
 
-fn file(alloc: Global, word: &[u8], bytes: &[u8], source: List<Fail>) -> Result<MemFile, NoMemory> {
+/// A file of which the source fails at these reads.
+pub fn file(
+    alloc: Global,
+    word: &[u8],
+    bytes: &[u8],
+    source: List<Fail>,
+) -> Result<MemFile, NoMemory> {
     Ok(MemFile {
         word: Bytes::from_slice(alloc, word)?,
         bytes: Bytes::from_slice(alloc, bytes)?,
         source,
         sink: List::new(alloc),
+        disk: List::new(alloc),
     })
 }
 
@@ -221,7 +228,7 @@ static SYSTEM: [Named; 6] = [
 
 #[test]
 fn files_that_cannot_be_read_are_faults(rt: HostRuntime) -> Result<(), std::test::Fail> {
-    let mut host = FileHost::new(rt);
+    let mut host = FileHost::new(rt, List::new(rt.alloc()));
     assert!(rt; all_name(rt.alloc(), &mut host, &SYSTEM));
     Ok(())
 }
@@ -353,7 +360,7 @@ static SYSTEM_SINKS: [Made; 6] = [
 
 #[test]
 fn files_that_cannot_be_made_are_faults(rt: HostRuntime) -> Result<(), std::test::Fail> {
-    let mut host = FileHost::new(rt);
+    let mut host = FileHost::new(rt, List::new(rt.alloc()));
     assert!(rt; all_make(rt.alloc(), &mut host, &SYSTEM_SINKS));
     Ok(())
 }
@@ -370,9 +377,10 @@ static NOTHING: Named = (b"made.sql.out", Some(b""));
 #[test]
 fn a_file_that_is_made_anew_is_empty(rt: HostRuntime) -> Result<(), std::test::Fail> {
     let alloc = rt.alloc();
-    let mut host = FileHost::new(rt);
+    let mut host = FileHost::new(rt, List::new(rt.alloc()));
     assert!(rt; makes(alloc, &mut host, &WRITTEN));
     assert!(rt; names(alloc, &mut host, &HELD));
+    let mut host = FileHost::new(rt, List::new(alloc));
     assert!(rt; makes(alloc, &mut host, &EMPTIED));
     assert!(rt; names(alloc, &mut host, &NOTHING));
     Ok(())
@@ -380,7 +388,7 @@ fn a_file_that_is_made_anew_is_empty(rt: HostRuntime) -> Result<(), std::test::F
 
 #[test]
 fn standard_output_takes_bytes(rt: HostRuntime) -> Result<(), std::test::Fail> {
-    let mut report = FileHost::new(rt).report();
+    let mut report = FileHost::new(rt, List::new(rt.alloc())).report();
     assert_eq!(rt; report.write(b"\n"), Ok(1));
     Ok(())
 }

@@ -45,11 +45,12 @@ fn commit(alloc: Global) -> Result<Record, NoMemory>
     ensures { IfOk result HasPayload }
 {
     let values = two(alloc, Value::Null, Value::Num(-2))?;
+    let values = Shared::new(alloc, values)?;
     let changes = two(alloc, change(1, Some(values)), change(2, None))?;
     Ok(Record::Commit(changes))
 }
 
-fn change(row: u64, values: Option<List<Value>>) -> Change
+fn change(row: u64, values: Option<Shared<List<Value>>>) -> Change
     ensures { result.values ≡ values }
 {
     let row = RowId {

@@ -8,7 +8,7 @@ ghost use Rattle.ebr_versions.specs.Store.{OfAdded};
 ghost use Rattle.ebr_leaftests.specs.Sample.{sample, sample_row, sample_table, number};
 ghost use Rattle.ebr_leaftests.specs.OneRow.{IsOfTheRow, OfOneRow, the_tables};
 
-use ebr_base::{Change, List, NoMemory, RowId, RowNo, TableId, Value};
+use ebr_base::{Change, List, NoMemory, RowId, RowNo, Shared, TableId, Value};
 use ebr_versions::Versions;
 use std::alloc::Global;
 use std::test::Fail;
@@ -32,10 +32,10 @@ const ROW: RowId = RowId {
 };
 
 /// A row of one number.
-fn values(alloc: Global, n: i64) -> Result<List<Value>, NoMemory> {
+fn values(alloc: Global, n: i64) -> Result<Shared<List<Value>>, NoMemory> {
     let mut values = List::new(alloc);
     values.push(Value::Num(n))?;
-    Ok(values)
+    Shared::new(alloc, values)
 }
 
 /// What the row becomes; 0 removes it.
@@ -106,8 +106,8 @@ static READS: [(u32, i64, Option<u32>); 6] = [
     (9, 30, None),
 ];
 
-pub fn number_of(values: Option<&List<Value>>) -> i64 {
-    match values.and_then(|values| values.get(0)) {
+pub fn number_of(values: Option<&Shared<List<Value>>>) -> i64 {
+    match values.and_then(|values| values.get().get(0)) {
         Some(Value::Num(n)) => *n,
         _ => 0,
     }

@@ -36,7 +36,7 @@ pub fn planned(
 ) -> Result<CatalogueRecord, NoMemory>
     ensures { IfOk result (λ made. MayFollow c.now made) }
 {
-    let text = Bytes::new(alloc);
+    let text = Shared::new(alloc, Bytes::new(alloc))?;
     match c.plan(alloc, e, &[], what, &text) {
         Ok(made) => Ok(made),
         Err(_) => Err(NoMemory),

@@ -12,6 +12,7 @@ use ebr_compile::Steps;
 use ebr_lexer::{LexStop, Token, lex};
 use ebr_names::is_in_order;
 use ebr_plparse::unit;
+use ebr_shared_list::SharedList;
 use ebr_units::Book;
 use std::alloc::Global;
 use std::marker::Brand;
@@ -61,6 +62,7 @@ fn stored(
     count: u32,
 ) -> Result<Shared<Object>, NoMemory> {
     let name = name(alloc, text)?;
+    let text = Shared::new(alloc, Bytes::new(alloc))?;
     let tree = tree(alloc, created)?;
     Ok(Shared::new(
         alloc,
@@ -69,7 +71,7 @@ fn stored(
                 class: class_of(&tree),
                 name,
             },
-            text: Bytes::new(alloc),
+            text,
             tree,
             stamp: Stamp {
                 edition: EditionNo(1),
@@ -116,8 +118,8 @@ pub fn edition_with(
     tables.push(table(alloc)?)?;
     let seen = EditionView {
         edition: EditionNo(1),
-        objects,
-        tables,
+        objects: SharedList::from_slice(alloc, objects.as_slice())?,
+        tables: Shared::new(alloc, tables)?,
     };
     with_book(alloc, Shared::new(alloc, seen)?)
 }

@@ -2,7 +2,7 @@
 //! `+` and the steps of triggers where they took some.
 
 use ebr_asks::Answer;
-use ebr_base::{Bytes, Code, List, NoMemory, Value};
+use ebr_base::{Bytes, Code, List, NoMemory, Shared, Value};
 use std::alloc::Global;
 
 /// The number that digits spell.
@@ -85,7 +85,7 @@ pub fn answer(alloc: Global, word: &str) -> Result<Answer, NoMemory> {
         return Ok(Answer::Done);
     };
     if kind == "rows" {
-        return Ok(Answer::Rows(rows(alloc, text)?));
+        return Ok(Answer::Rows(Shared::new(alloc, rows(alloc, text)?)?));
     }
     let (n, steps) = with_steps(text);
     if kind == "ora" {

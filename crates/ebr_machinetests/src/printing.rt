@@ -1,7 +1,7 @@
 //! Asks, lines and ends as they are printed.
 
 use ebr_asks::Ask;
-use ebr_base::{Bytes, List, Name, NoMemory, Value};
+use ebr_base::{Bytes, List, Name, NoMemory, Shared, Value};
 use ebr_machine::End;
 use ebr_value::text_of;
 use std::alloc::Global;
@@ -41,7 +41,7 @@ fn asked(alloc: Global, ask: &Ask, out: &mut Bytes) -> Result<(), NoMemory> {
     match ask {
         Ask::Sql { binds, .. } => {
             out.extend(b"sql ")?;
-            values(alloc, binds, out)
+            values(alloc, binds.get(), out)
         }
         Ask::Commit => out.extend(b"commit"),
         Ask::Rollback => out.extend(b"rollback"),
@@ -65,12 +65,12 @@ pub fn ask(alloc: Global, it: &Ask, out: &mut Bytes) -> Result<(), NoMemory> {
 }
 
 /// Lines with `/` between them.
-pub fn lines(list: &List<Bytes>, out: &mut Bytes) -> Result<(), NoMemory> {
+pub fn lines(list: &List<Shared<Bytes>>, out: &mut Bytes) -> Result<(), NoMemory> {
     for (at, line) in list.as_slice().iter().enumerate() {
         if at > 0 {
             out.push(b'/')?;
         }
-        out.extend(line.as_slice())?;
+        out.extend(line.get().as_slice())?;
     }
     Ok(())
 }

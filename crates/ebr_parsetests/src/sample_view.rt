@@ -7,6 +7,7 @@ use ebr_base::{
 };
 use ebr_lexer::{LexStop, Token, lex};
 use ebr_plparse::unit;
+use ebr_shared_list::SharedList;
 use std::alloc::Global;
 
 /// A name; where the text spells none, the test fails with want of memory.
@@ -46,6 +47,7 @@ static TABLES: [(u32, &str, &[(&str, ColType)]); 2] = [
 
 fn stored(alloc: Global, text: &str, created: &str) -> Result<Shared<Object>, NoMemory> {
     let name = name(alloc, text)?;
+    let text = Shared::new(alloc, Bytes::new(alloc))?;
     Ok(Shared::new(
         alloc,
         Object {
@@ -53,7 +55,7 @@ fn stored(alloc: Global, text: &str, created: &str) -> Result<Shared<Object>, No
                 class: Class::Unit,
                 name,
             },
-            text: Bytes::new(alloc),
+            text,
             tree: tree(alloc, created)?,
             stamp: Stamp {
                 edition: EditionNo(1),
@@ -93,8 +95,8 @@ pub fn seen(alloc: Global, created: &[(&str, &str)]) -> Result<EditionView, NoMe
     }
     Ok(EditionView {
         edition: EditionNo(1),
-        objects,
-        tables,
+        objects: SharedList::from_slice(alloc, objects.as_slice())?,
+        tables: Shared::new(alloc, tables)?,
     })
 }
 

@@ -5,7 +5,7 @@
 
 ghost use Rattle.std.specs.Prelude.{◌≡◌, ◌<◌, true};
 ghost use Rattle.ebr_ast.specs.Views.{IsInOrder};
-ghost use Rattle.ebr_check.specs.Verdict.{is_valid};
+ghost use Rattle.ebr_validity.specs.Verdict.{is_valid};
 
 use crate::sample_view::{seen, tree, wanted_row};
 use ebr_ast::{EditionView, UnitTree};

@@ -9,6 +9,7 @@ use ebr_base::{
     Bytes, Class, ColType, Column, EditionNo, List, NoMemory, ObjectKey, Shared, Stamp, TableDef,
     TableId,
 };
+use ebr_shared_list::SharedList;
 use std::alloc::Global;
 
 /// The number of a table. None has a key: queries don't look at keys.
@@ -105,6 +106,7 @@ fn tables(alloc: Global) -> Result<List<TableDef>, NoMemory> {
 fn object(alloc: Global, text: &str) -> Result<Shared<Object>, NoMemory> {
     let (text, created) = first_word(text);
     let name = name(alloc, text)?;
+    let text = Shared::new(alloc, Bytes::new(alloc))?;
     Ok(Shared::new(
         alloc,
         Object {
@@ -112,7 +114,7 @@ fn object(alloc: Global, text: &str) -> Result<Shared<Object>, NoMemory> {
                 class: Class::Unit,
                 name,
             },
-            text: Bytes::new(alloc),
+            text,
             tree: UnitTree::View(view(alloc, created)?),
             stamp: Stamp {
                 edition: EditionNo(1),
@@ -123,7 +125,7 @@ fn object(alloc: Global, text: &str) -> Result<Shared<Object>, NoMemory> {
     )?)
 }
 
-fn objects(alloc: Global, text: &str) -> Result<List<Shared<Object>>, NoMemory> {
+fn objects(alloc: Global, text: &str) -> Result<SharedList<Shared<Object>>, NoMemory> {
     let mut objects = List::new(alloc);
     let mut rest = text;
     for _turn in 0..text.len() {
@@ -133,12 +135,12 @@ fn objects(alloc: Global, text: &str) -> Result<List<Shared<Object>>, NoMemory> 
         objects.push(object(alloc, line)?)?;
         rest = more;
     }
-    Ok(objects)
+    SharedList::from_slice(alloc, objects.as_slice())
 }
 
 fn edition(alloc: Global, n: u32, text: &str) -> Result<Shared<EditionView>, NoMemory> {
     let objects = objects(alloc, text)?;
-    let tables = tables(alloc)?;
+    let tables = Shared::new(alloc, tables(alloc)?)?;
     Ok(Shared::new(
         alloc,
         EditionView {

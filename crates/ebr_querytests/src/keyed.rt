@@ -11,6 +11,7 @@ use ebr_base::{
     TableDef, TableId,
 };
 use ebr_exprtree::Op;
+use ebr_shared_list::SharedList;
 use ebr_tx::Transactions;
 use std::alloc::Global;
 
@@ -154,11 +155,12 @@ fn object(
     name: Name,
     tree: UnitTree,
 ) -> Result<Shared<Object>, NoMemory> {
+    let text = Shared::new(alloc, Bytes::new(alloc))?;
     Ok(Shared::new(
         alloc,
         Object {
             key: ObjectKey { class, name },
-            text: Bytes::new(alloc),
+            text,
             tree,
             stamp: Stamp {
                 edition: EditionNo(1),
@@ -203,7 +205,7 @@ fn view_object(alloc: Global, text: &str) -> Result<Shared<Object>, NoMemory> {
 }
 
 /// The views of a text, and a trigger on T and one on a table that isn't there.
-fn objects(alloc: Global, text: &str) -> Result<List<Shared<Object>>, NoMemory> {
+fn objects(alloc: Global, text: &str) -> Result<SharedList<Shared<Object>>, NoMemory> {
     let mut objects = List::new(alloc);
     let mut rest = text;
     for _turn in 0..text.len() {
@@ -215,14 +217,14 @@ fn objects(alloc: Global, text: &str) -> Result<List<Shared<Object>>, NoMemory> 
     }
     objects.push(trigger(alloc, "F", "T")?)?;
     objects.push(trigger(alloc, "G", "NOPE")?)?;
-    Ok(objects)
+    SharedList::from_slice(alloc, objects.as_slice())
 }
 
 fn edition(alloc: Global, n: u32, tables_text: &str, text: &str) -> Result<EditionView, NoMemory>
     ensures { IfOk result (λ v. All IsDefined v.tables) }
 {
     let objects = objects(alloc, text)?;
-    let tables = tables(alloc, tables_text)?;
+    let tables = Shared::new(alloc, tables(alloc, tables_text)?)?;
     Ok(EditionView {
         edition: EditionNo(n),
         objects,

@@ -8,7 +8,7 @@ ghost use Rattle.ebr_querytests.specs.World.{the_tables, IsThere, IsKeyless};
 use crate::catalogue::table_id;
 use crate::reading::{first_word, name, row};
 use ebr_base::{
-    Bytes, Change, Code, List, NoMemory, RowId, RowNo, Stop, TableDef, TableId, TxId, Value,
+    Bytes, Change, Code, List, NoMemory, RowId, RowNo, Shared, Stop, TableDef, TableId, TxId, Value,
 };
 use ebr_tx::Transactions;
 use std::alloc::Global;
@@ -65,7 +65,7 @@ fn insert(alloc: Global, tx: &mut Transactions, t: TxId, text: &str) -> Result<(
 {
     let (text, values) = first_word(text);
     let table = table(text)?;
-    let values = row(alloc, values)?;
+    let values = Shared::new(alloc, row(alloc, values)?)?;
     inserted(alloc, tx, t, table, values)
 }
 
@@ -74,7 +74,7 @@ fn inserted(
     tx: &mut Transactions,
     t: TxId,
     table: TableId,
-    values: List<Value>,
+    values: Shared<List<Value>>,
 ) -> Result<(), Stop>
     requires live { IsLive tx.old.contents t }
     requires begun { is_some (own tx.old.contents t).begun ≡ true }
@@ -96,7 +96,7 @@ fn change(
     tx: &mut Transactions,
     t: TxId,
     row: RowId,
-    values: Option<List<Value>>,
+    values: Option<Shared<List<Value>>>,
 ) -> Result<(), Stop>
     requires live { IsLive tx.old.contents t }
     requires begun { is_some (own tx.old.contents t).begun ≡ true }
@@ -133,7 +133,7 @@ fn update(alloc: Global, tx: &mut Transactions, t: TxId, text: &str) -> Result<(
     ensures tables { tx.new.contents.tables ≡ tx.old.contents.tables }
 {
     let (at, values) = row_id(text)?;
-    let values = row(alloc, values)?;
+    let values = Shared::new(alloc, row(alloc, values)?)?;
     change(alloc, tx, t, at, Some(values))
 }
 

@@ -28,18 +28,18 @@ use Rattle.ebr_exprtree.specs.declared.expression.Expr.TheOpen as expression_for
 use denote.Hole.Carrier as carrier
 use Rattle.ebr_sqlcheck.specs.Types.{type_of_text}
 use Rattle.ebr_scope.specs.Around.{Env, within_block, outside}
-use Rattle.ebr_rules.specs.Sites.{Site, Declares, Pragmas, Handles, Prints, Calls}
-use Rattle.ebr_rules.specs.Rules.{Rule, rules, holds}
-use Rattle.ebr_rules.specs.Expressions.{Read, Term, reads, reads_term, reading_of, term_of, only_value}
-use Rattle.ebr_rules.specs.Targets.{In}
+use Rattle.ebr_validity.specs.Sites.{Site, Declares, Pragmas, Handles, Prints, Calls}
+use Rattle.ebr_validity.specs.Rules.{Rule, rules, holds}
+use Rattle.ebr_validity.specs.Expressions.{Read, Term, reads, reads_term, reading_of, term_of, only_value}
+use Rattle.ebr_validity.specs.Targets.{In}
 use Rattle.ebr_ast.specs.declared.unit.Head.{Head}
 use Rattle.std.specs.Prelude.{Option, option_map}
 use Rattle.ebr_value.specs.declared.form.Builtin.{Builtin}
 use Rattle.ebr_expr.specs.Operators.{builtin_at}
 use Rattle.ebr_scope.specs.Meanings.{Subprogram}
 use Rattle.ebr_scope.specs.Names.{applied, applied_at, visible_head}
-use Rattle.ebr_check.specs.Statements.{Handling, act, in_block, called_with, unless_builtin, call_sites, in_statement, in_body, in_branch, in_handler}
-use Rattle.ebr_check.specs.Verdict.{is_valid}
+use Rattle.ebr_validity.specs.Statements.{Handling, act, in_block, called_with, unless_builtin, call_sites, in_statement, in_body, in_branch, in_handler}
+use Rattle.ebr_validity.specs.Verdict.{is_valid}
 use Rattle.ebr_check.proofs.Laws.{statement-out, body-out}
 use Rattle.ebr_servertests.specs.WorkedScripts.{block_of, printing, call_of}
 

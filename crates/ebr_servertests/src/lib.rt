@@ -1,11 +1,9 @@
-//! Tests of the engine, of the pieces of scripts, and of `serve` over a host in memory, byte for byte.
+//! Tests of `serve` over a host in memory, byte for byte.
 //!
 //! Scripts with their replies stand in the files that `ebr_cases` runs. Here is what they can't show: faults, histories, words, texts of
 //! many bytes, and bytes that a text file hides.
 #![tactic(auto)]
 
-#[cfg(test)]
-mod asks;
 #[cfg(test)]
 mod faults;
 #[cfg(test)]
@@ -20,8 +18,6 @@ mod pieces;
 mod records;
 #[cfg(test)]
 mod rehearsals;
-#[cfg(test)]
-mod script;
 #[cfg(test)]
 mod scripts;
 #[cfg(test)]

@@ -6,4 +6,4 @@ use Rattle.ebr_leaftests.proofs.commits.rows_behind.Goals as goal
 
 pub loop-at-preserved : goal.loop-at-preserved
 loop-at-preserved c =
-    subst (OfAdded the_loose) (sym c.in_ok-push.ensures.ok) (All-push IsAdded c.loop-at.changes c.empty.result c.loop-at.invariant c.empty.ensures)
+    subst (OfAdded the_loose) (sym c.in_ok-push.ensures.ok) (All-push IsAdded c.loop-at.changes c.in_ok-change.change c.loop-at.invariant c.in_ok-change.ensures)

@@ -1,6 +1,6 @@
 //! Definitions of one session beside the transactions and editions of others.
 
-use crate::asks::script::fault_in;
+use crate::script::fault_in;
 use std::test::Fail;
 
 /// What sessions are answered one after the other, and the records that are kept.

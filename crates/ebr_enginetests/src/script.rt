@@ -3,8 +3,8 @@
 ghost use Rattle.ebr_core.specs.Engine.{database_of};
 ghost use Rattle.ebr_core.specs.History.{IsLive};
 
-use crate::asks::asking::{ask_of, release};
-use crate::asks::printing::{answer, entries, records};
+use crate::asking::{ask_of, release};
+use crate::printing::{answer, entries, records};
 use ebr_base::{Bytes, NoMemory, SessionId, rest_from};
 use ebr_core::Engine;
 use ebr_record::ListKeep;

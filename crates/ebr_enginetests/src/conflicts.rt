@@ -1,6 +1,6 @@
 //! Sessions that meet at rows and keys.
 
-use crate::asks::script::fault_in;
+use crate::script::fault_in;
 use std::test::Fail;
 
 static CONFLICTS: &str = "\

@@ -56,10 +56,11 @@ fn rows(alloc: Global, rows: &[List<Value>], out: &mut Bytes) -> Result<(), NoMe
 /// The number of an edition, and the names of the objects and tables that it sees.
 fn view(alloc: Global, v: &EditionView, out: &mut Bytes) -> Result<(), NoMemory> {
     number(alloc, "edition ", u64::from(v.edition.0), out)?;
-    for object in v.objects.as_slice() {
+    let objects = v.objects.to_list(alloc)?;
+    for object in objects.as_slice() {
         named(b" ", &object.get().key.name, out)?;
     }
-    for table in v.tables.as_slice() {
+    for table in v.tables.get().as_slice() {
         named(b" ", &table.name, out)?;
     }
     Ok(())
@@ -69,7 +70,7 @@ fn view(alloc: Global, v: &EditionView, out: &mut Bytes) -> Result<(), NoMemory>
 pub fn answer(alloc: Global, given: &Answer, out: &mut Bytes) -> Result<(), NoMemory> {
     match given {
         Answer::View(v) => view(alloc, v.get(), out),
-        Answer::Rows(found) => rows(alloc, found.as_slice(), out),
+        Answer::Rows(found) => rows(alloc, found.get().as_slice(), out),
         Answer::Count { n, .. } => number(alloc, "rows ", *n, out),
         Answer::Done => out.extend(b"OK"),
         Answer::Invalid => out.extend(b"INVALID"),

@@ -100,7 +100,7 @@ fn sql(alloc: Global, tree: SqlTree) -> Result<Ask, NoMemory>
 {
     Ok(Ask::Sql {
         stmt: Shared::new(alloc, tree)?,
-        binds: List::new(alloc),
+        binds: Shared::new(alloc, List::new(alloc))?,
         left: 1_000_000,
     })
 }

@@ -1,6 +1,6 @@
 //! The ends of sessions, faults of the keeper, books, and the history.
 
-use crate::asks::script::fault_in;
+use crate::script::fault_in;
 use std::test::Fail;
 
 static ENDS: &str = "\

@@ -1,6 +1,6 @@
 //! Statements that fire triggers, of several sessions, and the records that bodies have kept.
 
-use crate::asks::script::fault_in;
+use crate::script::fault_in;
 use std::test::Fail;
 
 static TRIGGERS: &str = "\

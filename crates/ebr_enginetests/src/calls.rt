@@ -1,6 +1,6 @@
 //! Calls with their marks, autonomous transactions, and asks out of place.
 
-use crate::asks::script::fault_in;
+use crate::script::fault_in;
 use std::test::Fail;
 
 static CALLS: &str = "\
