@@ -11,7 +11,7 @@ use Rattle.ebr_validity.specs.Verdict.{is_valid}
 use Rattle.ebr_asks.specs.declared.ask.Ask.TheVariants as ask
 use Rattle.ebr_asks.specs.declared.answer.Answer.{Answer}
 use Rattle.ebr_asks.specs.declared.answer.Answer.TheVariants as answer
-use Rattle.ebr_run.specs.Run.{Seen, Returned, Raised}
+use Rattle.ebr_run.specs.Run.{Seen, Waiting, Returned, Raised}
 use Rattle.ebr_calls.specs.Steps.{State, Outcome, Normal, Ended, ended, then_run, leaving, result_lines, run_block, run_stands, run_of, run_valid, ending}
 
 abbrev most_room : ℕ
@@ -79,6 +79,20 @@ quitting = record { asks = ask.Begin ∷ []; printed = []; packages = []; room =
 quits_before_the_end : (v : EditionView) (b : Block) → is_valid v (unit.Block b) ≡ false → session b (answer.View v ∷ answer.Done ∷ []) (Some 1)
     ≡ ended (record { asks = ask.Begin ∷ ask.Leave ∷ []; printed = []; packages = []; room = most_room; coming = []; quit = Some 0 }) Ended
 quits_before_the_end v b invalid = ap (λ c. then_run (if c then run_valid v b quitting else ending true (codes "ORA-06550") quitting) leaving) invalid
+
+-- behind want of memory it leaves, ..
+wanting_memory_leaves : (b : Block) → session b (answer.NoMemory ∷ answer.Done ∷ []) None
+    ≡ ended (record { asks = ask.Begin ∷ ask.Leave ∷ []; printed = []; packages = []; room = most_room; coming = []; quit = None }) Ended
+wanting_memory_leaves b = refl
+
+-- what is seen of a block that waits for the answer to PushAuto
+abbrev waits : Seen
+waits = record { asks = ask.PushAuto ∷ []; lines = codes "a" ∷ []; steps = 2; packages = []; new = None; room = 16777214; standing = Waiting }
+
+-- .. in the midst of a block too, and what it had printed is all
+wanting_memory_ends_a_block : run_stands waits.standing waits (behind_begin (answer.NoMemory ∷ answer.Done ∷ []))
+    ≡ ended (record { asks = ask.Begin ∷ ask.PushAuto ∷ ask.Leave ∷ []; printed = codes "a\n"; packages = []; room = 16777214; coming = []; quit = None }) Ended
+wanting_memory_ends_a_block = refl
 
 -- nothing more is printed after a fault of the disk
 fault_ends_it : (b : Block) → session b (answer.DiskFault ∷ []) None ≡ ended (record { asks = ask.Begin ∷ []; printed = []; packages = []; room = most_room; coming = []; quit = None }) Ended

@@ -1,10 +1,11 @@
 -- How a session goes on with its asks and their answers.
 use Rattle.std.proofs.Common.{ℕ, zero, suc, ◌≡◌, List, [], ◌∷◌, ◌++◌, length, Option, Some, None, refl, ◌∙◌, ap}
 use Rattle.ebr_asks.specs.declared.ask.Ask.{Ask}
+use Rattle.ebr_asks.specs.declared.ask.Ask.TheVariants as ask
 use Rattle.ebr_asks.specs.declared.answer.Answer.{Answer}
 use Rattle.ebr_asks.specs.declared.answer.Answer.TheVariants as answer
 use Rattle.ebr_calls.specs.Steps.{State, Step, Ended, ended, then_run, one_less, less, next_answer, leaving, on_answer, asked, printing, usable}
-use Rattle.ebr_calls.specs.Courses.{Course, Place, GoesOn, Asks, Continues, AllContinue, state_at, later, after, with_answer, with_ask, takes}
+use Rattle.ebr_calls.specs.Courses.{Course, Place, GoesOn, Asks, AsksNext, Continues, AllContinue, state_at, later, after, with_answer, with_ask, takes}
 
 -- ---- moments of quitting
 
@@ -63,8 +64,8 @@ asks_where f q k rest p h = record { by = made }
     made [] (Some (suc n)) = h [] (Some (suc n)) refl
     made (answer.DiskFault ∷ xs) None = h (answer.DiskFault ∷ xs) None refl
     made (answer.DiskFault ∷ xs) (Some (suc n)) = h (answer.DiskFault ∷ xs) (Some (suc n)) refl
-    made (answer.NoMemory ∷ xs) None = h (answer.NoMemory ∷ xs) None refl
-    made (answer.NoMemory ∷ xs) (Some (suc n)) = h (answer.NoMemory ∷ xs) (Some (suc n)) refl
+    made (answer.NoMemory ∷ xs) None = h (answer.NoMemory ∷ xs) None refl ∙ leaving_then (state_at (with_ask q p) xs None) rest
+    made (answer.NoMemory ∷ xs) (Some (suc n)) = h (answer.NoMemory ∷ xs) (Some (suc n)) refl ∙ leaving_then (state_at (with_ask q p) xs (Some n)) rest
     made (answer.Stopped ∷ xs) None = h (answer.Stopped ∷ xs) None refl
     made (answer.Stopped ∷ xs) (Some (suc n)) = h (answer.Stopped ∷ xs) (Some (suc n)) refl
     made (x ∷ xs) None = refl
@@ -87,6 +88,18 @@ goes_answered f q k rest p x c was = record {
   by = λ coming quit. was.by (x ∷ coming) (later quit)
       ∙ ap (λ o. then_run o rest) (answered_once q k x p coming quit ∙ continues x k (state_at (with_ask q p) coming quit) c);
 }
+
+-- The answer was that there is no memory, and it leaves.
+pub goes_short : (f : Course) (q : Ask) (p : Place) → Asks f q p → GoesOn (with_answer answer.NoMemory f) leaving (with_ask q p)
+goes_short f q p h = record { by = λ coming quit. h.by (answer.NoMemory ∷ coming) (later quit) ∙ answered_once q (takes f) answer.NoMemory p coming quit }
+
+-- An ask that is made is the next one, ..
+pub asks_next : (f : Course) (q : Ask) (p : Place) → Asks f q p → AsksNext f q p
+asks_next f q p h = record { out = h.by [] None; left = λ coming. h.by coming (Some zero) }
+
+-- .. and so is Leave.
+pub leaves_next : (f : Course) (p : Place) → GoesOn f leaving p → AsksNext f ask.Leave p
+leaves_next f p h = record { out = h.by [] None; left = λ coming. h.by coming (Some zero) }
 
 -- A text was printed.
 pub goes_printed : (f : Course) (t : List ℕ) (rest : Step) (p : Place) → GoesOn f (λ σ. then_run (printing t σ) rest) p → GoesOn f rest (record p { printed = p.printed ++ t })

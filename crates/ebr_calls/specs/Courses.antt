@@ -14,7 +14,7 @@ use Rattle.ebr_machine.specs.declared.next.Next.TheVariants as next
 use Rattle.ebr_machine.specs.declared.machine.Machine.{Machine}
 use Rattle.ebr_machine.specs.Has.{Has}
 use Rattle.ebr_calls.specs.Asked.{IsCounted, IsOfRun}
-use Rattle.ebr_calls.specs.Steps.{State, Outcome, Step, asked, then_run, lines_of, most_steps, run_on, open_behind, ending, closing}
+use Rattle.ebr_calls.specs.Steps.{State, Outcome, Step, Out, asked, ended, leaving, then_run, lines_of, most_steps, run_on, open_behind, ending, closing}
 
 -- What a session does by the answers still to come and the number of them after which it quits.
 abbrev pub Course : Type 0
@@ -55,7 +55,7 @@ takes f x σ = f (x ∷ σ.coming) (later σ.quit)
 abbrev pub Asks : Course → Ask → Place → Type 0
 Asks f q p = GoesOn f (asked q (takes f)) p
 
--- an answer that doesn't end the session
+-- an answer behind which the session goes on with its script
 abbrev pub Continues : Answer → Type 0
 Continues answer.DiskFault = ⊥
 Continues answer.NoMemory = ⊥
@@ -88,6 +88,11 @@ place made printed packages room = record { asks = made; printed = printed; pack
 
 abbrev pub with_ask : Ask → Place → Place
 with_ask q p = record p { asks = p.asks ++ q ∷ [] }
+
+-- Its next ask is this one, and where it quits, it leaves in its place.
+pub record AsksNext (f : Course) (q : Ask) (p : Place) : Type 0 where
+  pub out : f [] None ≡ ended (state_at (with_ask q p) [] None) Out
+  pub left : (coming : List Answer) → f coming (Some zero) ≡ leaving (state_at p coming (Some zero))
 
 -- what a session does where a run has ended with so many transactions of its own open
 abbrev pub finishing : End → ℕ → Step

@@ -79,10 +79,11 @@ next_answer (x ∷ coming) σ k = k x (record σ { coming = coming; quit = one_l
 abbrev pub leaving : Step
 leaving σ = next_answer σ.coming (with_ask ask.Leave σ) (λ x σ'. ended σ' Ended)
 
--- A fault of the disk, want of memory, and what comes after them end the session, and nothing more is printed.
+-- A fault of the disk, and what comes after the engine gave up, end the session; behind want of memory it leaves. Nothing more is
+-- printed.
 abbrev pub on_answer : Answer → (Answer → Step) → Step
 on_answer answer.DiskFault k σ = ended σ Ended
-on_answer answer.NoMemory k σ = ended σ Ended
+on_answer answer.NoMemory k σ = leaving σ
 on_answer answer.Stopped k σ = ended σ Ended
 on_answer x k σ = k x σ
 
@@ -131,7 +132,7 @@ printing_result text x = printing (result_lines text x)
 
 -- ---- blocks
 
--- the answers that the run of a block takes: those before one that ends the session, and before the session quits
+-- the answers that the run of a block takes: those before one that ends the session or has it leave, and before the session quits
 abbrev pub usable : Option ℕ → List Answer → List Answer
 usable (Some zero) xs = []
 usable q [] = []

@@ -118,7 +118,7 @@ impl<B: CodeBook + Drop> Call<B> {
         Ok(())
     }
 
-    /// Takes the answer to the ask that is out; it doesn't end the session.
+    /// Takes the answer to the ask that is out, behind which the session goes on.
     pub fn take(&mut self, a: Answer)
         requires { IsOut self.old.machine }
         ensures takes { (codes : Book) (f : Course) (rest : Step) (made : Sequence asked.Ask) (printed : Sequence ℕ) (packages : Sequence PackageState) (room : ℕ)

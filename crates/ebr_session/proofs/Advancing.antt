@@ -1,24 +1,27 @@
 -- A session goes on to its next ask.
-use Rattle.std.proofs.Common.{ℕ, ◌≡◌, ◌⊎◌, false, List, [], ◌∷◌, ◌++◌, length, Option, Some, None, IfSome, IfOk, Result, refl, sym, ◌∙◌, ap, subst, inl, inr, append-nil}
-use Rattle.std.proofs.lemmas.Result.{IfOk-weaker}
+use Rattle.std.specs.Prelude.{◌||◌, is_some, IsErrAnd}
+use Rattle.std.proofs.Common.{ℕ, ◌≡◌, ◌⊎◌, ⊎_elim, true≢false, false, List, [], ◌∷◌, ◌++◌, length, Option, Some, None, IfSome, IfOk, Result, refl, sym, ◌∙◌, ap, subst, inl, inr, append-nil}
+use Rattle.std.proofs.lemmas.Result.{IfOk-weaker, err_from_is_err_and}
+use Rattle.ebr_base.specs.declared.clone_in.NoMemory.{NoMemory}
 use Rattle.ebr_base.specs.declared.numbers.EditionNo.{EditionNo}
 use Rattle.ebr_asks.specs.declared.ask.Ask.{Ask}
 use Rattle.ebr_asks.specs.declared.ask.Ask.TheVariants as ask
 use Rattle.ebr_asks.specs.declared.entry.Exchange.{Exchange}
 use Rattle.ebr_code.specs.Books.{Book}
 use Rattle.ebr_calls.specs.Courses.{AllContinue, Continues, Course, GoesOn, place, with_answer}
+use Rattle.ebr_session.specs.declared.next.NextAsk.{NextAsk}
 use Rattle.ebr_session.specs.declared.session.Phase.{Phase}
 use Rattle.ebr_session.specs.declared.session.Phase.TheVariants as phase
 use Rattle.ebr_session.specs.declared.work.Work.{Work}
-use Rattle.ebr_session.specs.Has.{Follows, IsPrefix, MakesAsk, Suits, answers, asks, printed_before}
+use Rattle.ebr_session.specs.Has.{Advances, Follows, IsPrefix, MakesAsk, Progress, Suits, answers, asks, is_leaving, is_short, printed_before}
 use Rattle.ebr_session.specs.inside.Kept.{HasRoom, Kept, last_of}
 use Rattle.ebr_session.specs.inside.Requests.{Reading, rest_of}
 use Rattle.ebr_session.specs.inside.Stages.{Awaits, IsReady, here}
-use Rattle.ebr_session.specs.inside.Holds.{Answered, First, HasFailed, Holds, IsAnswered, Parts, Waits, WillAsk, course_behind, progress, spot}
+use Rattle.ebr_session.specs.inside.Holds.{Answered, First, HasFailed, Holds, IsAnswered, Parts, Waits, WillAsk, course_behind, is_over, out_of, progress, spot}
 use Rattle.ebr_session.proofs.Exchanges.{asks_more, same_course}
-use Rattle.ebr_session.proofs.Asking.{awaits_fit, awaits_ready}
+use Rattle.ebr_session.proofs.Asking.{awaits_fit, awaits_ready, prefix_same}
 use Rattle.ebr_session.proofs.Doing.{last_more}
-use Rattle.ebr_session.proofs.Following.{follows, leaves_quit}
+use Rattle.ebr_session.proofs.Following.{follows, leaves_out, leaves_quit, none_short}
 
 some_weaker : (o : Option Exchange) (P Q : Exchange → Type 0) → ((e : Exchange) → P e → Q e) → IfSome o P → IfSome o Q
 some_weaker None P Q h p = tt
@@ -39,12 +42,30 @@ both_go serves w v u mine all old new q both r a b c value h =
     (subst (λ (l : List Exchange). IfSome (last_of l) (λ e. Continues e.answer → (f : Course) (made : List Ask) (bytes : List ℕ) → Awaits serves v.stage e.ask f (rest_of old) (here made bytes v)
     → Awaits serves u.stage q (with_answer e.answer f) (rest_of new) (here (made ++ e.ask ∷ []) bytes u))) a h)
 
+-- without memory
+pub fails_so : (r : Result NextAsk NoMemory) (P : NoMemory → Type 0) (old new : Progress) → IsErrAnd r P → (old.ended ≡ false) × (is_leaving old ≡ false) × (new ≡ old) → Advances r old new
+fails_so r P old new failed h = let p = err_from_is_err_and r failed in subst (λ x. Advances x old new) (sym p.1) h
+
+-- one that runs its script isn't to leave
+pub not_leaving : (quit : Option ℕ) (mine : List Exchange) → quit ≡ None → AllContinue (answers mine) → (is_some quit || is_short mine) ≡ false
+not_leaving quit mine e all = ap (λ k. is_some k || is_short mine) e ∙ none_short mine all
+
 -- the last answer of one that went on let it go on
 last_continues : (before : List Exchange) (last : Exchange) → AllContinue (answers (before ++ last ∷ [])) → Continues last.answer
 last_continues [] last h = h.0
 last_continues (x ∷ before) last h = last_continues before last h.1
 
 module _ {B : Type 0} (serves : B → EditionNo → Book) where
+  -- one that runs its script isn't to leave
+  pub goes_on_here : (s : Parts B) → IsAnswered serves s → (is_some s.quit || is_short s.transcript.exchanges) ≡ false
+  goes_on_here s h = not_leaving s.quit s.transcript.exchanges h.no_quit h.went_on
+
+  pub failed_goes : (s : Parts B) → HasFailed s → (is_some s.quit || is_short s.transcript.exchanges) ≡ false
+  failed_goes s h = not_leaving s.quit s.transcript.exchanges h.no_quit h.went_on
+
+  pub waits_goes : (q : Ask) (s : Parts B) → Waits serves q s → (is_some s.quit || is_short s.transcript.exchanges) ≡ false
+  waits_goes q s h = not_leaving s.quit s.transcript.exchanges h.no_quit h.went_on
+
   pub answered_here : (p : Phase) (out : Option Ask) (s : Parts B) → p ≡ phase.Working → out ≡ None → Holds serves p out s → IsAnswered serves s
   answered_here p out s e k h = subst (λ o. Holds serves phase.Working o s) k (subst (λ q. Holds serves q out s) e h)
 
@@ -126,12 +147,60 @@ module _ {B : Type 0} (serves : B → EditionNo → Book) where
         goes_on = refl;
         is = λ i. record { session = s.session; script = a i; transcript = b i; printed = printed; quit = s.quit; out = o i; ended = false };
         more = record { rest = work.fresh; whole = grown };
-        leaves = subst (λ k. IfSome k (λ n. (q ≡ ask.Leave) × (printed ≡ s.printed))) (sym h.no_quit) tt;
+        leaves = λ e. absurd (true≢false (sym e ∙ not_leaving s.quit mine h.no_quit h.went_on));
         fit = awaits_fit serves work.stage q (course_behind script.script transcript.exchanges) (rest_of script) (spot transcript.exchanges now) waits_now.awaits;
       }
 
+  -- It waits, and asks again, unless there is no memory for it.
+  module _ (p : Phase) (out : Option Ask) (s : Parts B) (q : Ask) (e : p ≡ phase.Working) (k : out ≡ Some q) (h : Holds serves p out s) where
+    waits_here : Waits serves q s
+    waits_here = subst (λ o. Holds serves phase.Working o s) k (subst (λ d. Holds serves d out s) e h)
+
+    pub asks_again : MakesAsk q (progress p out s) (progress p out s)
+    asks_again = record {
+      goes_on = ap is_over e;
+      is = λ i. record { session = s.session; script = s.script.script; transcript = s.transcript.exchanges; printed = s.printed; quit = s.quit; out = (ap (λ d. out_of d out) e ∙ k) i; ended = is_over p };
+      more = prefix_same s.printed s.printed refl;
+      leaves = λ l. absurd (true≢false (sym l ∙ waits_goes q s waits_here));
+      fit = awaits_fit serves s.work.stage q (course_behind s.script.script s.transcript.exchanges) (rest_of s.script) (spot s.transcript.exchanges s) waits_here.awaits;
+    }
+
+    pub again_fails : (is_over p ≡ false) × ((is_some s.quit || is_short s.transcript.exchanges) ≡ false) × (progress p out s ≡ progress p out s)
+    again_fails = (ap is_over e, waits_goes q s waits_here, refl)
+
+  -- It found no memory.
+  pub next_fails : (p : Phase) (out : Option Ask) (s new : Parts B) → p ≡ phase.Working → out ≡ None → Holds serves p out s → new.session ≡ s.session → new.script.script ≡ s.script.script → new.transcript.exchanges ≡ s.transcript.exchanges → new.printed ≡ s.printed
+      → new.quit ≡ s.quit → (is_over p ≡ false) × ((is_some s.quit || is_short s.transcript.exchanges) ≡ false) × (progress phase.Failed out new ≡ progress p out s)
+  next_fails p out s new e k h session script mine printed quit = (
+    ap is_over e,
+    goes_on_here s (answered_here p out s e k h),
+    λ i. record { session = session i; script = script i; transcript = mine i; printed = printed i; quit = quit i; out = sym (ap (λ d. out_of d out) e ∙ k) i; ended = sym (ap is_over e) i },
+  )
+
+  pub still_fails : (p : Phase) (out : Option Ask) (s : Parts B) → p ≡ phase.Failed → Holds serves p out s → (is_over p ≡ false) × ((is_some s.quit || is_short s.transcript.exchanges) ≡ false) × (progress p out s ≡ progress p out s)
+  still_fails p out s e h = (ap is_over e, failed_goes s (subst (λ d. Holds serves d out s) e h), refl)
+
   -- It leaves.
-  pub follows_left : (p : Phase) (out place : Option Ask) (s : Parts B) → p ≡ phase.Quitting → place ≡ Some ask.Leave → Holds serves p out s → Follows (progress p place s)
-  follows_left p out place s e k h =
-      subst (λ o. Follows (progress p o s)) (sym k)
-      (subst (λ d. Follows (progress d (Some ask.Leave) s)) (sym e) (follows serves phase.Quitting (Some ask.Leave) s (leaves_quit s out (subst (λ d. Holds serves d out s) e h))))
+  module _ (p : Phase) (out place : Option Ask) (s : Parts B) (by : (p ≡ phase.Leaving) ⊎ (p ≡ phase.Quitting)) (k : place ≡ Some ask.Leave) (h : Holds serves p out s) where
+    pub left_holds : Holds serves p place s
+    left_holds = subst (λ o. Holds serves p o s) (sym k) (⊎_elim
+        (λ e. subst (λ d. Holds serves d (Some ask.Leave) s) (sym e) (leaves_out s out (subst (λ d. Holds serves d out s) e h)))
+        (λ e. subst (λ d. Holds serves d (Some ask.Leave) s) (sym e) (leaves_quit s out (subst (λ d. Holds serves d out s) e h))) by)
+
+    pub follows_left : Follows (progress p place s)
+    follows_left = follows serves p place s left_holds
+
+    not_over : is_over p ≡ false
+    not_over = ⊎_elim (λ e. ap is_over e) (λ e. ap is_over e) by
+
+    goes_out : (q : Ask) → out_of p (Some q) ≡ Some q
+    goes_out q = ⊎_elim (λ e. ap (λ d. out_of d (Some q)) e) (λ e. ap (λ d. out_of d (Some q)) e) by
+
+    pub asks_leave : MakesAsk ask.Leave (progress p out s) (progress p place s)
+    asks_leave = record {
+      goes_on = not_over;
+      is = λ i. record { session = s.session; script = s.script.script; transcript = s.transcript.exchanges; printed = s.printed; quit = s.quit; out = (ap (out_of p) k ∙ goes_out ask.Leave) i; ended = is_over p };
+      more = prefix_same s.printed s.printed refl;
+      leaves = λ e. (refl, refl);
+      fit = tt;
+    }

@@ -21,8 +21,8 @@ use Rattle.ebr_script.specs.declared.piece.PieceKind.{PieceKind}
 use Rattle.ebr_script.specs.declared.piece.PieceKind.TheVariants as piece
 use Rattle.ebr_script.specs.Pieces.{text_of}
 use Rattle.ebr_calls.specs.Steps.{Step, asked, closing, ending, leaving, printing, printing_result, result_lines, run_valid, then_run}
-use Rattle.ebr_calls.specs.Courses.{Asks, Continues, Course, GoesOn, Place, place, state_at, takes, with_answer, with_ask}
-use Rattle.ebr_calls.proofs.Going.{asks_then, goes_answered, goes_printed}
+use Rattle.ebr_calls.specs.Courses.{Asks, AsksNext, Continues, Course, GoesOn, Place, place, with_answer, with_ask}
+use Rattle.ebr_calls.proofs.Going.{asks_next, asks_then, goes_answered, goes_printed, leaves_next}
 use Rattle.ebr_calls.proofs.NextAsks.{begins_next, goes_next}
 use Rattle.ebr_session.specs.declared.after.After.{After}
 use Rattle.ebr_session.specs.declared.after.After.TheVariants as after
@@ -47,23 +47,6 @@ prefix_trans xs ys zs h k = record { rest = h.rest ++ k.rest; whole = k.whole �
 
 -- ---- steps
 
--- Leave is an ask like any other.
-pub asks_leave : (f : Course) (p : Place) → GoesOn f leaving p → Asks f ask.Leave p
-asks_leave f p was = record { by = made }
-  where
-    made : (coming : List Answer) (quit : Option ℕ) → f coming quit ≡ asked ask.Leave (takes f) (state_at p coming quit)
-    made coming (Some zero) = was.by coming (Some zero)
-    made [] None = was.by [] None
-    made [] (Some (suc n)) = was.by [] (Some (suc n))
-    made (answer.DiskFault ∷ xs) None = was.by (answer.DiskFault ∷ xs) None
-    made (answer.DiskFault ∷ xs) (Some (suc n)) = was.by (answer.DiskFault ∷ xs) (Some (suc n))
-    made (answer.NoMemory ∷ xs) None = was.by (answer.NoMemory ∷ xs) None
-    made (answer.NoMemory ∷ xs) (Some (suc n)) = was.by (answer.NoMemory ∷ xs) (Some (suc n))
-    made (answer.Stopped ∷ xs) None = was.by (answer.Stopped ∷ xs) None
-    made (answer.Stopped ∷ xs) (Some (suc n)) = was.by (answer.Stopped ∷ xs) (Some (suc n))
-    made (x ∷ xs) None = refl
-    made (x ∷ xs) (Some (suc n)) = refl
-
 -- SET EDITION was answered.
 pub goes_edition : (x : Answer) (f : Course) (rest : Step) (p : Place) → GoesOn f (λ σ. then_run (printing_edition x σ) rest) p
     → GoesOn f rest (place p.asks (p.printed ++ result_lines (codes "OK") x) (packages_behind x p.packages) p.room)
@@ -84,11 +67,11 @@ abbrev pub HasNext : Step → Type 0
 HasNext step = (f : Course) (p : Place) → GoesOn f step p → WillAsk f p.asks p.printed
 
 -- it is this one
-pub will_ask : (f : Course) (q : Ask) (p : Place) → Asks f q p → WillAsk f p.asks p.printed
+pub will_ask : (f : Course) (q : Ask) (p : Place) → AsksNext f q p → WillAsk f p.asks p.printed
 will_ask f q p h = record { ask = q; at = p; asks_are = refl; more = prefix_same p.printed p.printed refl; will = h }
 
 pub next_asked : (q : Ask) (k : Answer → Step) (rest : Step) → HasNext (λ σ. then_run (asked q k σ) rest)
-next_asked q k rest f p was = will_ask f q p (asks_then f q k rest p was)
+next_asked q k rest f p was = will_ask f q p (asks_next f q p (asks_then f q k rest p was))
 
 -- behind more that is printed
 pub will_print : (f : Course) (made : List Ask) (printed t : List ℕ) → WillAsk f made (printed ++ t) → WillAsk f made printed
@@ -113,14 +96,14 @@ next_piece (piece.Refused c) text rest h = next_printed _ rest h
 next_piece (piece.Tree s) text rest h = next_statement s text rest
 
 pub next_pieces : (script : List ℕ) (pieces : List Piece) → HasNext (run_pieces script pieces)
-next_pieces script [] = λ f p was. will_ask f ask.Leave p (asks_leave f p was)
+next_pieces script [] = λ f p was. will_ask f ask.Leave p (leaves_next f p was)
 next_pieces script (x ∷ pieces) = next_piece x.what (text_of script x) (run_pieces script pieces) (next_pieces script pieces)
 
 next_seen : (b : Bool) (served : Book) (v : EditionView) (t : Block) (rest : Step) → HasCodeOf v served → HasNext (λ σ. then_run (if b then run_valid v t σ else ending true (code_text (Ora 6550)) σ) rest)
 next_seen false served v t rest h = next_asked (ask.EndCall true) (printing_result (code_text (Ora 6550))) rest
 next_seen true served v t rest h = λ f p was.
     let n = begins_next served v t f rest p h was in
-    record { ask = n.ask; at = _; asks_are = append-nil p.asks; more = prefix_more p.printed _; will = n.asks }
+    record { ask = n.ask; at = _; asks_are = append-nil p.asks; more = prefix_more p.printed _; will = asks_next f n.ask _ n.asks }
 
 next_begun : {B : Type 0} (serves : B → EditionNo → Book) (t : Block) (x : Answer) (book : Option B) (rest : Step) → HasNext rest → Suits serves x book → HasNext (λ σ. then_run (behind (after.Begin t) x σ) rest)
 next_begun serves t (answer.View v) (Some b) rest h s = next_seen (is_valid v (unit.Block t)) (serves b v.edition) v t rest s.1
@@ -143,11 +126,17 @@ next_behind serves (after.Close n c) x book rest h k = next_closing n c rest
 
 -- ---- asks that are out
 
-pub awaits_asks : {B : Type 0} (serves : B → EditionNo → Book) (s : Stage B) (q : Ask) (f : Course) (rest : Step) (p : Place) → Awaits serves s q f rest p → Asks f q p
-awaits_asks serves stage.Start q f rest p h = absurd h
-awaits_asks serves (stage.Plain a) q f rest p h = asks_then f q (behind a) rest p h.goes
-awaits_asks serves (stage.Run c) q f rest p h = h.asks
-awaits_asks serves stage.Leaving q f rest p h = subst (λ a. Asks f a p) (sym h.leave) (asks_leave f p h.goes)
+pub awaits_asks : {B : Type 0} (serves : B → EditionNo → Book) (s : Stage B) (q : Ask) (f : Course) (rest : Step) (p : Place) → Stays q → Awaits serves s q f rest p → Asks f q p
+awaits_asks serves stage.Start q f rest p st h = absurd h
+awaits_asks serves (stage.Plain a) q f rest p st h = asks_then f q (behind a) rest p h.goes
+awaits_asks serves (stage.Run c) q f rest p st h = h.asks
+awaits_asks serves stage.Leaving q f rest p st h = absurd (subst Stays h.leave st)
+
+pub awaits_next : {B : Type 0} (serves : B → EditionNo → Book) (s : Stage B) (q : Ask) (f : Course) (rest : Step) (p : Place) → Awaits serves s q f rest p → AsksNext f q p
+awaits_next serves stage.Start q f rest p h = absurd h
+awaits_next serves (stage.Plain a) q f rest p h = asks_next f q p (asks_then f q (behind a) rest p h.goes)
+awaits_next serves (stage.Run c) q f rest p h = asks_next f q p h.asks
+awaits_next serves stage.Leaving q f rest p h = subst (λ a. AsksNext f a p) (sym h.leave) (leaves_next f p h.goes)
 
 pub awaits_fit : {B : Type 0} (serves : B → EditionNo → Book) (s : Stage B) (q : Ask) (f : Course) (rest : Step) (p : Place) → Awaits serves s q f rest p → IsFit q
 awaits_fit serves stage.Start q f rest p h = absurd h
@@ -175,5 +164,5 @@ will_answered serves stage.Start q x book f rest p n st c k h = absurd h
 will_answered serves (stage.Plain a) q x book f rest p n st c k h = next_behind serves a x book rest n k (with_answer x f) (with_ask q p) (goes_answered f q (behind a) rest p x c h.goes)
 will_answered serves (stage.Run r) q x book f rest p n st c k h =
     let i = goes_next (serves r.value.book r.value.machine.edition) f r.value.machine r.value.shown r.value.levels.now rest p h.is_in h.out x c in
-    record { ask = i.next.ask; at = i.at; asks_are = i.asks_are ∙ ap (λ a. p.asks ++ a ∷ []) (sym h.is); more = record { rest = i.rest; whole = i.printed_is }; will = i.next.asks }
+    record { ask = i.next.ask; at = i.at; asks_are = i.asks_are ∙ ap (λ a. p.asks ++ a ∷ []) (sym h.is); more = record { rest = i.rest; whole = i.printed_is }; will = asks_next (with_answer x f) i.next.ask i.at i.next.asks }
 will_answered serves stage.Leaving q x book f rest p n st c k h = absurd (subst Stays h.leave st)

@@ -1,5 +1,6 @@
 -- A session's asks, what it printed and its transcript are those of its run.
-use Rattle.std.proofs.Common.{ℕ, zero, suc, ◌≡◌, ◌≤◌, true, false, List, [], ◌∷◌, ◌++◌, length, take, Option, Some, None, IfSome, refl, sym, ◌∙◌, ap, subst, arith, true≢false, inl, inr}
+use Rattle.std.proofs.Common.{ℕ, zero, suc, ◌≡◌, ◌≤◌, Bool, true, false, List, [], ◌∷◌, ◌++◌, length, take, Option, Some, None, IfSome, refl, sym, ◌∙◌, ap, subst, arith, true≢false, inl, inr}
+use Rattle.std.specs.Prelude.{◌||◌}
 use Rattle.std.proofs.Math.Seq.{take-append_seam}
 use Rattle.ebr_base.specs.declared.numbers.EditionNo.{EditionNo}
 use Rattle.ebr_base.specs.declared.numbers.SessionId.{SessionId}
@@ -11,34 +12,35 @@ use Rattle.ebr_asks.specs.declared.answer.Answer.TheVariants as answer
 use Rattle.ebr_asks.specs.declared.entry.Exchange.{Exchange}
 use Rattle.ebr_code.specs.Books.{Book}
 use Rattle.ebr_calls.specs.Steps.{Out, Ended, Outcome, ended, leaving}
-use Rattle.ebr_calls.specs.Courses.{AllContinue, Asks, Continues, Course, GoesOn, Place, place, state_at, with_answer}
+use Rattle.ebr_calls.specs.Courses.{AllContinue, Asks, AsksNext, Continues, Course, GoesOn, Place, place, state_at, with_answer, with_ask}
+use Rattle.ebr_calls.proofs.Going.{goes_short, leaves_next}
 use Rattle.ebr_session.specs.declared.session.Phase.{Phase}
 use Rattle.ebr_session.specs.declared.session.Phase.TheVariants as phase
-use Rattle.ebr_session.specs.Has.{Made, Follows, HasAsked, HasPrinted, IsPrefix, Suits, answers, asks, ends, exchange, printed_before, stops}
+use Rattle.ebr_session.specs.Has.{Made, Follows, GoesBehind, HasAsked, HasPrinted, IsPrefix, Suits, answers, asks, ends, exchange, is_short, printed_before, stops, wants}
 use Rattle.ebr_session.specs.declared.work.Stage.TheVariants as stage
 use Rattle.ebr_session.specs.declared.work.Work.{Work}
 use Rattle.ebr_session.specs.Sessions.{Printed, SessionRun, most_room, run_pieces}
 use Rattle.ebr_session.specs.inside.Kept.{HasRoom, Kept}
 use Rattle.ebr_session.specs.inside.Requests.{Reading, Stays, rest_of}
-use Rattle.ebr_session.specs.inside.Holds.{HasFailed, HasQuit, Holds, IsAnswered, Parts, Waits, WillAsk, before_last, course_behind, progress, spot}
+use Rattle.ebr_session.specs.inside.Holds.{HasFailed, HasQuit, Holds, IsAnswered, IsLeaving, Parts, Waits, WillAsk, before_last, course_behind, progress, spot}
 use Rattle.ebr_session.proofs.Exchanges.{answers_more, as_many, asks_more, length_more, run_left, run_more, run_quit, run_unquit, same_course, went_on_more}
-use Rattle.ebr_session.proofs.Asking.{awaits_asks, awaits_leave, next_pieces, prefix_same, will_answered, will_ask}
+use Rattle.ebr_session.proofs.Asking.{awaits_asks, awaits_leave, awaits_next, next_pieces, prefix_same, will_answered, will_ask}
 
 -- ---- runs
 
 -- an ask that is out, to which no answer comes
-out_now : (f : Course) (q : Ask) (p : Place) → Asks f q p → f [] None ≡ ended (state_at (record p { asks = p.asks ++ q ∷ [] }) [] None) Out
-out_now f q p h = h.by [] None
+out_now : (f : Course) (q : Ask) (p : Place) → AsksNext f q p → f [] None ≡ ended (state_at (record p { asks = p.asks ++ q ∷ [] }) [] None) Out
+out_now f q p h = h.out
 
 -- it quits
-left_now : (f : Course) (q : Ask) (p : Place) → Asks f q p → (coming : List Answer) → f coming (Some zero) ≡ leaving (state_at p coming (Some zero))
-left_now f q p h coming = h.by coming (Some zero)
+left_now : (f : Course) (q : Ask) (p : Place) → AsksNext f q p → (coming : List Answer) → f coming (Some zero) ≡ leaving (state_at p coming (Some zero))
+left_now f q p h coming = h.left coming
 
 -- an answer that ends it
 ended_now : (f : Course) (q : Ask) (x : Answer) (p : Place) → Asks f q p → stops x ≡ true → f (x ∷ []) None ≡ ended (state_at (record p { asks = p.asks ++ q ∷ [] }) [] None) Ended
 ended_now f q answer.DiskFault p h e = h.by (answer.DiskFault ∷ []) None
-ended_now f q answer.NoMemory p h e = h.by (answer.NoMemory ∷ []) None
 ended_now f q answer.Stopped p h e = h.by (answer.Stopped ∷ []) None
+ended_now f q answer.NoMemory p h e = absurd (true≢false (sym e))
 ended_now f q (answer.View v) p h e = absurd (true≢false (sym e))
 ended_now f q (answer.Rows rows) p h e = absurd (true≢false (sym e))
 ended_now f q (answer.Count n m l) p h e = absurd (true≢false (sym e))
@@ -46,11 +48,28 @@ ended_now f q answer.Done p h e = absurd (true≢false (sym e))
 ended_now f q answer.Invalid p h e = absurd (true≢false (sym e))
 ended_now f q (answer.Refused c m l) p h e = absurd (true≢false (sym e))
 
-pub continues_of : (x : Answer) → stops x ≡ false → Continues x
-continues_of answer.DiskFault e = absurd (true≢false e)
-continues_of answer.NoMemory e = absurd (true≢false e)
-continues_of answer.Stopped e = absurd (true≢false e)
-continues_of x e = tt
+-- none of these answers was that there is no memory
+pub none_short : (mine : List Exchange) → AllContinue (answers mine) → is_short mine ≡ false
+none_short [] h = refl
+none_short (e ∷ mine) h = ap (λ b. b || is_short mine) (goes e.answer h.0) ∙ none_short mine h.1
+  where
+    goes : (x : Answer) → Continues x → wants x ≡ false
+    goes answer.DiskFault c = absurd c
+    goes answer.NoMemory c = absurd c
+    goes answer.Stopped c = absurd c
+    goes x c = refl
+
+-- the last one was
+pub last_short : (mine before : List Exchange) (q : Ask) → mine ≡ before ++ exchange q answer.NoMemory ∷ [] → is_short mine ≡ true
+last_short mine before q e = ap is_short e ∙ last before
+  where
+    last : (before : List Exchange) → is_short (before ++ exchange q answer.NoMemory ∷ []) ≡ true
+    last [] = refl
+    last (x ∷ before) = either (wants x.answer) (is_short (before ++ exchange q answer.NoMemory ∷ [])) (last before)
+      where
+        either : (a b : Bool) → b ≡ true → (a || b) ≡ true
+        either true b e = refl
+        either false b e = e
 
 pub stays_of : (q : Ask) (x : Answer) → ends q x ≡ false → Stays q × (stops x ≡ false)
 stays_of ask.Leave x e = absurd (true≢false e)
@@ -105,8 +124,8 @@ module _ {B : Type 0} (serves : B → EditionNo → Book) (s : Parts B) where
   -- ---- it waits
 
   module _ (q : Ask) (h : Waits serves q s) where
-    abbrev will : Asks (course_behind script mine) q (spot mine s)
-    will = awaits_asks serves s.work.stage q (course_behind script mine) (rest_of s.script) (spot mine s) h.awaits
+    abbrev will : AsksNext (course_behind script mine) q (spot mine s)
+    will = awaits_next serves s.work.stage q (course_behind script mine) (rest_of s.script) (spot mine s) h.awaits
 
     out_run : run None ≡ ended (state_at (place (asks mine ++ q ∷ []) s.printed s.work.packages s.work.room) [] None) Out
     out_run = run_unquit script mine ∙ out_now (course_behind script mine) q (spot mine s) will
@@ -115,7 +134,7 @@ module _ {B : Type 0} (serves : B → EditionNo → Book) (s : Parts B) where
     follows_waits = subst (λ k. Follows (record (progress phase.Working (Some q) s) { quit = k })) (sym h.no_quit) (record {
       asked = record { flow_is = ap (λ (o : Outcome). o.flow) out_run; asks_are = ap (λ (o : Outcome). o.state.asks) out_run };
       printed = sym (ap (λ (o : Outcome). o.state.printed) out_run);
-      went_on = (h.went_on, tt);
+      went_on = (inl h.went_on, tt);
     })
 
     pub next_waits : WillAsk (course_behind script mine) (asks mine) s.printed
@@ -133,7 +152,7 @@ module _ {B : Type 0} (serves : B → EditionNo → Book) (s : Parts B) where
   follows_so w still went none = subst (λ k. Follows (record { session = s.session; script = script; transcript = mine; printed = s.printed; quit = k; out = None; ended = false })) (sym none) (record {
     asked = asked_next w;
     printed = (still, printed_part w);
-    went_on = (went, tt);
+    went_on = (inl went, tt);
   })
 
   pub follows_answered : IsAnswered serves s → Follows (progress phase.Working None s)
@@ -141,6 +160,37 @@ module _ {B : Type 0} (serves : B → EditionNo → Book) (s : Parts B) where
 
   pub follows_failed : (out : Option Ask) → HasFailed s → Follows (progress phase.Failed out s)
   follows_failed out h = follows_so h.next h.still h.went_on h.no_quit
+
+  -- ---- it is to leave
+
+  module _ (out : Option Ask) (h : IsLeaving out s) where
+    leaves_run : run None ≡ leaving (state_at h.at [] None)
+    leaves_run = run_unquit script mine ∙ h.goes.by [] None
+
+    leaving_printed : s.printed ≡ (run None).state.printed
+    leaving_printed = sym h.printed_is ∙ sym (ap (λ (o : Outcome). o.state.printed) leaves_run)
+
+    leaving_asks : (run None).state.asks ≡ asks mine ++ ask.Leave ∷ []
+    leaving_asks = ap (λ (o : Outcome). o.state.asks) leaves_run ∙ ap (λ l. l ++ ask.Leave ∷ []) h.asks_are
+
+    -- it asks Leave next
+    pub leaves_on : WillAsk (course_behind script mine) (asks mine) s.printed
+    leaves_on = record { ask = ask.Leave; at = h.at; asks_are = h.asks_are; more = prefix_same s.printed h.at.printed h.printed_is; will = leaves_next (course_behind script mine) h.at h.goes }
+
+    asked_leaving : (o : Option Ask) → IfSome o (λ q. q ≡ ask.Leave) → HasAsked false o (record (progress phase.Leaving o s) { quit = None })
+    asked_leaving None l = (ask.Leave, record { flow_is = ap (λ (o : Outcome). o.flow) leaves_run; asks_are = leaving_asks })
+    asked_leaving (Some q) l = record { flow_is = ap (λ (o : Outcome). o.flow) leaves_run; asks_are = leaving_asks ∙ ap (λ a. asks mine ++ a ∷ []) (sym l) }
+
+    printed_leaving : (o : Option Ask) → HasPrinted None false o (record (progress phase.Leaving o s) { quit = None })
+    printed_leaving None = (h.still, prefix_same s.printed (run None).state.printed (sym leaving_printed))
+    printed_leaving (Some q) = leaving_printed
+
+    pub follows_leaving : Follows (progress phase.Leaving out s)
+    follows_leaving = subst (λ k. Follows (record (progress phase.Leaving out s) { quit = k })) (sym h.no_quit) (record {
+      asked = asked_leaving out h.leave;
+      printed = printed_leaving out;
+      went_on = (inr h.short, tt);
+    })
 
   -- ---- it has quit
 
@@ -173,6 +223,7 @@ pub follows : {B : Type 0} (serves : B → EditionNo → Book) (p : Phase) (out 
 follows serves phase.Working (Some q) s h = follows_waits serves s q h
 follows serves phase.Working None s h = follows_answered serves s h
 follows serves phase.Failed out s h = follows_failed serves s out h
+follows serves phase.Leaving out s h = follows_leaving serves s out h
 follows serves phase.Quitting out s h = follows_quit serves s out h
 follows serves phase.Over out s h = h
 
@@ -192,6 +243,9 @@ module _ {B : Type 0} (serves : B → EditionNo → Book) (s : Parts B) (transcr
   abbrev now : Parts B
   now = record s { transcript = transcript; book = book }
 
+  printed_here_of : Waits serves q s → s.printed ≡ printed_before text (answers (old ++ exchange q x ∷ [])) (length (old ++ exchange q x ∷ []))
+  printed_here_of h = sym (before_more text old (exchange q x) ∙ ap (λ (o : Outcome). o.state.printed) (out_run serves s q h))
+
   -- It goes on.
   module _ (h : Waits serves q s) (room : HasRoom 1 transcript) (suits : Suits serves x book) (stays : Stays q) (goes : Continues x) where
     next_taken : WillAsk (course_behind text (old ++ exchange q x ∷ [])) (asks (old ++ exchange q x ∷ [])) s.printed
@@ -199,14 +253,11 @@ module _ {B : Type 0} (serves : B → EditionNo → Book) (s : Parts B) (transcr
         (subst (λ (made : List Ask). WillAsk (with_answer x (course_behind text old)) made s.printed) (sym (asks_more old (exchange q x)))
         (will_answered serves s.work.stage q x book (course_behind text old) (rest_of s.script) (spot old s) (next_pieces text s.script.left) stays goes suits h.awaits))
 
-    printed_here : s.printed ≡ printed_before text (answers (old ++ exchange q x ∷ [])) (length (old ++ exchange q x ∷ []))
-    printed_here = sym (before_more text old (exchange q x) ∙ ap (λ (o : Outcome). o.state.printed) (out_run serves s q h))
-
     pub goes_on : IsAnswered serves now
     goes_on = record {
       by = inr (record { before = old; last = exchange q x; is = more; suits = suits; awaits = h.awaits });
       next = subst (λ (l : List Exchange). WillAsk (course_behind text l) (asks l) s.printed) (sym more) next_taken;
-      still = subst (λ (l : List Exchange). s.printed ≡ printed_before text (answers l) (length l)) (sym more) printed_here;
+      still = subst (λ (l : List Exchange). s.printed ≡ printed_before text (answers l) (length l)) (sym more) (printed_here_of h);
       went_on = subst (λ (l : List Exchange). AllContinue (answers l)) (sym more) (went_on_more old (exchange q x) h.went_on goes);
       no_quit = h.no_quit;
       room = room;
@@ -215,31 +266,56 @@ module _ {B : Type 0} (serves : B → EditionNo → Book) (s : Parts B) (transcr
   -- It has ended.
   ended_as : (k : Option ℕ) → s.quit ≡ k → (o : Outcome) → SessionRun text (answers (old ++ exchange q x ∷ [])) k ≡ o → o.flow ≡ Ended → o.state.asks ≡ asks old ++ q ∷ []
       → HasPrinted k true None (record { session = s.session; script = text; transcript = old ++ exchange q x ∷ []; printed = s.printed; quit = k; out = None; ended = true })
-      → AllContinue (answers old) → ends q x ≡ true → IfSome k (λ n. (n ≡ length old) × (q ≡ ask.Leave)) → Follows (progress phase.Over None now)
-  ended_as k quit_is o run_is flow made printed went over quits =
+      → GoesBehind old → (is_short old ≡ true → q ≡ ask.Leave) → ends q x ≡ true → IfSome k (λ n. (n ≡ length old) × (q ≡ ask.Leave)) → Follows (progress phase.Over None now)
+  ended_as k quit_is o run_is flow made printed went short over quits =
       subst (λ (l : List Exchange). Follows (record { session = s.session; script = text; transcript = l; printed = s.printed; quit = s.quit; out = None; ended = true })) (sym more)
       (subst (λ (j : Option ℕ). Follows (record { session = s.session; script = text; transcript = old ++ exchange q x ∷ []; printed = s.printed; quit = j; out = None; ended = true })) (sym quit_is)
       (record {
         asked = record { flow_is = ap (λ (r : Outcome). r.flow) run_is ∙ flow; asks_are = ap (λ (r : Outcome). r.state.asks) run_is ∙ (made ∙ sym (asks_more old (exchange q x))) };
         printed = printed;
-        went_on = (exchange q x, record { before = old; is = refl; went_on = went; ends = over; quit = quits });
+        went_on = (exchange q x, record { before = old; is = refl; went_on = went; short = short; ends = over; quit = quits });
       }))
 
   -- where it waited
   ended_run : (h : Waits serves q s) → (o : Outcome) → course_behind text old (x ∷ []) None ≡ o → o.flow ≡ Ended → o.state.asks ≡ asks old ++ q ∷ [] → o.state.printed ≡ s.printed → ends q x ≡ true → Follows (progress phase.Over None now)
   ended_run h o is flow made printed over =
       let r = run_more text old (exchange q x) ∙ is in
-      ended_as None h.no_quit o r flow made (sym (ap (λ (r : Outcome). r.state.printed) r ∙ printed)) h.went_on over tt
+      ended_as None h.no_quit o r flow made (sym (ap (λ (r : Outcome). r.state.printed) r ∙ printed)) (inl h.went_on) (λ e. absurd (true≢false (sym e ∙ none_short old h.went_on))) over tt
 
-  stopped : (h : Waits serves q s) → stops x ≡ true → ends q x ≡ true → Follows (progress phase.Over None now)
-  stopped h e over = ended_run h _ (ended_now (course_behind text old) q x (spot old s) (will serves s q h) e) refl refl refl over
+  stopped : (h : Waits serves q s) → Stays q → stops x ≡ true → ends q x ≡ true → Follows (progress phase.Over None now)
+  stopped h st e over = ended_run h _ (ended_now (course_behind text old) q x (spot old s) (awaits_asks serves s.work.stage q (course_behind text old) (rest_of s.script) (spot old s) st h.awaits) e) refl refl refl over
+
+  -- It was to leave.
+  pub ends_leaving : IsLeaving (Some q) s → Follows (progress phase.Over None now)
+  ends_leaving h =
+      let r = run_more text old (exchange q x) ∙ h.goes.by (x ∷ []) None in
+      let made : h.at.asks ++ ask.Leave ∷ [] ≡ asks old ++ q ∷ [] = ap (λ l. l ++ ask.Leave ∷ []) h.asks_are ∙ ap (λ a. asks old ++ a ∷ []) (sym h.leave) in
+      ended_as None h.no_quit _ r refl made (sym (ap (λ (o : Outcome). o.state.printed) r ∙ h.printed_is)) (inr h.short) (λ e. h.leave) (subst (λ (a : Ask). ends a x ≡ true) (sym h.leave) refl) tt
+
+  -- It is to leave from now on.
+  pub leaves_waits : Waits serves q s → HasRoom 1 transcript → Stays q → x ≡ answer.NoMemory → IsLeaving None now
+  leaves_waits h room st is =
+      let asked = awaits_asks serves s.work.stage q (course_behind text old) (rest_of s.script) (spot old s) st h.awaits in
+      let goes : GoesOn (with_answer x (course_behind text old)) leaving (with_ask q (spot old s)) = subst (λ a. GoesOn (with_answer a (course_behind text old)) leaving (with_ask q (spot old s))) (sym is) (goes_short (course_behind text old) q (spot old s) asked) in
+      record {
+        at = with_ask q (spot old s);
+        goes = subst (λ (l : List Exchange). GoesOn (course_behind text l) leaving (with_ask q (spot old s))) (sym more)
+            (subst (λ (f : Course). GoesOn f leaving (with_ask q (spot old s))) (sym (same_course text old (exchange q x))) goes);
+        asks_are = sym (ap asks more ∙ asks_more old (exchange q x));
+        printed_is = refl;
+        still = subst (λ (l : List Exchange). s.printed ≡ printed_before text (answers l) (length l)) (sym more) (printed_here_of h);
+        short = record { before = old; ask = q; is = more ∙ ap (λ a. old ++ exchange q a ∷ []) is; went_on = h.went_on };
+        no_quit = h.no_quit;
+        leave = tt;
+        room = room;
+      }
 
 pub ends_waits : {B : Type 0} (serves : B → EditionNo → Book) (s : Parts B) (transcript : Kept) (book : Option B) (q : Ask) (x : Answer) → transcript.exchanges ≡ s.transcript.exchanges ++ exchange q x ∷ [] → Waits serves q s → ends q x ≡ true
     → Follows (progress phase.Over None (record s { transcript = transcript; book = book }))
 ends_waits serves s transcript book ask.Leave x more h e =
     let g = awaits_leave serves s.work.stage (course_behind s.script.script s.transcript.exchanges) (rest_of s.script) (spot s.transcript.exchanges s) h.awaits in
     ended_run serves s transcript book ask.Leave x more h _ (g.by (x ∷ []) None) refl refl refl e
-ends_waits serves s transcript book q x more h e = stopped serves s transcript book q x more h e e
+ends_waits serves s transcript book q x more h e = stopped serves s transcript book q x more h tt e e
 
 -- where it had quit
 pub ends_quit : {B : Type 0} (serves : B → EditionNo → Book) (s : Parts B) (transcript : Kept) (book : Option B) (q : Ask) (x : Answer) → transcript.exchanges ≡ s.transcript.exchanges ++ exchange q x ∷ [] → HasQuit (Some q) s
@@ -255,21 +331,28 @@ ends_quit serves s transcript book q x more h =
       record { rest = h.next.more.rest; whole = ap (λ (o : Outcome). o.state.printed) r ∙ h.next.more.whole },
       ap (λ (o : Outcome). o.state.printed) r ∙ sym (printed_next serves s h.next) ∙ ap (Printed text) (sym (first_of mine (exchange q x))),
     )
-    h.went_on (subst (λ (a : Ask). ends a x ≡ true) (sym h.leave) refl) (refl, h.leave)
+    h.went_on (λ e. h.leave) (subst (λ (a : Ask). ends a x ≡ true) (sym h.leave) refl) (refl, h.leave)
 
 -- ---- it quits
 
 pub quits_waits : {B : Type 0} (serves : B → EditionNo → Book) (s : Parts B) (q : Ask) → Waits serves q s → HasRoom 1 s.transcript → HasQuit None (record s { quit = Some (length s.transcript.exchanges) })
-quits_waits serves s q h room = record { next = next_waits serves s q h; least = h.least; went_on = h.went_on; quit_is = refl; leave = tt; room = room }
+quits_waits serves s q h room = record { next = next_waits serves s q h; least = h.least; went_on = inl h.went_on; quit_is = refl; leave = tt; room = room }
 
 pub quits_failed : {B : Type 0} (s : Parts B) → HasFailed s → HasQuit None (record s { quit = Some (length s.transcript.exchanges) })
-quits_failed s h = record { next = h.next; least = prefix_same _ _ h.still; went_on = h.went_on; quit_is = refl; leave = tt; room = h.room }
+quits_failed s h = record { next = h.next; least = prefix_same _ _ h.still; went_on = inl h.went_on; quit_is = refl; leave = tt; room = h.room }
+
+pub quits_leaving : {B : Type 0} (serves : B → EditionNo → Book) (s : Parts B) (out : Option Ask) → IsLeaving out s → HasQuit None (record s { quit = Some (length s.transcript.exchanges) })
+quits_leaving serves s out h = record { next = leaves_on serves s out h; least = prefix_same _ _ h.still; went_on = inr h.short; quit_is = refl; leave = tt; room = h.room }
 
 pub failed_of : {B : Type 0} (serves : B → EditionNo → Book) (s : Parts B) → IsAnswered serves s → HasFailed s
 failed_of serves s h = record { next = h.next; still = h.still; went_on = h.went_on; no_quit = h.no_quit; room = h.room }
 
 pub quits_quit : {B : Type 0} (s : Parts B) (out : Option Ask) → HasQuit out s → HasQuit None (record s { quit = Some (length s.transcript.exchanges) })
 quits_quit s out h = record { next = h.next; least = h.least; went_on = h.went_on; quit_is = refl; leave = tt; room = h.room }
+
+-- Leave is out, where it was to leave.
+pub leaves_out : {B : Type 0} (s : Parts B) (out : Option Ask) → IsLeaving out s → IsLeaving (Some ask.Leave) s
+leaves_out s out h = record { at = h.at; goes = h.goes; asks_are = h.asks_are; printed_is = h.printed_is; still = h.still; short = h.short; no_quit = h.no_quit; leave = refl; room = h.room }
 
 pub leaves_quit : {B : Type 0} (s : Parts B) (out : Option Ask) → HasQuit out s → HasQuit (Some ask.Leave) s
 leaves_quit s out h = record { next = h.next; least = h.least; went_on = h.went_on; quit_is = h.quit_is; leave = refl; room = h.room }

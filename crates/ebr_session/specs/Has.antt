@@ -1,5 +1,6 @@
 -- Where a session stands, as its callers see it, and what it has done by then.
-use Rattle.std.specs.Prelude.{ℕ, zero, suc, ◌≡◌, ◌≤◌, Bool, true, false, List, [], ◌∷◌, ◌++◌, length, map, take, Option, Some, None, IfSome, Result, Ok, Err}
+use Rattle.std.specs.Prelude.{ℕ, zero, suc, ◌≡◌, ◌≤◌, ◌⊎◌, ◌||◌, Bool, true, false, List, [], ◌∷◌, ◌++◌, length, map, take, Option, Some, None, IfSome, is_some, Result, Ok, Err}
+use Rattle.std.specs.List.{list_any}
 use Rattle.ebr_base.specs.declared.clone_in.NoMemory.{NoMemory}
 use Rattle.ebr_base.specs.declared.numbers.EditionNo.{EditionNo}
 use Rattle.ebr_base.specs.declared.numbers.SessionId.{SessionId}
@@ -47,7 +48,6 @@ begun id script = record { session = id; script = script; transcript = []; print
 -- an answer after which a session goes on with nothing
 abbrev pub stops : Answer → Bool
 stops answer.DiskFault = true
-stops answer.NoMemory = true
 stops answer.Stopped = true
 stops x = false
 
@@ -55,6 +55,19 @@ stops x = false
 abbrev pub ends : Ask → Answer → Bool
 ends ask.Leave x = true
 ends q x = stops x
+
+-- an answer behind which a session is to leave
+abbrev pub wants : Answer → Bool
+wants answer.NoMemory = true
+wants x = false
+
+-- one of its exchanges was answered so
+abbrev pub is_short : List Exchange → Bool
+is_short mine = list_any (λ (x : Exchange). wants x.answer) mine
+
+-- It is to leave: it has quit, or was answered that there is no memory.
+abbrev pub is_leaving : Progress → Bool
+is_leaving s = is_some s.quit || is_short s.transcript
 
 -- An answer was taken.
 abbrev pub answered : Option Ask → Answer → Progress → Progress
@@ -92,19 +105,19 @@ pub record IsPrefix (xs ys : List ℕ) : Type 0 where
   pub rest : List ℕ
   pub whole : ys ≡ xs ++ rest
 
--- The next ask is out. A session that has quit leaves, and prints nothing more.
+-- The next ask is out. A session that is to leave does so, and prints nothing more.
 pub record MakesAsk (q : Ask) (old new : Progress) : Type 0 where
   pub goes_on : old.ended ≡ false
   pub is : new ≡ record old { printed = new.printed; out = Some q }
   pub more : IsPrefix old.printed new.printed
-  pub leaves : IfSome old.quit (λ n. (q ≡ ask.Leave) × (new.printed ≡ old.printed))
+  pub leaves : is_leaving old ≡ true → (q ≡ ask.Leave) × (new.printed ≡ old.printed)
   pub fit : IsFit q
 
--- What comes of going on. One that found no memory stays where it was, and one that has quit or ended needs none.
+-- What comes of going on. One that found no memory stays where it was, and one that is to leave or has ended needs none.
 abbrev pub Advances : Result NextAsk NoMemory → Progress → Progress → Type 0
 Advances (Ok (next.Ask q)) old new = MakesAsk q old new
 Advances (Ok next.Done) old new = (old.ended ≡ true) × (new ≡ old)
-Advances (Err e) old new = (old.ended ≡ false) × (old.quit ≡ None) × (new ≡ old)
+Advances (Err e) old new = (old.ended ≡ false) × (is_leaving old ≡ false) × (new ≡ old)
 
 -- ---- what it has done
 
@@ -137,18 +150,30 @@ HasPrinted None false (Some q) s = s.printed ≡ (run_of s).state.printed
 HasPrinted None true out s = s.printed ≡ (run_of s).state.printed
 HasPrinted (Some n) ended out s = IsPrefix (printed_before s.script (answers s.transcript) n) s.printed × IsPrefix s.printed (run_of s).state.printed × ((run_of s).state.printed ≡ Printed s.script (take n (answers s.transcript)))
 
--- The last exchange ended it, and none before; if it quit, that one is Leave.
+-- Its last answer was that there is no memory, and behind those before it went on with its script.
+pub record IsShort (mine : List Exchange) : Type 0 where
+  pub before : List Exchange
+  pub ask : Ask
+  pub is : mine ≡ before ++ exchange ask answer.NoMemory ∷ []
+  pub went_on : AllContinue (answers before)
+
+-- Behind each of its answers it went on with its script, and may have been left without memory by the last one.
+abbrev pub GoesBehind : List Exchange → Type 0
+GoesBehind mine = AllContinue (answers mine) ⊎ IsShort mine
+
+-- The last exchange ended it, and none before. That one is Leave where it quit, or was answered before that there is no memory.
 pub record EndsWith (last : Exchange) (s : Progress) : Type 0 where
   pub before : List Exchange
   pub is : s.transcript ≡ before ++ last ∷ []
-  pub went_on : AllContinue (answers before)
+  pub went_on : GoesBehind before
+  pub short : is_short before ≡ true → last.ask ≡ ask.Leave
   pub ends : ends last.ask last.answer ≡ true
   pub quit : IfSome s.quit (λ n. (n ≡ length before) × (last.ask ≡ ask.Leave))
 
 -- No answer but the last one ended it.
 abbrev pub WentOn : Bool → Progress → Type 0
 WentOn true s = (last : Exchange) × EndsWith last s
-WentOn false s = AllContinue (answers s.transcript) × IfSome s.quit (λ n. n ≡ length s.transcript)
+WentOn false s = GoesBehind s.transcript × IfSome s.quit (λ n. n ≡ length s.transcript)
 
 -- A session's asks, what it printed and its transcript are those of its run with the answers that it took.
 pub record Follows (s : Progress) : Type 0 where

@@ -34,6 +34,8 @@ pub enum Phase {
     Working,
     /// It found no memory.
     Failed,
+    /// It was answered that there is no memory, and Leave is its next ask.
+    Leaving,
     /// It has quit, and Leave is its next ask.
     Quitting,
     /// It has ended.
@@ -98,7 +100,8 @@ impl<B: CodeBook + Drop> Session<B> {
     }
 
     /// Goes on to the next ask, and says it, with room for its answer. Where an ask is out it says that one again. A session
-    /// that has quit asks Leave, and that takes no memory; one that has ended says so. Want of memory leaves it where it stood.
+    /// that has quit, or was answered that there is no memory, asks Leave, and that takes no memory; one that has ended says so. Want
+    /// of memory leaves it where it stood.
     pub fn advance(&mut self) -> Result<NextAsk, NoMemory>
         ensures advances { Advances result self.old self.new }
         ensures follows { Follows self.new }
@@ -123,7 +126,7 @@ impl<B: CodeBook + Drop> Session<B> {
                 }
             },
             Phase::Failed => Err(NoMemory),
-            Phase::Quitting => {
+            Phase::Leaving | Phase::Quitting => {
                 put(&mut self.out, Some(Ask::Leave));
                 Ok(NextAsk::Ask(Ask::Leave))
             }
@@ -140,7 +143,7 @@ impl<B: CodeBook + Drop> Session<B> {
         ensures follows { Follows self.new }
     {
         let ask = mem::replace(&mut self.out, None).unwrap();
-        self.phase = phase_behind(ends(&ask, &a), self.phase);
+        self.phase = phase_behind(ends(&ask, &a), &a, self.phase);
         put(&mut self.book, book);
         self.transcript.push(Exchange { ask, answer: a });
     }
@@ -186,7 +189,7 @@ impl<B: CodeBook + Drop> Session<B> {
         ensures { option_copied result ≡ self.now.out }
     {
         match self.phase {
-            Phase::Working | Phase::Quitting => self.out.as_ref(),
+            Phase::Working | Phase::Leaving | Phase::Quitting => self.out.as_ref(),
             _ => None,
         }
     }
@@ -210,10 +213,23 @@ fn is_over(phase: Phase) -> bool
 }
 
 /// How a session stands behind an answer, that ended it or not.
-fn phase_behind(ended: bool, phase: Phase) -> Phase
-    ensures { result ≡ inside.phase_behind ended phase }
+fn phase_behind(ended: bool, answer: &Answer, phase: Phase) -> Phase
+    ensures { result ≡ inside.phase_behind ended answer.now phase }
 {
-    if ended { Phase::Over } else { phase }
+    if ended {
+        return Phase::Over;
+    }
+    phase_by(answer, phase)
+}
+
+/// How a session stands behind an answer that doesn't end it.
+fn phase_by(answer: &Answer, phase: Phase) -> Phase
+    ensures { result ≡ inside.phase_by answer.now phase }
+{
+    match answer {
+        Answer::NoMemory => Phase::Leaving,
+        _ => phase,
+    }
 }
 
 /// Goes on with the last answer to the next ask: that ask and a copy, with room for its answer. What is printed is added only
@@ -263,8 +279,5 @@ fn ends(ask: &Ask, answer: &Answer) -> bool
 fn stops(answer: &Answer) -> bool
     ensures { result ≡ spec.stops answer.now }
 {
-    matches!(
-        answer,
-        Answer::DiskFault | Answer::NoMemory | Answer::Stopped
-    )
+    matches!(answer, Answer::DiskFault | Answer::Stopped)
 }

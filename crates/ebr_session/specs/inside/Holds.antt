@@ -6,11 +6,14 @@ use Rattle.ebr_asks.specs.declared.ask.Ask.{Ask}
 use Rattle.ebr_asks.specs.declared.ask.Ask.TheVariants as ask
 use Rattle.ebr_asks.specs.declared.entry.Exchange.{Exchange}
 use Rattle.ebr_code.specs.Books.{Book}
-use Rattle.ebr_calls.specs.Courses.{AllContinue, Asks, Course, GoesOn, Place, after, place}
+use Rattle.ebr_asks.specs.declared.answer.Answer.{Answer}
+use Rattle.ebr_asks.specs.declared.answer.Answer.TheVariants as answer
+use Rattle.ebr_calls.specs.Steps.{leaving}
+use Rattle.ebr_calls.specs.Courses.{AllContinue, AsksNext, Course, GoesOn, Place, after, place}
 use Rattle.ebr_session.specs.declared.session.Phase.{Phase}
 use Rattle.ebr_session.specs.declared.session.Phase.TheVariants as phase
 use Rattle.ebr_session.specs.declared.work.Work.{Work}
-use Rattle.ebr_session.specs.Has.{Follows, IsPrefix, Progress, Suits, answers, asks, printed_before}
+use Rattle.ebr_session.specs.Has.{Follows, GoesBehind, IsPrefix, IsShort, Progress, Suits, answers, asks, printed_before}
 use Rattle.ebr_session.specs.Sessions.{SessionRun}
 use Rattle.ebr_session.specs.inside.Kept.{HasRoom, Kept}
 use Rattle.ebr_session.specs.inside.Requests.{Reading, rest_of}
@@ -29,6 +32,7 @@ pub record Parts (B : Type 0) : Type 0 where
 -- the ask that is out; one of a step that failed isn't
 abbrev pub out_of : Phase → Option Ask → Option Ask
 out_of phase.Working out = out
+out_of phase.Leaving out = out
 out_of phase.Quitting out = out
 out_of p out = None
 
@@ -36,9 +40,14 @@ abbrev pub is_over : Phase → Bool
 is_over phase.Over = true
 is_over p = false
 
-abbrev pub phase_behind : Bool → Phase → Phase
-phase_behind true p = phase.Over
-phase_behind false p = p
+-- behind an answer that doesn't end it
+abbrev pub phase_by : Answer → Phase → Phase
+phase_by answer.NoMemory p = phase.Leaving
+phase_by x p = p
+
+abbrev pub phase_behind : Bool → Answer → Phase → Phase
+phase_behind true x p = phase.Over
+phase_behind false x p = phase_by x p
 
 abbrev pub progress : {B : Type 0} → Phase → Option Ask → Parts B → Progress
 progress p out s = record { session = s.session; script = s.script.script; transcript = s.transcript.exchanges; printed = s.printed; quit = s.quit; out = out_of p out; ended = is_over p }
@@ -70,7 +79,7 @@ pub record WillAsk (f : Course) (made : List Ask) (printed : List ℕ) : Type 0 
   pub at : Place
   pub asks_are : at.asks ≡ made
   pub more : IsPrefix printed at.printed
-  pub will : Asks f ask at
+  pub will : AsksNext f ask at
 
 abbrev pub before_last : {B : Type 0} → Parts B → List ℕ
 before_last s = printed_before s.script.script (answers s.transcript.exchanges) (length s.transcript.exchanges)
@@ -100,11 +109,23 @@ pub record HasFailed {B : Type 0} (s : Parts B) : Type 0 where
   pub no_quit : s.quit ≡ None
   pub room : HasRoom 1 s.transcript
 
+-- It was answered that there is no memory, and is to leave.
+pub record IsLeaving {B : Type 0} (out : Option Ask) (s : Parts B) : Type 0 where
+  pub at : Place
+  pub goes : GoesOn (course_behind s.script.script s.transcript.exchanges) leaving at
+  pub asks_are : at.asks ≡ asks s.transcript.exchanges
+  pub printed_is : at.printed ≡ s.printed
+  pub still : s.printed ≡ before_last s
+  pub short : IsShort s.transcript.exchanges
+  pub no_quit : s.quit ≡ None
+  pub leave : IfSome out (λ q. q ≡ ask.Leave)
+  pub room : HasRoom 1 s.transcript
+
 -- It has quit, and is to leave.
 pub record HasQuit {B : Type 0} (out : Option Ask) (s : Parts B) : Type 0 where
   pub next : WillAsk (course_behind s.script.script s.transcript.exchanges) (asks s.transcript.exchanges) s.printed
   pub least : IsPrefix (before_last s) s.printed
-  pub went_on : AllContinue (answers s.transcript.exchanges)
+  pub went_on : GoesBehind s.transcript.exchanges
   pub quit_is : s.quit ≡ Some (length s.transcript.exchanges)
   pub leave : IfSome out (λ q. q ≡ ask.Leave)
   pub room : HasRoom 1 s.transcript
@@ -113,5 +134,6 @@ abbrev pub Holds : {B : Type 0} → (B → EditionNo → Book) → Phase → Opt
 Holds serves phase.Working (Some q) s = Waits serves q s
 Holds serves phase.Working None s = IsAnswered serves s
 Holds serves phase.Failed out s = HasFailed s
+Holds serves phase.Leaving out s = IsLeaving out s
 Holds serves phase.Quitting out s = HasQuit out s
 Holds serves phase.Over out s = Follows (progress phase.Over out s)

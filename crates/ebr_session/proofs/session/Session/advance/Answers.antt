@@ -1,10 +1,11 @@
-use Rattle.std.proofs.Common.{◌∙◌, Option, Some, IfSome, sym, ap, subst}
+use Rattle.std.proofs.Common.{◌≡◌, ◌∙◌, false, Option, Some, IfSome, refl, sym, ap, subst}
+use Rattle.ebr_asks.specs.declared.ask.Ask.TheVariants.{Leave}
 use Rattle.ebr_session.specs.declared.session.Phase.TheVariants as phase
-use Rattle.ebr_session.specs.Has.{Follows, MakesAsk, Progress, Suits}
+use Rattle.ebr_session.specs.Has.{Follows, MakesAsk, Progress, Suits, is_leaving}
 use Rattle.ebr_session.specs.inside.Kept.{last_of}
 use Rattle.ebr_session.specs.inside.Holds.{Holds, Parts, progress}
 use Rattle.ebr_session.proofs.Following.{follows}
-use Rattle.ebr_session.proofs.Advancing.{answered_here, failed_moved, follows_left, makes_ask, suits_last, waits_now}
+use Rattle.ebr_session.proofs.Advancing.{again_fails, answered_here, asks_again, asks_leave, failed_moved, fails_so, follows_left, left_holds, makes_ask, next_fails, still_fails, suits_last, waits_now}
 use Rattle.ebr_session.proofs.session.Session.advance.Goals as goal
 
 pub returns-in_err-clone_in-in-Some-clause-follows : goal.returns-in_err-clone_in-in-Some-clause-follows
@@ -53,5 +54,39 @@ returns-in_ok-ask-in-None-clause-follows g c = follows g.B.CodeBook.answers phas
 pub returns-in-Failed-clause-follows : goal.returns-in-Failed-clause-follows
 returns-in-Failed-clause-follows g c = subst Follows c.self.view_is (follows g.B.CodeBook.answers c.self.inside.phase c.self.inside.out _ c.self.invariant)
 
-pub returns-in-Quitting-clause-follows : goal.returns-in-Quitting-clause-follows
-returns-in-Quitting-clause-follows g c = follows_left g.B.CodeBook.answers c.self.inside.phase c.self.inside.out c.put-in-Quitting.new.place _ c.in-Quitting.is c.put-in-Quitting.ensures c.self.invariant
+pub invariant_of-self-in-Leaving : goal.invariant_of-self-in-Leaving
+invariant_of-self-in-Leaving g c = left_holds g.B.CodeBook.answers c.self.inside.phase c.self.inside.out c.put-in-Leaving.new.place _ c.in-Leaving.is c.put-in-Leaving.ensures c.self.invariant
+
+pub returns-in-Leaving-clause-advances : goal.returns-in-Leaving-clause-advances
+returns-in-Leaving-clause-advances g c =
+    let old : Parts g.row.B.Denot = record { session = c.self.inside.id; script = c.self.inside.script; transcript = c.self.inside.transcript; printed = c.self.inside.printed; quit = c.self.inside.quit; work = c.self.inside.work; book = c.self.inside.book } in
+    subst (λ (p : Progress). MakesAsk Leave p (progress c.self.inside.phase c.put-in-Leaving.new.place old)) c.self.view_is
+    (asks_leave g.B.CodeBook.answers c.self.inside.phase c.self.inside.out c.put-in-Leaving.new.place old c.in-Leaving.is c.put-in-Leaving.ensures c.self.invariant)
+
+pub returns-in-Leaving-clause-follows : goal.returns-in-Leaving-clause-follows
+returns-in-Leaving-clause-follows g c = follows_left g.B.CodeBook.answers c.self.inside.phase c.self.inside.out c.put-in-Leaving.new.place _ c.in-Leaving.is c.put-in-Leaving.ensures c.self.invariant
+
+pub returns-in_err-clone_in-in-Some-clause-advances : goal.returns-in_err-clone_in-in-Some-clause-advances
+returns-in_err-clone_in-in-Some-clause-advances g c =
+    let old : Parts g.row.B.Denot = record { session = c.self.inside.id; script = c.self.inside.script; transcript = c.self.inside.transcript; printed = c.self.inside.printed; quit = c.self.inside.quit; work = c.self.inside.work; book = c.self.inside.book } in
+    fails_so c.from_residual.result _ _ _ c.from_residual.ensures.1
+    (subst (λ (p : Progress). (p.ended ≡ false) × (is_leaving p ≡ false) × (p ≡ p)) c.self.view_is (again_fails g.B.CodeBook.answers c.self.inside.phase c.self.inside.out old _ c.in-Working.is c.in-Some.is c.self.invariant))
+
+pub returns-in_ok-clone_in-in-Some-clause-advances : goal.returns-in_ok-clone_in-in-Some-clause-advances
+returns-in_ok-clone_in-in-Some-clause-advances g c =
+    let old : Parts g.row.B.Denot = record { session = c.self.inside.id; script = c.self.inside.script; transcript = c.self.inside.transcript; printed = c.self.inside.printed; quit = c.self.inside.quit; work = c.self.inside.work; book = c.self.inside.book } in
+    subst (λ q. MakesAsk q c.args.self.now c.args.self.now) (sym c.in_ok-clone_in-in-Some.ensures) (subst (λ (p : Progress). MakesAsk c.in-Some.ask p p) c.self.view_is (asks_again g.B.CodeBook.answers c.self.inside.phase c.self.inside.out old _ c.in-Working.is c.in-Some.is c.self.invariant))
+
+pub returns-in_err-ask-in-None-clause-advances : goal.returns-in_err-ask-in-None-clause-advances
+returns-in_err-ask-in-None-clause-advances g c =
+    let old : Parts g.row.B.Denot = record { session = c.self.inside.id; script = c.self.inside.script; transcript = c.self.inside.transcript; printed = c.self.inside.printed; quit = c.self.inside.quit; work = c.self.inside.work; book = c.self.inside.book } in
+    let e = c.in_err-ask-in-None.ensures in
+    let new : Parts g.row.B.Denot = record { session = c.self.inside.id; script = c.ask_next.new.script; transcript = c.ask_next.new.transcript; printed = c.ask_next.new.printed; quit = c.self.inside.quit; work = c.ask_next.new.work; book = c.replace-book.new.dest } in
+    fails_so c.from_residual-in_err-ask-in-None.result _ _ _ c.from_residual-in_err-ask-in-None.ensures.1
+    (subst (λ (p : Progress). (p.ended ≡ false) × (is_leaving p ≡ false) × (progress phase.Failed c.self.inside.out new ≡ p)) c.self.view_is
+    (next_fails g.B.CodeBook.answers c.self.inside.phase c.self.inside.out old new c.in-Working.is c.in-None.is c.self.invariant refl e.script e.same e.unprinted refl))
+
+pub returns-in-Failed-clause-advances : goal.returns-in-Failed-clause-advances
+returns-in-Failed-clause-advances g c =
+    let old : Parts g.row.B.Denot = record { session = c.self.inside.id; script = c.self.inside.script; transcript = c.self.inside.transcript; printed = c.self.inside.printed; quit = c.self.inside.quit; work = c.self.inside.work; book = c.self.inside.book } in
+    subst (λ (p : Progress). (p.ended ≡ false) × (is_leaving p ≡ false) × (p ≡ p)) c.self.view_is (still_fails g.B.CodeBook.answers c.self.inside.phase c.self.inside.out old c.in-Failed.is c.self.invariant)

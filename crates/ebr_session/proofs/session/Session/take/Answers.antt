@@ -15,7 +15,7 @@ invariant_of-self g c =
     (subst (λ (b : Option g.row.B.Denot). Holds g.B.CodeBook.answers c.phase_behind-self-inside.result None (record old { transcript = c.push.new.self; book = b })) (sym c.put.ensures)
     (taken g.B.CodeBook.answers c.self.inside.phase c.phase_behind-self-inside.result c.self.inside.out old c.push.new.self c.args.book c.unwrap-ask.result c.args.a c.self.invariant
     (sym c.replace.ensures.value ∙ c.unwrap-ask.ensures) (subst (λ (p : Progress). IsSome p.out) (sym c.self.view_is) c.requires.out)
-    (c.phase_behind-self-inside.ensures ∙ ap (λ e. phase_behind e c.self.inside.phase) c.ends.ensures) c.push.ensures.more c.push.ensures.left c.requires.suits))
+    (c.phase_behind-self-inside.ensures ∙ ap (λ e. phase_behind e c.args.a c.self.inside.phase) c.ends.ensures) c.push.ensures.more c.push.ensures.left c.requires.suits))
 
 pub returns-clause-taken : goal.returns-clause-taken
 returns-clause-taken g c =
@@ -24,7 +24,7 @@ returns-clause-taken g c =
     (subst (λ o. progress c.phase_behind-self-inside.result o (record old { transcript = c.push.new.self; book = c.put.new.place }) ≡ answered (out_of c.self.inside.phase c.self.inside.out) c.args.a (progress c.self.inside.phase c.self.inside.out old)) (sym c.replace.ensures.after)
     (taken_view c.self.inside.phase c.phase_behind-self-inside.result c.self.inside.out old c.push.new.self c.put.new.place c.unwrap-ask.result c.args.a
     (sym c.replace.ensures.value ∙ c.unwrap-ask.ensures) (subst (λ (p : Progress). IsSome p.out) (sym c.self.view_is) c.requires.out)
-    (c.phase_behind-self-inside.ensures ∙ ap (λ e. phase_behind e c.self.inside.phase) c.ends.ensures) c.push.ensures.more))
+    (c.phase_behind-self-inside.ensures ∙ ap (λ e. phase_behind e c.args.a c.self.inside.phase) c.ends.ensures) c.push.ensures.more))
 
 pub returns-clause-follows : goal.returns-clause-follows
 returns-clause-follows g c = follows g.B.CodeBook.answers c.phase_behind-self-inside.result c.replace.new.dest _ (invariant_of-self g c)
