@@ -1,11 +1,11 @@
 mod Examples
-mod RecordLemmas
+pub mod RecordLemmas
 mod SessionLemmas
 mod AskLemmas
 mod TableLemmas
 mod AddedLemmas
-mod CatalogueLemmas
-mod DefinedLemmas
+pub mod CatalogueLemmas
+pub mod DefinedLemmas
 mod OutcomeLemmas
 mod DdlLemmas
 mod ReplyLemmas

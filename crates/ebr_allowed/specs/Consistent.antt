@@ -1,5 +1,5 @@
 -- What holds of a database at all times, so that the next record that it makes is allowed.
-use Rattle.std.specs.Prelude.{◌≡◌, ◌++◌, ℕ, true, IfSome, List, [], ◌∷◌, None, length, Some}
+use Rattle.std.specs.Prelude.{◌≡◌, ◌++◌, ℕ, true, IfSome, List, None, length, Some}
 use Rattle.std.specs.List.{AllByRecursion}
 use Rattle.ebr_base.specs.declared.numbers.SessionId.{SessionId}
 use Rattle.ebr_base.specs.declared.table.TableDef.{TableDef}
@@ -15,7 +15,7 @@ use Rattle.ebr_seats.specs.Seats.{stack_to}
 use Rattle.ebr_levels.specs.Keeps.{AreEarly, IsEarly}
 use Rattle.ebr_integrity.specs.Integrity.{IsIntact}
 use Rattle.ebr_core.specs.Asked.{IsFit}
-use Rattle.ebr_core.specs.History.{After, next}
+use Rattle.ebr_core.specs.History.{After, Records}
 use Rattle.ebr_core.specs.Machine.{Build, Reply, lists_of}
 use Rattle.ebr_allowed.specs.Allowed.{AreAllowed}
 
@@ -60,15 +60,10 @@ RepliesAreAllowed = (db : Database) (s : SessionId) (ask : Ask) → IsFit ask �
 abbrev pub AreFit : List Entry → Type 0
 AreFit history = AllByRecursion (λ (x : Entry). IsFit x.ask) history
 
--- the records that the asks of a history make, in order
-abbrev pub RecordsMade : Database → List Entry → List Record
-RecordsMade db [] = []
-RecordsMade db (x ∷ history) = (Reply db x.session x.ask).records ++ RecordsMade (next db x) history
-
 -- Whatever a history asks, the database that it leaves is consistent, and the records stand behind those that there were.
 pub record LeavesConsistent (db : Database) (history : List Entry) : Type 0 where
   pub consistent : IsConsistent (After db history)
-  pub records : (After db history).records ≡ db.records ++ RecordsMade db history
+  pub records : (After db history).records ≡ db.records ++ Records db history
 
 abbrev pub HistoriesAreAllowed : Type 0
 HistoriesAreAllowed = (db : Database) (history : List Entry) → AreFit history → IsConsistent db → LeavesConsistent db history
@@ -76,4 +71,4 @@ HistoriesAreAllowed = (db : Database) (history : List Entry) → AreFit history 
 -- What a stop leaves of all these records, the first of them, is allowed, so a database is made of it again.
 abbrev pub FirstRecordsAreAllowed : Type 0
 FirstRecordsAreAllowed = (recovered : List Record) (n : ℕ) (history : List Entry) (kept more : List Record) → AreAllowed recovered → AreFit history
-    → recovered ++ RecordsMade (Build recovered n) history ≡ kept ++ more → AreAllowed kept
+    → recovered ++ Records (Build recovered n) history ≡ kept ++ more → AreAllowed kept

@@ -154,14 +154,14 @@ one_more s d new good few h =
       each = All-push IsTable s.living t h.each (kept-is (next_id s) d good few);
     }
 
-one_wider : (s : AllTables) (name : List ℕ) (c : column.Column) → add_refusal (table_named name s.living) c ≡ None → AreAllowed s → AreAllowed (with_column s name c)
+pub one_wider : (s : AllTables) (name : List ℕ) (c : column.Column) → add_refusal (table_named name s.living) c ≡ None → AreAllowed s → AreAllowed (with_column s name c)
 one_wider s name c none h = record {
   names = distinct-map (widened_if name c) s.living (same_name name c) ∙ h.names;
   ids = ascend-map s.made (widened_if name c) 0 s.living (same_id name c) h.ids;
   each = each_widened name c s.living h.names none h.each;
 }
 
-one_less : (s : AllTables) (name : List ℕ) → AreAllowed s → AreAllowed (without_table s name)
+pub one_less : (s : AllTables) (name : List ℕ) → AreAllowed s → AreAllowed (without_table s name)
 one_less s name h = record {
   names = distinct-filter (λ t. not (has name t)) s.living h.names;
   ids = ascend-filter s.made (λ t. not (has name t)) 0 s.living h.ids;

@@ -14,7 +14,7 @@ use Rattle.ebr_core.specs.Engine.{AnswersAsk, EngineState, Gives, database_of, e
 use Rattle.ebr_core.specs.History.{After, edition_of, next}
 use Rattle.ebr_core.specs.Machine.{Build, Reply}
 use Rattle.ebr_core.proofs.Books.{as_many}
-use Rattle.ebr_core.proofs.Histories.{After-append}
+use Rattle.ebr_core.proofs.Histories.{After-append, next_made}
 use Rattle.ebr_core.proofs.ReplyApart.{reply_alike}
 
 -- where it is the reply, and leaves the database that the reply leaves
@@ -32,13 +32,13 @@ module _ {K : Type 0} (as_keeper : K → Keeper) (old new : EngineState K) (s : 
   behind : (x : Entry) → new.history ≡ old.history ++ x ∷ [] → new.recovered ≡ old.recovered → length new.books ≡ length old.books → database_of new ≡ next (database_of old) x
   behind x entry recovered books = (λ i. After (Build (recovered i) (books i)) new.history) ∙ ap (After (first_of old)) entry ∙ After-append (first_of old) old.history x
 
-  by_answer : (given_up : Bool) (a : Answer) → new.history ≡ old.history ++ entry_of s q a ∷ [] → new.recovered ≡ old.recovered → length new.books ≡ length old.books → Gives as_keeper given_up old.keeper new.keeper a (Reply (database_of old) s q)
+  by_answer : (given_up : Bool) (a : Answer) → new.history ≡ old.history ++ entry_of s q a ∷ [] → new.recovered ≡ old.recovered → length new.books ≡ length old.books → Gives as_keeper given_up old.keeper new.keeper q a (Reply (database_of old) s q)
       → IsApart (database_of old) s q a (database_of new)
   by_answer true a entry recovered books g = subst (λ y. IsApart (database_of old) s q y (database_of new)) (sym g.0) tt
   by_answer false answer.DiskFault entry recovered books g = tt
   by_answer false answer.NoMemory entry recovered books g = tt
   by_answer false answer.Stopped entry recovered books g = absurd g
-  by_answer false a entry recovered books g = replied_apart (database_of old) s q a (database_of new) g.0 (behind (entry_of s q a) entry recovered books)
+  by_answer false a entry recovered books g = replied_apart (database_of old) s q a (database_of new) g.0 (behind (entry_of s q a) entry recovered books ∙ next_made (database_of old) (entry_of s q a) refl)
 
   pub answer_apart : (a : Answer) → AnswersAsk as_keeper old new s q a → IsApart (database_of old) s q a (database_of new)
   answer_apart a h = by_answer (has_given_up old.history) a h.entry h.recovered (ap (λ (bs : List (Option EditionView)). length bs) h.books ∙ as_many old.books s.0 h.book) h.gives

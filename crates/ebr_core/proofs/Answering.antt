@@ -1,7 +1,7 @@
 -- What an answer leaves of the engine's parts.
-use Rattle.std.proofs.Common.{◌≡◌, ◌≢◌, ◌-◌, ◌+◌, ◌<◌, ◌≤◌, Bool, true, false, List, [], ◌∷◌, ◌++◌, length, refl, sym, ap, subst, ◌∙◌, append-nil, Vec, Global, arith}
+use Rattle.std.proofs.Common.{◌≡◌, ◌≢◌, ◌-◌, ◌+◌, ◌<◌, ◌≤◌, Bool, true, false, ◌&&◌, List, [], ◌∷◌, ◌++◌, length, refl, sym, ap, subst, ◌∙◌, append-nil, Vec, Global, arith}
 use Rattle.std.proofs.lemmas.Result.{err_from_is_err_and}
-use Rattle.std.specs.Prelude.{◌↔◌, IsErrAnd, IsTrue, Option, Some, None, IsSome, is_some, Result, Ok, Err, slice_set, vec_len, vec_capacity}
+use Rattle.std.specs.Prelude.{◌↔◌, not, IsErrAnd, IsTrue, Option, Some, None, IsSome, is_some, Result, Ok, Err, slice_set, vec_len, vec_capacity}
 use Rattle.ebr_base.specs.declared.numbers.EditionNo.{EditionNo}
 use Rattle.ebr_base.specs.declared.numbers.SessionId.{SessionId}
 use Rattle.ebr_ast.specs.declared.view.EditionView.{EditionView}
@@ -16,18 +16,20 @@ use Rattle.ebr_database.specs.declared.failure.Halt.{Halt}
 use Rattle.ebr_database.specs.declared.failure.Halt.TheVariants as why
 use Rattle.ebr_database.specs.Database.{Session, Database, Replied, session_at}
 use Rattle.ebr_database.specs.Shows.{Grew, GaveUp}
-use Rattle.ebr_database.proofs.Keeping.{kept_stops, stays}
+use Rattle.ebr_database.proofs.Keeping.{grew_same, stays}
 use Rattle.ebr_units.specs.Served.{served}
 use Rattle.ebr_core.specs.declared.current.Current.{Current}
 use Rattle.ebr_core.specs.declared.parts.Parts.{Parts}
 use Rattle.ebr_core.specs.Machine.{Build, Reply}
-use Rattle.ebr_core.specs.History.{After, AllStopped, IsLive, Legal, edition_of, next, session_edition}
-use Rattle.ebr_core.specs.Engine.{AnswersAsk, Gives, HasBook, HasLegalHistory, IsAnswer, database_of, entry_of, has_given_up, is_last}
-use Rattle.ebr_core.specs.inside.Held.{ComesWith, Holds, IsHeld, IsReplied}
-use Rattle.ebr_core.specs.inside.Parts.{Adds, Copies, GivesUp, Tries, HasRoom, HasStopped, IsSound, Keeps, Runs, Stands, database, entry, first, last_answer, live_count, lives, lives_at, state_of}
+use Rattle.ebr_core.specs.History.{After, AllStopped, IsLive, Legal, edition_of, is_idle, is_light, is_short, next, session_edition, wants}
+use Rattle.ebr_core.specs.Engine as told
+use Rattle.ebr_core.specs.Engine.{AnswersAsk, Gives, HasBook, HasLegalHistory, IsAnswer, database_of, entry_of, gives_up, has_given_up, is_last}
+use Rattle.ebr_core.specs.inside.Held.{ComesWith, Fails, Holds, IsHeld, IsReplied, IsUntouched, Tries}
+use Rattle.ebr_core.specs.inside.Parts.{Adds, GivesUp, HasRoom, HasStopped, IsSound, Keeps, Runs, Stands, database, entry, first, last_answer, live_count, lives, lives_at, room_needed, state_of}
+use Rattle.ebr_core.proofs.Rooms.{needs_least, needs_leave, needs_more, needs_most, needs_short}
 use Rattle.ebr_core.proofs.Books.{length_set, placed}
-use Rattle.ebr_core.proofs.Lives.{Replies, Suits, at_there, count_most, lives_is, lives_left, one_left, other_lives, reply_suits, within}
-use Rattle.ebr_core.proofs.Histories.{After-append, gives_up, given_up_before, given_up_now, goes_on, is_stopped, never_given_up}
+use Rattle.ebr_core.proofs.Lives.{Replies, Suits, at_there, lives_is, lives_left, one_left, other_lives, reply_suits, within}
+use Rattle.ebr_core.proofs.Histories.{After-append, gave_up, given_up_before, given_up_now, goes_on, idle_goes, is_stopped, never_given_up, next_idle, next_made, no_last, not_idle, passes_by}
 
 -- ---- a live session
 
@@ -75,6 +77,15 @@ is_answer ask answer.NoMemory r old new h same grew = absurd h
 is_answer ask answer.Stopped r old new h same grew = absurd h
 is_answer ask a r old new h same grew = (same, grew)
 
+-- so it is of what comes of the ask
+replies_so : (ask : Ask) (a : Answer) (r : Replied) (old new : Keeper) → Replies ask a → a ≡ r.answer → Grew old new r.records → told.Replies (wants a && is_light ask) a r old new
+replies_so ask a r old new h same grew = subst (λ b. told.Replies b a r old new) (sym (no_idle a (is_no_last ask a h))) (is_answer ask a r old new h same grew)
+  where
+    no_idle : (a : Answer) → is_last a ≡ false → (wants a && is_light ask) ≡ false
+    no_idle answer.DiskFault last = refl
+    no_idle answer.NoMemory last = cc
+    no_idle a last = refl
+
 with_code : (v : EditionView) → HasCodeOf v (served v)
 with_code v = record { unit = λ key. refl; stamp = λ key. refl; objects = refl }
 
@@ -83,12 +94,6 @@ has_book Begin (answer.View v) book h comes = (comes.0, comes.1, with_code v)
 has_book Begin a book h comes = comes
 has_book ask (answer.View v) book h comes = absurd h
 has_book ask a book h comes = comes
-
--- the answer with which it gives up, where the keeper hadn't stopped
-last_is : (why : Halt) → is_last (last_answer why) ≡ true
-last_is why.DiskFault = refl
-last_is why.Stopped = refl
-last_is why.NoMemory = refl
 
 last_entry : (s : SessionId) (ask : Ask) (why : Halt) → entry s ask (last_answer why) ≡ entry_of s ask (last_answer why)
 last_entry s ask why.DiskFault = refl
@@ -100,6 +105,19 @@ last_book why.DiskFault = refl
 last_book why.Stopped = refl
 last_book why.NoMemory = refl
 
+-- the answer with which it gives up, where the keeper hadn't stopped, of an ask that isn't light
+replies_last : (ask : Ask) (why : Halt) (r : Replied) (old new : Keeper) → is_light ask ≡ false → IsAnswer (last_answer why) r old new → told.Replies (wants (last_answer why) && is_light ask) (last_answer why) r old new
+replies_last ask why r old new heavy h = subst (λ b. told.Replies (wants (last_answer why) && b) (last_answer why) r old new) (sym heavy) (subst (λ b. told.Replies b (last_answer why) r old new) (sym (and_false (wants (last_answer why)))) h)
+  where
+    and_false : (b : Bool) → (b && false) ≡ false
+    and_false true = refl
+    and_false false = refl
+
+last_gives : (why : Halt) → (is_last (last_answer why) && not (wants (last_answer why) && false)) ≡ true
+last_gives why.DiskFault = refl
+last_gives why.Stopped = refl
+last_gives why.NoMemory = refl
+
 is_last_answer : (why : Halt) (r : Replied) (old new : Keeper) → old.stopped ≡ false → GaveUp old new r.records why → IsAnswer (last_answer why) r old new
 is_last_answer why.DiskFault r old new goes g = g
 is_last_answer why.Stopped r old new goes g = absurd (differ (sym goes ∙ g.cause))
@@ -109,17 +127,15 @@ is_last_answer why.Stopped r old new goes g = absurd (differ (sym goes ∙ g.cau
 is_last_answer why.NoMemory r old new goes g = g
 
 module _ {K : Type 0} (as_keeper : K → Keeper) where
-  -- a reply with a copy of its answer, or without memory for one
-  pub tried : (old new : Current K) (given : Answer × Option EditionView) (result : Result ((Answer × Option EditionView) × Answer) Halt) (r : Replied) → IsReplied as_keeper old new given.0 r → Copies given result → Tries as_keeper old new result r
-  tried old new given (Ok pair) r h c = (subst (λ (g : Answer × Option EditionView). IsReplied as_keeper old new g.0 r) (sym c.0) h, c.1 ∙ ap (λ (g : Answer × Option EditionView). g.0) (sym c.0))
-  tried old new given (Err why) r h c = subst (GaveUp (as_keeper old.world.keeper) (as_keeper new.world.keeper) r.records) (sym c) (kept_stops (as_keeper old.world.keeper) (as_keeper new.world.keeper) r.records h.grew)
-
   -- there was no room for an entry
-  pub not_tried : (old new : Current K) (r : Replied) → new ≡ old → (result : Result ((Answer × Option EditionView) × Answer) Halt) → IsErrAnd result (λ w. w ≡ why.NoMemory) → Tries as_keeper old new result r
-  not_tried old new r same result none =
+  pub not_tried : (light : Bool) (old new : Current K) (db : Database) (r : Replied) → new ≡ old → Holds as_keeper old db → (result : Result ((Answer × Option EditionView) × Answer) Halt) → IsErrAnd result (λ w. w ≡ why.NoMemory) → Tries as_keeper light old new db result r
+  not_tried light old new db r same held result none =
       let p = err_from_is_err_and result none in
-      subst (λ x. Tries as_keeper old new x r) (sym (p.1 ∙ ap (λ w. Err w) p.2))
-      (subst (λ (c : Current K). GaveUp (as_keeper old.world.keeper) (as_keeper c.world.keeper) r.records why.NoMemory) (sym same) (stays (as_keeper old.world.keeper) r.records))
+      subst (λ x. Tries as_keeper light old new db x r) (sym (p.1 ∙ ap (λ w. Err w) p.2)) (subst (λ (c : Current K). Fails as_keeper light old c db r.records why.NoMemory) (sym same) (by light))
+    where
+      by : (light : Bool) → Fails as_keeper light old old db r.records why.NoMemory
+      by true = record { holds = held; grew = grew_same (as_keeper old.world.keeper) }
+      by false = stays (as_keeper old.world.keeper) r.records
 
   -- the history is legal at any time
   pub legal_now : (p : Parts K) → IsSound as_keeper p → HasLegalHistory (state_of as_keeper p)
@@ -132,7 +148,7 @@ module _ {K : Type 0} (as_keeper : K → Keeper) where
   -- a book was set aside, or taken
   pub sound_on : (p : Parts K) (books : Vec (Option EditionView) Global) → length books.items ≡ length p.books.items → IsSound as_keeper p → IsSound as_keeper (record p { books = books })
   sound_on p books same h = record {
-    living = subst (λ n. p.living.items ≡ lives (After (Build [] n) p.history.items)) (sym same) h.living;
+    living = subst (λ n. p.living.items ≡ lives (After (Build p.recovered n) p.history.items)) (sym same) h.living;
     books = same ∙ h.books;
     stopped = h.stopped;
     stands = by p.stopped h.stands;
@@ -140,13 +156,13 @@ module _ {K : Type 0} (as_keeper : K → Keeper) where
     where
       by : (b : Bool) → Stands as_keeper b p → Stands as_keeper b (record p { books = books })
       by false r = record {
-        legal = subst (λ n. (more : List Entry) → Legal (After (Build [] n) p.history.items) more → Legal (Build [] n) (p.history.items ++ more)) (sym same) r.legal;
-        holds = subst (λ n. Holds as_keeper p.current (After (Build [] n) p.history.items)) (sym same) r.holds;
+        legal = subst (λ n. (more : List Entry) → Legal (After (Build p.recovered n) p.history.items) more → Legal (Build p.recovered n) (p.history.items ++ more)) (sym same) r.legal;
+        holds = subst (λ n. Holds as_keeper p.current (After (Build p.recovered n) p.history.items)) (sym same) r.holds;
         goes = r.goes;
         room = r.room;
       }
       by true r = record {
-        legal = subst (λ n. (more : List Entry) → AllStopped (After (Build [] n) p.history.items) more → Legal (Build [] n) (p.history.items ++ more)) (sym same) r.legal;
+        legal = subst (λ n. (more : List Entry) → AllStopped (After (Build p.recovered n) p.history.items) more → Legal (Build p.recovered n) (p.history.items ++ more)) (sym same) r.legal;
         room = r.room;
       }
 
@@ -162,6 +178,14 @@ module _ {K : Type 0} (as_keeper : K → Keeper) where
 true_false : true ≡ false → ⊥
 true_false e = cc
 
+-- one that was answered that there is no memory asks Leave alone
+pub not_short : (h : List Entry) (s : SessionId) (ask : Ask) → ask ≢ Leave → (is_short h s ≡ true → ask ≡ Leave) → is_short h s ≡ false
+not_short h s ask stays short = by (is_short h s) refl
+  where
+    by : (b : Bool) → is_short h s ≡ b → is_short h s ≡ false
+    by true is = absurd (stays (short is))
+    by false is = is
+
 -- ---- the parts with one entry more
 
 module _ {K : Type 0} (as_keeper : K → Keeper) where
@@ -169,6 +193,7 @@ module _ {K : Type 0} (as_keeper : K → Keeper) where
     pub entry : new.history.items ≡ old.history.items ++ x ∷ []
     pub books : new.books.items ≡ slice_set old.books.items (s.0 - 1) book
     pub living_is : new.living.items ≡ living
+    pub recovered : new.recovered ≡ old.recovered
 
   module _ (old : Parts K) (s : SessionId) (h : IsSound as_keeper old) (live : IsLive (database as_keeper old) s) where
     abbrev pub db : Database
@@ -181,7 +206,11 @@ module _ {K : Type 0} (as_keeper : K → Keeper) where
     lives_s = ap (λ bs. lives_at bs s.0) h.living ∙ at_there db.sessions s.0 at.session at.there ∙ ap is_some at.is_in
 
     enough : (b : Bool) → Stands as_keeper b old → vec_len old.history < vec_capacity old.history
-    enough false r = let e = one_left old.living.items s.0 lives_s in let m = r.room in omega (arith, e, m)
+    enough false r =
+        let e = one_left old.living.items s.0 lives_s in
+        let n = needs_least (λ n. is_short old.history.items (record { 0 = n })) 1 old.living.items in
+        let m = r.room in
+        omega (arith, e, n, m)
     enough true r = let e = one_left old.living.items s.0 lives_s in let m = r.room in omega (arith, e, m)
 
     first_place : 1 ≤ s.0
@@ -206,8 +235,11 @@ module _ {K : Type 0} (as_keeper : K → Keeper) where
       as_many_books : length new.books.items ≡ length old.books.items
       as_many_books = ap (λ (bs : List (Option EditionView)). length bs) a.books ∙ length_set old.books.items (s.0 - 1) book
 
+      same_first : first as_keeper new ≡ first as_keeper old
+      same_first = λ i. Build (a.recovered i) (as_many_books i)
+
       after : database as_keeper new ≡ next db x
-      after = ap (λ n. After (Build [] n) new.history.items) as_many_books ∙ ap (After (first as_keeper old)) a.entry ∙ After-append (first as_keeper old) old.history.items x
+      after = ap (λ d. After d new.history.items) same_first ∙ ap (After (first as_keeper old)) a.entry ∙ After-append (first as_keeper old) old.history.items x
 
       books_len : length new.books.items ≡ length new.living.items
       books_len = as_many_books ∙ h.books ∙ sym same_len
@@ -215,7 +247,7 @@ module _ {K : Type 0} (as_keeper : K → Keeper) where
       legal_on : (P : Database → List Entry → Type 0) → ((more : List Entry) → P (next db x) more → Legal (first as_keeper old) ((old.history.items ++ x ∷ []) ++ more))
           → (more : List Entry) → P (database as_keeper new) more → Legal (first as_keeper new) (new.history.items ++ more)
       legal_on P f more p =
-          subst (λ n. Legal (Build [] n) (new.history.items ++ more)) (sym as_many_books)
+          subst (λ d. Legal d (new.history.items ++ more)) (sym same_first)
           (subst (λ es. Legal (first as_keeper old) (es ++ more)) (sym a.entry) (f more (subst (λ d. P d more) after p)))
 
       whole : (P : Database → List Entry → Type 0) → ((more : List Entry) → P (database as_keeper new) more → Legal (first as_keeper new) (new.history.items ++ more)) → P (database as_keeper new) [] → HasLegalHistory (state_of as_keeper new)
@@ -231,11 +263,11 @@ module _ {K : Type 0} (as_keeper : K → Keeper) where
       answers_by : (ask : Ask) (y : Answer) → x ≡ entry_of s ask y → IsSound as_keeper new → ((r : SessionId) → (r.0 ≡ s.0 → ⊥) → lives_at old.living.items r.0 ≡ true → lives_at living r.0 ≡ true)
           → (y ≢ answer.Stopped → ask ≢ Leave → lives_at living s.0 ≡ true) → HasLegalHistory (state_of as_keeper new) → HasBook y book
           → (ask ≡ Leave → has_given_up old.history.items ≡ false → y ≡ answer.Done)
-          → Gives as_keeper (has_given_up old.history.items) old.current.world.keeper new.current.world.keeper y (Reply db s ask) → AnswersAsk as_keeper (state_of as_keeper old) (state_of as_keeper new) s ask y
+          → Gives as_keeper (has_given_up old.history.items) old.current.world.keeper new.current.world.keeper ask y (Reply db s ask) → AnswersAsk as_keeper (state_of as_keeper old) (state_of as_keeper new) s ask y
       answers_by ask y same sound others stays legal has leaves gives = record {
         entry = a.entry ∙ ap (λ e. old.history.items ++ e ∷ []) same;
         legal = legal;
-        recovered = refl;
+        recovered = a.recovered;
         book = book;
         books = a.books ∙ placed old.books.items s.0 book first_place;
         has_book = has;
@@ -246,7 +278,7 @@ module _ {K : Type 0} (as_keeper : K → Keeper) where
       }
 
     entered : (new : Parts K) (x : Entry) (book : Option EditionView) (living : List Bool) → Adds as_keeper old new s x book living → Entered old new s x book living
-    entered new x book living a = record { entry = a.entry; books = a.books; living_is = a.living_is }
+    entered new x book living a = record { entry = a.entry; books = a.books; living_is = a.living_is; recovered = a.recovered }
 
     -- the room that was made before
     pub room_on : (mid : Parts K) → Keeps as_keeper old mid → HasRoom as_keeper mid s
@@ -260,6 +292,13 @@ module _ {K : Type 0} (as_keeper : K → Keeper) where
 
     -- ---- once it has stopped
 
+    heavy_leave : (y : Answer) → (wants y && is_light Leave) ≡ false
+    heavy_leave y = and_false (wants y)
+      where
+        and_false : (b : Bool) → (b && false) ≡ false
+        and_false true = refl
+        and_false false = refl
+
     left_len : length (slice_set old.living.items (s.0 - 1) false) ≡ length old.living.items
     left_len = length_set old.living.items (s.0 - 1) false
 
@@ -269,7 +308,7 @@ module _ {K : Type 0} (as_keeper : K → Keeper) where
     left_lives : (new : Parts K) (y : Answer) (a : Adds as_keeper old new s (entry s Leave y) None (slice_set old.living.items (s.0 - 1) false)) → new.living.items ≡ lives (database as_keeper new)
     left_lives new y a =
         a.living_is ∙ ap (λ bs. slice_set bs (s.0 - 1) false) h.living ∙ sym (lives_left db s at.edition at.session at.there at.is_in)
-        ∙ ap lives (sym (after new (entry s Leave y) None _ (entered new _ None _ a) left_len))
+        ∙ ap lives (sym (after new (entry s Leave y) None _ (entered new _ None _ a) left_len ∙ next_made db (entry s Leave y) (heavy_leave y)))
 
     module _ (new : Parts K) (a : Adds as_keeper old new s (entry s Leave answer.Stopped) None (slice_set old.living.items (s.0 - 1) false)) (current : new.current ≡ old.current) (is : old.stopped ≡ true) where
       abbrev es : Entered old new s (entry s Leave answer.Stopped) None (slice_set old.living.items (s.0 - 1) false)
@@ -299,7 +338,7 @@ module _ {K : Type 0} (as_keeper : K → Keeper) where
       pub stop_answers : (ask : Ask) (y : Answer) → y ≡ answer.Stopped → AnswersAsk as_keeper (state_of as_keeper old) (state_of as_keeper new) s ask y
       stop_answers ask y same = subst (λ y. AnswersAsk as_keeper (state_of as_keeper old) (state_of as_keeper new) s ask y) (sym same)
           (answers_by new _ None _ es left_len ask answer.Stopped refl stop_sound left_others (λ y' stays. absurd (y' refl)) (whole new _ None _ es left_len AllStopped stays_stopped.legal tt) refl (λ q gave. absurd (true_false (sym (given_before true is) ∙ gave)))
-          (subst (λ b. Gives as_keeper b old.current.world.keeper new.current.world.keeper answer.Stopped (Reply db s ask)) (sym (given_before true is))
+          (subst (λ b. Gives as_keeper b old.current.world.keeper new.current.world.keeper ask answer.Stopped (Reply db s ask)) (sym (given_before true is))
           (refl, ap (λ (c : Current K). c.world.keeper) current)))
 
     -- ---- it runs
@@ -307,7 +346,7 @@ module _ {K : Type 0} (as_keeper : K → Keeper) where
     module _ (new : Parts K) (is : old.stopped ≡ false) where
       module _ (ask : Ask) (y : Answer) (book : Option EditionView) (living : List Bool) (e : Entered old new s (entry s ask y) book living) (len : length living ≡ length old.living.items)
           (r : IsReplied as_keeper old.current new.current y (Reply db s ask)) (last : is_last y ≡ false)
-          (room : vec_len new.history + live_count new.living.items + 1 ≤ vec_capacity new.history)
+          (room : vec_len new.history + room_needed new.history.items new.living.items ≤ vec_capacity new.history)
           (stopped : new.stopped ≡ old.stopped) (lives_new : living ≡ lives (Reply db s ask).database) where
         goes_legal : (more : List Entry) → Legal (database as_keeper new) more → Legal (first as_keeper new) (new.history.items ++ more)
         goes_legal = legal_on new _ book living e len Legal (goes_on (first as_keeper old) old.history.items (entry s ask y) live (runs is).legal last r.answer)
@@ -315,33 +354,33 @@ module _ {K : Type 0} (as_keeper : K → Keeper) where
         runs_on : Runs as_keeper new
         runs_on = record {
           legal = goes_legal;
-          holds = subst (Holds as_keeper new.current) (sym (after new _ book living e len)) r.holds;
+          holds = subst (Holds as_keeper new.current) (sym (after new _ book living e len ∙ next_made db (entry s ask y) (not_idle (entry s ask y) last))) r.holds;
           goes = r.grew.stopped ∙ (runs is).goes;
           room = room;
         }
 
         pub reply_sound : IsSound as_keeper new
         reply_sound = record {
-          living = e.living_is ∙ lives_new ∙ ap lives (sym (after new _ book living e len));
+          living = e.living_is ∙ lives_new ∙ ap lives (sym (after new _ book living e len ∙ next_made db (entry s ask y) (not_idle (entry s ask y) last)));
           books = books_len new _ book living e len;
-          stopped = stopped ∙ is ∙ sym (never_given_up old.history.items (entry s ask y) (given_before false is) last) ∙ ap has_given_up (sym e.entry);
+          stopped = stopped ∙ is ∙ sym (never_given_up old.history.items (entry s ask y) (given_before false is) (no_last (entry s ask y) last)) ∙ ap has_given_up (sym e.entry);
           stands = subst (λ b. Stands as_keeper b new) (sym (stopped ∙ is)) runs_on;
         }
 
         pub reply_answers : ((r : SessionId) → (r.0 ≡ s.0 → ⊥) → lives_at old.living.items r.0 ≡ true → lives_at living r.0 ≡ true) → (y ≢ answer.Stopped → ask ≢ Leave → lives_at living s.0 ≡ true)
-            → entry s ask y ≡ entry_of s ask y → HasBook y book → (ask ≡ Leave → has_given_up old.history.items ≡ false → y ≡ answer.Done) → IsAnswer y (Reply db s ask) (as_keeper old.current.world.keeper) (as_keeper new.current.world.keeper)
+            → entry s ask y ≡ entry_of s ask y → HasBook y book → (ask ≡ Leave → has_given_up old.history.items ≡ false → y ≡ answer.Done) → told.Replies (wants y && is_light ask) y (Reply db s ask) (as_keeper old.current.world.keeper) (as_keeper new.current.world.keeper)
             → AnswersAsk as_keeper (state_of as_keeper old) (state_of as_keeper new) s ask y
         reply_answers others stays same has leaves answers =
             answers_by new _ book living e len ask y same reply_sound others stays (whole new _ book living e len Legal goes_legal tt) has leaves
-            (subst (λ b. Gives as_keeper b old.current.world.keeper new.current.world.keeper y (Reply db s ask)) (sym (given_before false is)) answers)
+            (subst (λ b. Gives as_keeper b old.current.world.keeper new.current.world.keeper ask y (Reply db s ask)) (sym (given_before false is)) answers)
 
       -- a session leaves
       module _ (a : Adds as_keeper old new s (entry s Leave answer.Done) None (slice_set old.living.items (s.0 - 1) false)) (r : IsReplied as_keeper old.current new.current answer.Done (Reply db s Leave)) where
-        left_room : vec_len new.history + live_count new.living.items + 1 ≤ vec_capacity new.history
+        left_room : vec_len new.history + room_needed new.history.items new.living.items ≤ vec_capacity new.history
         left_room =
-            let e = one_left old.living.items s.0 lives_s in
+            let e = needs_leave old.history.items (entry s Leave answer.Done) old.living.items s refl lives_s refl in
             let m = (runs is).room in
-            let c : live_count new.living.items ≡ live_count (slice_set old.living.items (s.0 - 1) false) = ap live_count a.living_is in
+            let c : room_needed new.history.items new.living.items ≡ room_needed (old.history.items ++ entry s Leave answer.Done ∷ []) (slice_set old.living.items (s.0 - 1) false) = λ i. room_needed (a.entry i) (a.living_is i) in
             omega (arith, e, m, c, a.len, a.room)
 
         left_is : slice_set old.living.items (s.0 - 1) false ≡ lives (Reply db s Leave).database
@@ -364,12 +403,13 @@ module _ {K : Type 0} (as_keeper : K → Keeper) where
 
         module _ (y copy : Answer) (book : Option EditionView) (a : Adds as_keeper mid new s (entry s ask copy) book mid.living.items) (same : copy ≡ y) (current : new.current ≡ mid.current)
             (r : IsReplied as_keeper old.current mid.current y (Reply db s ask)) (comes : ComesWith ask y book)
-            (room : vec_len mid.history + (length mid.living.items + 2) ≤ vec_capacity mid.history) where
+            (room : vec_len mid.history + (length mid.living.items + length mid.living.items + 1) ≤ vec_capacity mid.history) where
           on_old : Entered old new s (entry s ask y) book old.living.items
           on_old = record {
             entry = a.entry ∙ ap (λ es. es ++ entry s ask copy ∷ []) k.entries ∙ ap (λ z. old.history.items ++ entry s ask z ∷ []) same;
             books = a.books ∙ ap (λ bs. slice_set bs (s.0 - 1) book) k.books;
             living_is = a.living_is ∙ k.living;
+            recovered = a.recovered ∙ k.recovered;
           }
 
           replied : IsReplied as_keeper old.current new.current y (Reply db s ask)
@@ -378,10 +418,10 @@ module _ {K : Type 0} (as_keeper : K → Keeper) where
           replies : Replies ask y
           replies = subst (Replies ask) (sym r.answer) suits.answer_is
 
-          enough_room : vec_len new.history + live_count new.living.items + 1 ≤ vec_capacity new.history
+          enough_room : vec_len new.history + room_needed new.history.items new.living.items ≤ vec_capacity new.history
           enough_room =
-              let m = count_most mid.living.items in
-              let c : live_count new.living.items ≡ live_count mid.living.items = ap live_count a.living_is in
+              let m = needs_most (λ n. is_short new.history.items (record { 0 = n })) 1 new.living.items in
+              let c : length new.living.items ≡ length mid.living.items = ap (λ (bs : List Bool). length bs) a.living_is in
               omega (arith, m, c, room, a.len, a.room)
 
           pub asked_sound : IsSound as_keeper new
@@ -390,35 +430,94 @@ module _ {K : Type 0} (as_keeper : K → Keeper) where
           pub asked_answers : AnswersAsk as_keeper (state_of as_keeper old) (state_of as_keeper new) s ask y
           asked_answers =
               reply_answers ask y book old.living.items on_old refl replied (is_no_last ask y replies) enough_room (a.stopped ∙ k.stopped) same_lives
-              (λ r' differ is'. is') (λ y' stays'. lives_s) (entry_is s ask y replies) (has_book ask y book replies comes) (λ q gave. absurd (stays q)) (is_answer ask y (Reply db s ask) _ _ replies r.answer replied.grew)
+              (λ r' differ is'. is') (λ y' stays'. lives_s) (entry_is s ask y replies) (has_book ask y book replies comes) (λ q gave. absurd (stays q)) (replies_so ask y (Reply db s ask) _ _ replies r.answer replied.grew)
+
+        -- it passes by
+        module _ (light : is_light ask ≡ true) (long : is_short old.history.items s ≡ false) (a : Adds as_keeper mid new s (entry s ask answer.NoMemory) None mid.living.items) (current : new.current ≡ mid.current)
+            (u : IsUntouched as_keeper old.current mid.current db) where
+          idle : is_idle (entry s ask answer.NoMemory) ≡ true
+          idle = light
+
+          on_idle : Entered old new s (entry s ask answer.NoMemory) None old.living.items
+          on_idle = record {
+            entry = a.entry ∙ ap (λ es. es ++ entry s ask answer.NoMemory ∷ []) k.entries;
+            books = a.books ∙ ap (λ bs. slice_set bs (s.0 - 1) None) k.books;
+            living_is = a.living_is ∙ k.living;
+            recovered = a.recovered ∙ k.recovered;
+          }
+
+          same_database : database as_keeper new ≡ db
+          same_database = after new _ None _ on_idle refl ∙ next_idle db (entry s ask answer.NoMemory) idle
+
+          idle_legal : (more : List Entry) → Legal (database as_keeper new) more → Legal (first as_keeper new) (new.history.items ++ more)
+          idle_legal = legal_on new _ None _ on_idle refl Legal (passes_by (first as_keeper old) old.history.items (entry s ask answer.NoMemory) live (runs is).legal idle)
+
+          idle_runs : Runs as_keeper new
+          idle_runs = record {
+            legal = idle_legal;
+            holds = subst (Holds as_keeper new.current) (sym same_database) (subst (λ (c : Current K). Holds as_keeper c db) (sym current) u.holds);
+            goes = ap (λ (c : Current K). (as_keeper c.world.keeper).stopped) current ∙ u.grew.stopped ∙ (runs is).goes;
+            room =
+                let e = needs_short old.history.items (entry s ask answer.NoMemory) old.living.items s refl lives_s refl long in
+                let m = (runs is).room in
+                let c : room_needed new.history.items new.living.items ≡ room_needed (old.history.items ++ entry s ask answer.NoMemory ∷ []) old.living.items = λ i. room_needed (on_idle.entry i) (on_idle.living_is i) in
+                omega (arith, e, m, c, a.len, a.room, k.len, k.room);
+          }
+
+          pub idle_sound : IsSound as_keeper new
+          idle_sound = record {
+            living = on_idle.living_is ∙ h.living ∙ ap lives (sym same_database);
+            books = books_len new _ None _ on_idle refl;
+            stopped = a.stopped ∙ k.stopped ∙ is ∙ sym (never_given_up old.history.items (entry s ask answer.NoMemory) (given_before false is) (idle_goes (entry s ask answer.NoMemory) idle)) ∙ ap has_given_up (sym on_idle.entry);
+            stands = subst (λ b. Stands as_keeper b new) (sym (a.stopped ∙ k.stopped ∙ is)) idle_runs;
+          }
+
+          pub idle_answers : (y : Answer) → y ≡ answer.NoMemory → AnswersAsk as_keeper (state_of as_keeper old) (state_of as_keeper new) s ask y
+          idle_answers y same = subst (λ y. AnswersAsk as_keeper (state_of as_keeper old) (state_of as_keeper new) s ask y) (sym same)
+              (answers_by new _ None _ on_idle refl ask answer.NoMemory refl idle_sound (λ r' differ is'. is') (λ y' stays'. lives_s) (whole new _ None _ on_idle refl Legal idle_legal tt) refl (λ q gave. absurd (stays q))
+              (subst (λ b. Gives as_keeper b old.current.world.keeper new.current.world.keeper ask answer.NoMemory (Reply db s ask)) (sym (given_before false is))
+              (subst (λ b. told.Replies b answer.NoMemory (Reply db s ask) (as_keeper old.current.world.keeper) (as_keeper new.current.world.keeper)) (sym light)
+              (subst (λ (c : Current K). Grew (as_keeper old.current.world.keeper) (as_keeper c.world.keeper) []) (sym current) u.grew))))
 
         -- it gives up
-        module _ (why : Halt) (g : GivesUp as_keeper mid new s (entry s ask (last_answer why))) (current : new.current ≡ mid.current)
+        module _ (why : Halt) (heavy : is_light ask ≡ false) (long : is_short old.history.items s ≡ false) (g : GivesUp as_keeper mid new s (entry s ask (last_answer why))) (current : new.current ≡ mid.current)
             (up : GaveUp (as_keeper old.current.world.keeper) (as_keeper mid.current.world.keeper) (Reply db s ask).records why) where
           on_last : Entered old new s (entry s ask (last_answer why)) None old.living.items
           on_last = record {
             entry = g.entry ∙ ap (λ es. es ++ entry s ask (last_answer why) ∷ []) k.entries;
             books = g.books ∙ ap (λ bs. slice_set bs (s.0 - 1) None) k.books;
             living_is = g.living ∙ k.living;
+            recovered = g.recovered ∙ k.recovered;
           }
 
+          gave : gives_up (entry s ask (last_answer why)) ≡ true
+          gave = ap (λ b. is_last (last_answer why) && not (wants (last_answer why) && b)) heavy ∙ last_gives why
+
+          made : next db (entry s ask (last_answer why)) ≡ (Reply db s ask).database
+          made = next_made db (entry s ask (last_answer why)) (ap (λ b. wants (last_answer why) && b) heavy ∙ and_false (wants (last_answer why)))
+            where
+              and_false : (b : Bool) → (b && false) ≡ false
+              and_false true = refl
+              and_false false = refl
+
           last_legal : (more : List Entry) → AllStopped (database as_keeper new) more → Legal (first as_keeper new) (new.history.items ++ more)
-          last_legal = legal_on new _ None _ on_last refl AllStopped (gives_up (first as_keeper old) old.history.items (entry s ask (last_answer why)) live (runs is).legal (last_is why))
+          last_legal = legal_on new _ None _ on_last refl AllStopped (gave_up (first as_keeper old) old.history.items (entry s ask (last_answer why)) live (runs is).legal gave)
 
           has_stopped : HasStopped as_keeper new
           has_stopped = record {
             legal = last_legal;
             room =
                 let m = (runs is).room in
+                let n = needs_more old.history.items old.living.items s lives_s long in
                 let c : live_count new.living.items ≡ live_count old.living.items = ap live_count (g.living ∙ k.living) in
-                omega (arith, m, c, g.len, g.room, k.len, k.room);
+                omega (arith, m, n, c, g.len, g.room, k.len, k.room);
           }
 
           pub last_sound : IsSound as_keeper new
           last_sound = record {
-            living = g.living ∙ k.living ∙ same_lives ∙ ap lives (sym (after new _ None _ on_last refl));
+            living = g.living ∙ k.living ∙ same_lives ∙ ap lives (sym (after new _ None _ on_last refl ∙ made));
             books = books_len new _ None _ on_last refl;
-            stopped = g.stopped ∙ sym (given_up_now old.history.items (entry s ask (last_answer why)) (last_is why)) ∙ ap has_given_up (sym g_entry);
+            stopped = g.stopped ∙ sym (given_up_now old.history.items (entry s ask (last_answer why)) gave) ∙ ap has_given_up (sym g_entry);
             stands = subst (λ b. Stands as_keeper b new) (sym g.stopped) has_stopped;
           }
             where
@@ -428,5 +527,5 @@ module _ {K : Type 0} (as_keeper : K → Keeper) where
           pub last_answers : (y : Answer) → y ≡ last_answer why → AnswersAsk as_keeper (state_of as_keeper old) (state_of as_keeper new) s ask y
           last_answers y same = subst (λ y. AnswersAsk as_keeper (state_of as_keeper old) (state_of as_keeper new) s ask y) (sym same)
               (answers_by new _ None _ on_last refl ask (last_answer why) (last_entry s ask why) last_sound (λ r' differ is'. is') (λ y' stays'. lives_s) (whole new _ None _ on_last refl AllStopped last_legal tt) (last_book why) (λ q gave. absurd (stays q))
-              (subst (λ b. Gives as_keeper b old.current.world.keeper new.current.world.keeper (last_answer why) (Reply db s ask)) (sym (given_before false is))
-              (is_last_answer why (Reply db s ask) _ _ (runs is).goes (subst (λ (c : Current K). GaveUp (as_keeper old.current.world.keeper) (as_keeper c.world.keeper) (Reply db s ask).records why) (sym current) up))))
+              (subst (λ b. Gives as_keeper b old.current.world.keeper new.current.world.keeper ask (last_answer why) (Reply db s ask)) (sym (given_before false is))
+              (replies_last ask why (Reply db s ask) _ _ heavy (is_last_answer why (Reply db s ask) _ _ (runs is).goes (subst (λ (c : Current K). GaveUp (as_keeper old.current.world.keeper) (as_keeper c.world.keeper) (Reply db s ask).records why) (sym current) up)))))

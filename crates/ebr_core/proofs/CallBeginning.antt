@@ -1,6 +1,6 @@
 -- The beginning of a call.
 use Rattle.std.proofs.Common.{◌≡◌, List, [], sym, ap, subst, ◌∙◌}
-use Rattle.std.specs.Prelude.{Some, Result}
+use Rattle.std.specs.Prelude.{Some, Result, Ok}
 use Rattle.ebr_base.specs.declared.numbers.EditionNo.{EditionNo}
 use Rattle.ebr_base.specs.declared.numbers.SessionId.{SessionId}
 use Rattle.ebr_ast.specs.declared.view.EditionView.{EditionView}
@@ -16,7 +16,7 @@ use Rattle.ebr_units.specs.Living.{AreCurrent, Gives}
 use Rattle.ebr_levels.proofs.ReplyLemmas.{early_opened}
 use Rattle.ebr_core.specs.declared.current.Current.{Current}
 use Rattle.ebr_core.specs.Machine.{lists_of, reply_begin}
-use Rattle.ebr_core.specs.inside.Held.{Holds, IsReplied}
+use Rattle.ebr_core.specs.inside.Held.{Holds, IsBookOf, IsReplied}
 
 pub begun : {K : Type 0} (as_keeper : K → Keeper) (old new : Current K) (db : Database) (e d : EditionNo) (s : SessionId) (x : Session) (v : EditionView) → Holds as_keeper old db → session_at db.sessions s.0 ≡ Some x → d ≡ e
     → new.world.catalogue ≡ old.world.catalogue → new.world.keeper ≡ old.world.keeper → AreCurrent (lists_of db) new.views → AreCurrent (lists_of db) new.world.book
@@ -42,3 +42,10 @@ pub book_current : {E : Type 0} (c : Lists) (v : EditionView) (e : EditionNo) (o
 book_current c v e old r new seen current gives =
     let at : IsViewOf c v.edition v = subst (λ k. IsViewOf c k v) (sym (ap (λ (w : EditionView). w.edition) seen.is)) seen in
     (gives at).keeps.current
+
+-- the book of the view that comes with it
+pub book_of_view : {E : Type 0} (c : Lists) (v : EditionView) (e : EditionNo) (old : List EditionView) (b : EditionView) (new : List EditionView) → IsViewOf c e v
+    → (IsViewOf c v.edition v → Gives {E = E} c v.edition old (Ok b) new) → IsBookOf (answer.View v) (Some b)
+book_of_view c v e old b new seen gives =
+    let at : IsViewOf c v.edition v = subst (λ k. IsViewOf c k v) (sym (ap (λ (w : EditionView). w.edition) seen.is)) seen in
+    (ap Some ((gives at).book.is ∙ sym at.is), seen.order)

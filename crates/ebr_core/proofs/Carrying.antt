@@ -145,7 +145,7 @@ module _ {K : Type 0} (as_keeper : K → Keeper) where
   -- a planned definition may be carried out
   pub defines_so : (now : Current K) (db : Database) (e : EditionNo) (sessions : List EditionNo) (what : Definition) (text : List ℕ) (r : CatalogueRecord) → Holds as_keeper now db → IsTextOf what text
       → outcome (lists_of db) e sessions what text ≡ Ok r → Defines db r
-  defines_so now db e sessions what text r h fit is = defines db e sessions what text r fit.spelled fit.small is h.reached
+  defines_so now db e sessions what text r h fit is = defines db e sessions what text r fit.spelled (omega (arith, fit.small)) is h.reached
 
   module _ (old : Current K) (db : Database) (h : Holds as_keeper old db) (r : CatalogueRecord) (k : K) where
     abbrev pub planned : Recorded

@@ -1,6 +1,6 @@
 -- An ask is counted behind its reply.
 use Rattle.std.proofs.Common.{◌≡◌, ℕ, zero, suc, List, refl, sym, ap, subst, ◌∙◌}
-use Rattle.std.specs.Prelude.{Option, Some, None, Result, Ok, Err, slice_set, ◌-◌}
+use Rattle.std.specs.Prelude.{Bool, Option, Some, None, Result, Ok, Err, slice_set, ◌-◌}
 use Rattle.ebr_base.specs.declared.code.Code.{Code}
 use Rattle.ebr_base.specs.declared.numbers.EditionNo.{EditionNo}
 use Rattle.ebr_base.specs.declared.numbers.SessionId.{SessionId}
@@ -13,7 +13,7 @@ use Rattle.ebr_record.specs.Keeper.{Keeper}
 use Rattle.ebr_database.specs.declared.failure.Halt.{Halt}
 use Rattle.ebr_database.specs.Database.{Session, Database, Replied, session_at, with_session, counted, reply_commit}
 use Rattle.ebr_seats.specs.Seats.{HasSeat, Holds as Seated}
-use Rattle.ebr_database.specs.Shows.{Grew, GaveUp}
+use Rattle.ebr_database.specs.Shows.{Grew}
 use Rattle.ebr_units.specs.Living.{AreCurrent}
 use Rattle.ebr_units.specs.declared.units.Units.{Units}
 use Rattle.ebr_exec.specs.declared.world.World.{World}
@@ -22,7 +22,7 @@ use Rattle.ebr_levels.proofs.ReplyLemmas.{early_counted}
 use Rattle.ebr_seats.proofs.Seated.{at, at_here, seated, seat_within}
 use Rattle.ebr_core.specs.declared.current.Current.{Current}
 use Rattle.ebr_core.specs.Machine.{lists_of, Reply, counting, counted_in, edition_found, edition_set, reply_define, reply_in, reply_to, reply_while, then_reply, unless_refused}
-use Rattle.ebr_core.specs.inside.Held.{HasSession, IsHeld, IsReplied, RepliesGiven}
+use Rattle.ebr_core.specs.inside.Held.{Fails, HasSession, IsHeld, IsReplied, Tries}
 
 at_is : (xs : List Session) (n : ℕ) → session_at xs n ≡ at xs n
 at_is xs zero = refl
@@ -80,12 +80,12 @@ module _ {K : Type 0} (as_keeper : K → Keeper) (old mid : Current K) (s : Sess
       let sd = seated (as_keeper mid.world.keeper).used mid.world.tx.contents mid.seats.items (tested h.edition h.database s h.session q).database s here.session m.holds.seated here.is in
       seat_within mid.seats.items s sd.seat sd.there
 
-  -- the engine gives up behind the first tests
-  pub gave_up_on : (db : Database) (e : EditionNo) (x : Session) → HasSession as_keeper db s e x → (why : Halt) (res : Result (Answer × Option EditionView) Halt) → res ≡ Err why
-      → RepliesGiven as_keeper old mid (Err why) (tested e db s x q) → RepliesGiven as_keeper old mid res (Reply db s q)
-  gave_up_on db e x has why res is up =
-      subst (λ y. RepliesGiven as_keeper old mid y (Reply db s q)) (sym is)
-      (subst (λ (r : Replied). GaveUp (as_keeper old.world.keeper) (as_keeper mid.world.keeper) r.records why) (sym (reply_is db e s x q has.there has.edition)) up)
+  -- there was no memory, or the disk failed, behind the first tests
+  pub fails_on : (light : Bool) (db : Database) (e : EditionNo) (x : Session) → HasSession as_keeper db s e x → (why : Halt) (res : Result ((Answer × Option EditionView) × Answer) Halt) → res ≡ Err why
+      → Tries as_keeper light old mid db (Err why) (tested e db s x q) → Tries as_keeper light old mid db res (Reply db s q)
+  fails_on light db e x has why res is up =
+      subst (λ y. Tries as_keeper light old mid db y (Reply db s q)) (sym is)
+      (subst (λ (r : Replied). Fails as_keeper light old mid db r.records why) (sym (reply_is db e s x q has.there has.edition)) up)
 
   pub counted_on : (new : Current K) → new.world ≡ mid.world → new.views ≡ mid.views → (a : Answer) (db : Database) (e : EditionNo) (x : Session) → HasSession as_keeper db s e x → IsReplied as_keeper old mid a (tested e db s x q)
       → ((y : Session) → session_at (tested e db s x q).database.sessions s.0 ≡ Some y → Seated (as_keeper mid.world.keeper).used mid.world.tx.contents new.seats.items (with_session (tested e db s x q).database s (counted q a y)))

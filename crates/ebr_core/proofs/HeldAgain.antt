@@ -25,7 +25,7 @@ use Rattle.ebr_core.specs.declared.current.Current.{Current}
 use Rattle.ebr_core.specs.Machine.{lists_of}
 use Rattle.ebr_core.specs.Records.{catalogue_of}
 use Rattle.ebr_core.specs.inside.Reached.{AreReached, IsCommit}
-use Rattle.ebr_core.specs.inside.Held.{Holds, IsHeld, IsReplied, Replies, RepliesGiven, answered, failed, refused_by}
+use Rattle.ebr_core.specs.inside.Held.{Holds, IsHeld, IsReplied, Replies, answered, failed, refused_by}
 use Rattle.ebr_core.proofs.MadeRecords.{same_lists, reached_commits}
 
 module _ {K : Type 0} (as_keeper : K → Keeper) where
@@ -39,9 +39,6 @@ module _ {K : Type 0} (as_keeper : K → Keeper) where
 
     pub wants_memory : (res : Result Answer Halt) → IsErrAnd res (λ why. why ≡ halt.NoMemory) → Replies as_keeper old new res r
     wants_memory res none = let p = err_from_is_err_and res none in subst (λ x. Replies as_keeper old new x r) (sym (p.1 ∙ ap (λ why. Err why) p.2)) nothing_kept
-
-    pub wants_for_view : (res : Result (Answer × Option EditionView) Halt) → IsErrAnd res (λ why. why ≡ halt.NoMemory) → RepliesGiven as_keeper old new res r
-    wants_for_view res none = let p = err_from_is_err_and res none in subst (λ x. RepliesGiven as_keeper old new x r) (sym (p.1 ∙ ap (λ why. Err why) p.2)) nothing_kept
 
     pub wants_to_do : (res : Result (Unit {0}) Failure) → IsErrAnd res (λ f. f ≡ failure.Halted halt.NoMemory) → Replies as_keeper old new (answered res) r
     wants_to_do res none = let p = err_from_is_err_and res none in subst (λ x. Replies as_keeper old new (answered x) r) (sym (p.1 ∙ ap (λ f. Err f) p.2)) nothing_kept

@@ -1,9 +1,9 @@
-mod AllowedTables
+pub mod AllowedTables
 mod KeptViews
 pub mod KnownTables
 mod MadeRecords
 mod Payloads
-mod ReachedRecords
+pub mod ReachedRecords
 mod ReadExamples
 pub mod ReadsBack
 mod SmallRecords
@@ -18,13 +18,17 @@ mod Counted
 mod Recording
 mod Carrying
 mod Lives
+mod Rooms
+mod LightAsks
 mod Histories
+pub mod KeptBehind
 mod Books
 mod Answering
 mod HasLeft
-mod Starting
+pub mod Starting
 mod SeenAlike
 mod DefinedAlike
 mod ReplyApart
 mod AnswerApart
 mod ApartExamples
+mod HistoryExamples

@@ -24,7 +24,7 @@ use Rattle.ebr_database.specs.Database.{Database, data_of, tables_from}
 use Rattle.ebr_core.specs.Records.{record_of, after_record, catalogue_of}
 use Rattle.ebr_core.specs.inside.Reached.{AreReached, IsCommit}
 use Rattle.ebr_core.specs.inside.Tables.{HasNextId, with_table_of}
-use Rattle.ebr_core.specs.inside.Stored.{max_text}
+use Rattle.ebr_core.specs.inside.Stored.{max_stored}
 use Rattle.ebr_core.specs.inside.Defined.{Defines, IsNew}
 use Rattle.ebr_core.proofs.KnownTables.{data_after, new_not_added}
 use Rattle.ebr_core.proofs.ReadsBack.{are_read_back}
@@ -79,7 +79,7 @@ new db r next = tt
 
 -- what a definition makes of a database
 pub defines : (db : Database) (e : EditionNo) (sessions : List EditionNo) (what : Definition) (text : List ℕ) (r : CatalogueRecord)
-    → (CreatesObject what → stored_definition text ≡ Some what) → length text ≤ max_text → outcome (catalogue_of db.records) e sessions what text ≡ Ok r
+    → (CreatesObject what → stored_definition text ≡ Some what) → length text ≤ max_stored → outcome (catalogue_of db.records) e sessions what text ≡ Ok r
     → AreReached db.records → Defines db r
 defines db e sessions what text r spells short is reached =
     let f = fit (catalogue_of db.records) e sessions what text r reached.small short is in

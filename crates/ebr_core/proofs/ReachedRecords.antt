@@ -9,7 +9,7 @@ use Rattle.ebr_cross.specs.Definitions.{outcome}
 use Rattle.ebr_script.specs.Pieces.{CreatesObject, stored_definition}
 use Rattle.ebr_record.specs.declared.record.Record.{Record}
 use Rattle.ebr_core.specs.Records.{record_of, catalogue_of}
-use Rattle.ebr_core.specs.inside.Stored.{AreSmall, max_text}
+use Rattle.ebr_core.specs.inside.Stored.{AreSmall, max_stored}
 use Rattle.ebr_core.specs.inside.Tables.{AreAllowed}
 use Rattle.ebr_core.specs.inside.Reached.{AreReached}
 use Rattle.ebr_core.proofs.Spellings.{small_after}
@@ -31,7 +31,7 @@ reached_same records more same h =
 
 -- one more definition
 pub reached_more : (records : List Record) (e : EditionNo) (sessions : List EditionNo) (what : Definition) (text : List ℕ) (r : CatalogueRecord)
-    → (CreatesObject what → stored_definition text ≡ Some what) → length text ≤ max_text → outcome (catalogue_of records) e sessions what text ≡ Ok r
+    → (CreatesObject what → stored_definition text ≡ Some what) → length text ≤ max_stored → outcome (catalogue_of records) e sessions what text ≡ Ok r
     → AreReached records → AreReached (records ++ record_of r ∷ [])
 reached_more records e sessions what text r spells short is h =
     let c = catalogue_of records in

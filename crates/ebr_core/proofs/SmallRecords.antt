@@ -27,7 +27,7 @@ use Rattle.ebr_cross.specs.Catalogue.{Lists, visible, table_in}
 use Rattle.ebr_cross.specs.Definitions as spec
 use Rattle.ebr_cross.specs.Kinds.{kind_of, name_of, key_of}
 use Rattle.ebr_core.specs.Records.{record_of}
-use Rattle.ebr_core.specs.inside.Stored.{AreSmall, HasSmallText, IsSmall, KeepsSmall, max_text}
+use Rattle.ebr_core.specs.inside.Stored.{AreSmall, HasSmallText, IsSmall, KeepsSmall, max_stored}
 use Rattle.ebr_core.specs.inside.Tables.{HasNextId}
 use Rattle.ebr_core.proofs.ReadsBack.{recorded, unless, chosen}
 use Rattle.ebr_core.proofs.Spellings.{visible-of}
@@ -85,7 +85,7 @@ added c None name None r is = absurd cc
 added c (Some t) name None r is = absurd cc
 
 altered : (c : Lists) (e : EditionNo) (key : ObjectKey) (enabled : Bool) (o : Option Object) (r : CatalogueRecord)
-    → ((p : Object) → o ≡ Some p → length p.text ≤ max_text) → spec.altered c e key enabled o ≡ Ok r → IsFit c r
+    → ((p : Object) → o ≡ Some p → length p.text ≤ max_stored) → spec.altered c e key enabled o ≡ Ok r → IsFit c r
 altered c e key enabled None r all is = absurd cc
 altered c e key enabled (Some o) r all is = unless (IsFit c) (made.Object (spec.object_of c e key o.text o.tree enabled)) _ r (λ none. (all o refl, tt)) is
 
@@ -94,7 +94,7 @@ gone c e kind.Package name = (tt, tt)
 gone c e k name = (tt, tt)
 
 created : (c : Lists) (e : EditionNo) (replace : Bool) (u : UnitTree) (text : List ℕ) (k : Option ObjectKind) (name : Option (List ℕ)) (r : CatalogueRecord)
-    → length text ≤ max_text → spec.object_named c e replace u text k name ≡ Ok r → IsFit c r
+    → length text ≤ max_stored → spec.object_named c e replace u text k name ≡ Ok r → IsFit c r
 created c e replace u text (Some k) (Some name) r short is =
     unless (IsFit c) (made.Object (spec.object_of c e (key_of k name) text u (spec.is_enabled u))) _ r (λ none. (short, tt)) is
 created c e replace u text (Some k) None r short is = absurd cc
@@ -102,7 +102,7 @@ created c e replace u text None name r short is = absurd cc
 
 -- What a definition leaves is small, where its text and those of the catalogue are; and a table has the next id.
 pub fit : (c : Lists) (e : EditionNo) (sessions : List EditionNo) (what : Definition) (text : List ℕ) (r : CatalogueRecord)
-    → AreSmall c → length text ≤ max_text → spec.outcome c e sessions what text ≡ Ok r → IsSmall r × HasNextId c r
+    → AreSmall c → length text ≤ max_stored → spec.outcome c e sessions what text ≡ Ok r → IsSmall r × HasNextId c r
 fit c e sessions (definition.CreateEdition name parent) text r all short is =
     recorded (IsFit c) (λ d. made.Edition name (spec.parent_in c parent)) (create_answer c.editions.made name parent) r (λ d there. (tt, tt)) is
 fit c e sessions (definition.DropEdition name cascade) text r all short is = dropped c sessions cascade (drop_answer c.editions.made name) r is

@@ -1,5 +1,5 @@
 -- The engine as its callers see it, and what its answers are.
-use Rattle.std.specs.Prelude.{◌≡◌, ◌≢◌, ℕ, zero, suc, ◌||◌, Bool, true, false, List, [], ◌∷◌, ◌++◌, Option, Some, None, length, slice_get, slice_set, replicate}
+use Rattle.std.specs.Prelude.{◌≡◌, ◌≢◌, ℕ, zero, suc, ◌||◌, ◌&&◌, not, Bool, true, false, List, [], ◌∷◌, ◌++◌, Option, Some, None, length, slice_get, slice_set, replicate}
 use Rattle.ebr_base.specs.declared.numbers.SessionId.{SessionId}
 use Rattle.ebr_ast.specs.declared.view.EditionView.{EditionView}
 use Rattle.ebr_ast.specs.Views.{IsInOrder}
@@ -10,13 +10,14 @@ use Rattle.ebr_asks.specs.declared.answer.Answer.TheVariants.{View, Done, DiskFa
 use Rattle.ebr_asks.specs.declared.entry.Entry.{Entry}
 use Rattle.ebr_laws.specs.Served.{HasCodeOf}
 use Rattle.ebr_record.specs.declared.record.Record.{Record}
-use Rattle.ebr_record.specs.Keeper.{Keeper, used_by}
+use Rattle.ebr_record.specs.Keeper.{Keeper}
 use Rattle.ebr_database.specs.declared.failure.Halt.TheVariants as why
 use Rattle.ebr_database.specs.Database.{Database, Replied}
 use Rattle.ebr_database.specs.Shows.{Grew, GaveUp}
 use Rattle.ebr_units.specs.Served.{served}
 use Rattle.ebr_core.specs.Machine.{Build, Reply}
-use Rattle.ebr_core.specs.History.{After, IsLive, Legal}
+use Rattle.ebr_core.specs.History.{After, IsLive, Legal, is_idle, is_light, wants}
+use Rattle.ebr_core.specs.Recovered.{IsReady}
 
 -- The history, the records of the database with which it began, for each session the book that is set aside, by what its edition sees,
 -- and the keeper. The sessions are numbered from 1, and there are as many as books.
@@ -57,22 +58,25 @@ module _ {K : Type 0} where
   HasLegalHistory e = Legal (first_of e) e.history
 
 -- a keeper that has kept nothing
-pub record IsEmpty (k : Keeper) : Type 0 where
-  pub used : k.used ≡ used_by []
-  pub stopped : k.stopped ≡ false
+abbrev pub IsEmpty : Keeper → Type 0
+IsEmpty k = IsReady [] k
 
 -- ---- answers
 
--- an answer with which the engine gives up
+-- an answer that is no reply
 abbrev pub is_last : Answer → Bool
 is_last DiskFault = true
 is_last NoMemory = true
 is_last a = false
 
+-- an entry with which the engine gives up
+abbrev pub gives_up : Entry → Bool
+gives_up x = is_last x.answer && not (is_idle x)
+
 -- it has given up
 abbrev pub has_given_up : List Entry → Bool
 has_given_up [] = false
-has_given_up (x ∷ history) = is_last x.answer || has_given_up history
+has_given_up (x ∷ history) = gives_up x || has_given_up history
 
 -- The entry of an ask. One that is answered Stopped holds Leave.
 abbrev pub entry_of : SessionId → Ask → Answer → Entry
@@ -92,10 +96,16 @@ IsAnswer NoMemory r old new = GaveUp old new r.records why.NoMemory
 IsAnswer Stopped r old new = ⊥
 IsAnswer a r old new = (a ≡ r.answer) × Grew old new r.records
 
--- Before it gave up it answers as the machine does, and from then on that it has stopped, and keeps nothing.
-abbrev pub Gives : {K : Type 0} → (K → Keeper) → Bool → K → K → Answer → Replied → Type 0
-Gives as_keeper false old new a r = IsAnswer a r (as_keeper old) (as_keeper new)
-Gives as_keeper true old new a r = (a ≡ Stopped) × (new ≡ old)
+-- by whether the entry is idle, for which nothing is kept
+abbrev pub Replies : Bool → Answer → Replied → Keeper → Keeper → Type 0
+Replies true a r old new = Grew old new []
+Replies false a r old new = IsAnswer a r old new
+
+-- Before it gave up it answers as the machine does, or without memory leaves all as it was; and from then on that it has stopped, and
+-- keeps nothing.
+abbrev pub Gives : {K : Type 0} → (K → Keeper) → Bool → K → K → Ask → Answer → Replied → Type 0
+Gives as_keeper false old new q a r = Replies (wants a && is_light q) a r (as_keeper old) (as_keeper new)
+Gives as_keeper true old new q a r = (a ≡ Stopped) × (new ≡ old)
 
 -- What comes of an ask: its answer and one entry, in a history that is legal with it. Leave always finds its memory. Other sessions
 -- that live stay so, and the session itself unless it leaves or is answered Stopped.
@@ -109,4 +119,4 @@ pub record AnswersAsk {K : Type 0} (as_keeper : K → Keeper) (old new : EngineS
   pub leaves : ask ≡ Leave → has_given_up old.history ≡ false → a ≡ Done
   pub others : (r : SessionId) → (r.0 ≡ s.0 → ⊥) → IsLive (database_of old) r → IsLive (database_of new) r
   pub stays : a ≢ Stopped → ask ≢ Leave → IsLive (database_of new) s
-  pub gives : Gives as_keeper (has_given_up old.history) old.keeper new.keeper a (Reply (database_of old) s ask)
+  pub gives : Gives as_keeper (has_given_up old.history) old.keeper new.keeper ask a (Reply (database_of old) s ask)

@@ -3,6 +3,9 @@ pub mod Machine
 pub mod History
 pub mod ReadBack
 pub mod Asked
+pub mod Recovered
 pub mod Engine
+pub mod Kept
+pub mod Rebuilt
 pub mod Apart
 pub mod inside

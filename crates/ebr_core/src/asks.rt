@@ -1,16 +1,17 @@
 //! The replies to asks for transactions, of statements, and for the beginning and the end of a call.
 
-ghost use Rattle.std.specs.Prelude.{◌≡◌, ◌<◌, IfOk, Some, true, is_some};
+ghost use Rattle.std.specs.Prelude.{◌≡◌, ◌<◌, IfOk, None, Some, true, is_some};
 ghost use Rattle.ebr_asks.specs.declared.answer.Answer.TheVariants.{Done};
 ghost use Rattle.ebr_database.specs.Database.{data_of, own_on_top, reply_commit, reply_rollback, reply_savepoint, reply_back_to, reply_push, reply_pop};
 ghost use Rattle.ebr_seats.specs.Ends.{reply_end};
 ghost use Rattle.ebr_asks.specs.declared.ask.Ask.TheVariants as asks;
 ghost use Rattle.ebr_core.specs.Machine as spec;
-ghost use Rattle.ebr_core.specs.inside.Held.{ForSession, IsDone, IsHeld, IsBookOf, IsPlaced, IsReplied, Replies, RepliesGiven, answered, failed, refused_by};
+ghost use Rattle.ebr_core.specs.History.{only_reads};
+ghost use Rattle.ebr_core.specs.inside.Held.{ForSession, IsDone, IsHeld, IsBookOf, IsPlaced, IsReplied, Replies, Tries, answered, failed, refused_by};
 ghost use Rattle.ebr_seats.specs.Seats.{seat_at};
 ghost use Rattle.ebr_seats.specs.declared.seat.Seat.{Seat as Held};
 
-use crate::current::{Current, Given};
+use crate::current::{Current, Told, with_copy};
 use ebr_asks::{Answer, Ask};
 use ebr_ast::SqlTree;
 use ebr_base::{Code, EditionNo, Name, NoMemory, SessionId, Stop, Value};
@@ -23,21 +24,63 @@ use ebr_seats::{
 use ebr_statements::run_sql;
 use std::alloc::Global;
 
-/// A call begins: all that the session's edition sees, with its book, which serves the call to its end.
+/// A call begins: all that the session's edition sees, with its book, which serves the call to its end, and a copy of the answer.
+/// Where there is no memory for it, all is as before.
 pub fn begin<K: Keep>(
     alloc: Global,
     current: &mut Current<K>,
     s: SessionId,
     e: EditionNo,
-) -> Result<Given, Halt>
+) -> Result<Told, Halt>
     requires { IsHeld K.as_keeper current.old s }
-    ensures reply { ForSession K.as_keeper current.old s (λ db d x. d ≡ e → RepliesGiven K.as_keeper current.old current.new result (spec.reply_begin d db s x)) }
-    ensures book { ForSession K.as_keeper current.old s (λ db d x. IfOk result (λ given. IsBookOf given.0 given.1)) }
+    ensures reply { ForSession K.as_keeper current.old s (λ db d x. d ≡ e → Tries K.as_keeper true current.old current.new db result (spec.reply_begin d db s x)) }
+    ensures book { ForSession K.as_keeper current.old s (λ db d x. IfOk result (λ told. IsBookOf told.0.0 told.0.1)) }
 {
     let view = current.views.of(alloc, &current.world.catalogue, e)?;
     let book = current.world.book.book_of(alloc, &view)?;
+    let told = with_copy(alloc, (Answer::View(view), Some(book)))?;
     open_call(&current.world.tx, &mut current.seats, s)?;
-    Ok((Answer::View(view), Some(book)))
+    Ok(told)
+}
+
+/// A query that locks no rows, with a copy of its answer. Where there is no memory for one, all is as before.
+pub fn query<K: Keep>(
+    alloc: Global,
+    current: &mut Current<K>,
+    s: SessionId,
+    e: EditionNo,
+    stmt: &SqlTree,
+    binds: &[Value],
+    left: u32,
+    ask: &Ask,
+) -> Result<Told, Halt>
+    requires held { IsHeld K.as_keeper current.old s }
+    requires is { ask.now ≡ asks.Sql stmt.now binds.now left }
+    requires reads { only_reads stmt.now ≡ true }
+    ensures reply { ForSession K.as_keeper current.old s (λ db d x. d ≡ e → Tries K.as_keeper true current.old current.new db result (spec.reply_sql d db s x stmt.now binds.now left)) }
+    ensures book { IfOk result (λ told. told.0.1 ≡ None) }
+{
+    let t = top_of(current.seats.as_slice(), s);
+    let room = seat_of(current.seats.as_slice(), s).room_for(ask);
+    let view = current.views.of(alloc, &current.world.catalogue, e)?;
+    let mark = current.world.tx.mark(t)?;
+    let answer = run_sql(
+        alloc,
+        &mut current.world,
+        t,
+        view.get(),
+        stmt,
+        binds,
+        left,
+        room,
+    )?;
+    match with_copy(alloc, (answer, None)) {
+        Ok(told) => Ok(told),
+        Err(why) => {
+            current.world.tx.back_to_mark(t, mark);
+            Err(why)
+        }
+    }
 }
 
 /// A statement with the bodies of its triggers, in the transaction on top of the session's stack.

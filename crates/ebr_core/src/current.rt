@@ -1,18 +1,21 @@
 //! The database as the engine holds it, and the replies to asks.
 
-ghost use Rattle.std.specs.Prelude.{◌≡◌, ◌≢◌, [], IfOk};
+ghost use Rattle.std.specs.Prelude.{◌≡◌, ◌≢◌, [], IfOk, None};
 ghost use Rattle.ebr_asks.specs.declared.answer.Answer.TheVariants.{Refused};
+ghost use Rattle.ebr_asks.specs.declared.ask.Ask.TheVariants as asks;
 ghost use Rattle.ebr_asks.specs.declared.ask.Ask.TheVariants.{Leave};
 ghost use Rattle.ebr_seats.specs.Tests.{first_tests};
 ghost use Rattle.ebr_core.specs.Machine as spec;
 ghost use Rattle.ebr_core.specs.Asked.{IsFit};
-ghost use Rattle.ebr_core.specs.inside.Held.{ComesWith, ForSession, IsHeld, IsPlaced, IsPlain, Replies, RepliesGiven, answered, with_nothing};
+ghost use Rattle.ebr_core.specs.History.{is_light, only_reads};
+ghost use Rattle.ebr_core.specs.inside.Held.{ComesWith, Copies, CopiesGiven, ForSession, IsHeld, IsPlaced, IsPlain, Replies, Tries, answered, with_nothing};
 
-use crate::asks::{begin, end, sql, transact};
+use crate::asks::{begin, end, query, sql, transact};
 use crate::define::ddl;
 use crate::views::Views;
 use ebr_asks::{Answer, Ask};
-use ebr_base::{Code, EditionNo, List, SessionId, Shared};
+use ebr_ast::SqlTree;
+use ebr_base::{CloneIn, Code, EditionNo, List, NoMemory, SessionId, Shared, Value};
 use ebr_database::{Failure, Halt};
 use ebr_exec::World;
 use ebr_record::Keep;
@@ -23,6 +26,9 @@ use std::alloc::Global;
 /// What is answered, and with a view the book of what it shows.
 pub type Given = (Answer, Option<Shared<Book>>);
 
+/// The same with a copy of the answer, for the history.
+pub type Told = (Given, Answer);
+
 /// The database as the engine holds it.
 #[derive(Drop)]
 pub struct Current<K> {
@@ -32,22 +38,22 @@ pub struct Current<K> {
     pub seats: Vec<Seat>,
 }
 
-/// Replies to an ask of a live session that is no Leave, and counts it.
+/// Replies to an ask of a live session that is no Leave, and counts it. A light ask that finds no memory leaves all as it was.
 pub fn counted_reply<K: Keep>(
     alloc: Global,
     current: &mut Current<K>,
     s: SessionId,
     ask: &Ask,
-) -> Result<Given, Halt>
+) -> Result<Told, Halt>
     requires held { IsHeld K.as_keeper current.old s }
     requires stays { ask.now ≢ Leave }
     requires fit { IsFit ask.now }
-    ensures reply { ForSession K.as_keeper current.old s (λ db e x. RepliesGiven K.as_keeper current.old current.new result (spec.Reply db s ask.now)) }
-    ensures book { IfOk result (λ given. ComesWith ask.now given.0 given.1) }
+    ensures reply { ForSession K.as_keeper current.old s (λ db e x. Tries K.as_keeper (is_light ask.now) current.old current.new db result (spec.Reply db s ask.now)) }
+    ensures book { IfOk result (λ told. ComesWith ask.now told.0.0 told.0.1) }
 {
-    let given = tested_reply(alloc, current, s, ask)?;
-    count_ask(&mut current.seats, s, ask, &given.0);
-    Ok(given)
+    let told = tested_reply(alloc, current, s, ask)?;
+    count_ask(&mut current.seats, s, ask, &told.0.0);
+    Ok(told)
 }
 
 /// Replies to an ask behind the first tests.
@@ -56,15 +62,15 @@ fn tested_reply<K: Keep>(
     current: &mut Current<K>,
     s: SessionId,
     ask: &Ask,
-) -> Result<Given, Halt>
+) -> Result<Told, Halt>
     requires held { IsHeld K.as_keeper current.old s }
     requires stays { ask.now ≢ Leave }
     requires fit { IsFit ask.now }
-    ensures reply { ForSession K.as_keeper current.old s (λ db e x. RepliesGiven K.as_keeper current.old current.new result (spec.unless_refused (first_tests db s x ask.now) db (spec.reply_in e db s x ask.now))) }
-    ensures book { IfOk result (λ given. ComesWith ask.now given.0 given.1) }
+    ensures reply { ForSession K.as_keeper current.old s (λ db e x. Tries K.as_keeper (is_light ask.now) current.old current.new db result (spec.unless_refused (first_tests db s x ask.now) db (spec.reply_in e db s x ask.now))) }
+    ensures book { IfOk result (λ told. ComesWith ask.now told.0.0 told.0.1) }
 {
     match first_tests(seat_of(current.seats.as_slice(), s), ask) {
-        Some(code) => Ok((refusal(alloc, code), None)),
+        Some(code) => with_copy(alloc, (refusal(alloc, code), None)),
         None => reply(alloc, current, s, ask),
     }
 }
@@ -75,17 +81,17 @@ fn reply<K: Keep>(
     current: &mut Current<K>,
     s: SessionId,
     ask: &Ask,
-) -> Result<Given, Halt>
+) -> Result<Told, Halt>
     requires held { IsHeld K.as_keeper current.old s }
     requires stays { ask.now ≢ Leave }
     requires fit { IsFit ask.now }
     requires placed { IsPlaced K.as_keeper current.old s ask.now }
-    ensures reply { ForSession K.as_keeper current.old s (λ db e x. RepliesGiven K.as_keeper current.old current.new result (spec.reply_in e db s x ask.now)) }
-    ensures book { IfOk result (λ given. ComesWith ask.now given.0 given.1) }
+    ensures reply { ForSession K.as_keeper current.old s (λ db e x. Tries K.as_keeper (is_light ask.now) current.old current.new db result (spec.reply_in e db s x ask.now)) }
+    ensures book { IfOk result (λ told. ComesWith ask.now told.0.0 told.0.1) }
 {
     match seat_of(current.seats.as_slice(), s).edition {
         Some(e) => reply_in(alloc, current, s, e, ask),
-        None => Ok((refusal(alloc, Code::Ebr(15)), None)),
+        None => with_copy(alloc, (refusal(alloc, Code::Ebr(15)), None)),
     }
 }
 
@@ -95,22 +101,101 @@ fn reply_in<K: Keep>(
     s: SessionId,
     e: EditionNo,
     ask: &Ask,
-) -> Result<Given, Halt>
+) -> Result<Told, Halt>
     requires held { IsHeld K.as_keeper current.old s }
     requires stays { ask.now ≢ Leave }
     requires fit { IsFit ask.now }
     requires placed { IsPlaced K.as_keeper current.old s ask.now }
-    ensures reply { ForSession K.as_keeper current.old s (λ db d x. d ≡ e → RepliesGiven K.as_keeper current.old current.new result (spec.reply_in d db s x ask.now)) }
-    ensures book { ForSession K.as_keeper current.old s (λ db d x. IfOk result (λ given. ComesWith ask.now given.0 given.1)) }
+    ensures reply { ForSession K.as_keeper current.old s (λ db d x. d ≡ e → Tries K.as_keeper (is_light ask.now) current.old current.new db result (spec.reply_in d db s x ask.now)) }
+    ensures book { ForSession K.as_keeper current.old s (λ db d x. IfOk result (λ told. ComesWith ask.now told.0.0 told.0.1)) }
 {
-    if let Ask::Begin = ask {
-        return begin(alloc, current, s, e);
+    match ask {
+        Ask::Begin => begin(alloc, current, s, e),
+        Ask::Sql { stmt, binds, left } => statement(
+            alloc,
+            current,
+            s,
+            e,
+            stmt.get(),
+            binds.get().as_slice(),
+            *left,
+            ask,
+        ),
+        _ => told(
+            alloc,
+            with_nothing(reply_plainly(alloc, current, s, e, ask)),
+        ),
     }
-    with_nothing(reply_without_view(alloc, current, s, e, ask))
 }
 
-/// Replies to an ask that is answered without a view.
-fn reply_without_view<K: Keep>(
+/// Replies to a statement.
+fn statement<K: Keep>(
+    alloc: Global,
+    current: &mut Current<K>,
+    s: SessionId,
+    e: EditionNo,
+    stmt: &SqlTree,
+    binds: &[Value],
+    left: u32,
+    ask: &Ask,
+) -> Result<Told, Halt>
+    requires held { IsHeld K.as_keeper current.old s }
+    requires is { ask.now ≡ asks.Sql stmt.now binds.now left }
+    ensures reply { ForSession K.as_keeper current.old s (λ db d x. d ≡ e → Tries K.as_keeper (only_reads stmt.now) current.old current.new db result (spec.reply_sql d db s x stmt.now binds.now left)) }
+    ensures book { IfOk result (λ told. told.0.1 ≡ None) }
+{
+    if only_reads(stmt) {
+        return query(alloc, current, s, e, stmt, binds, left, ask);
+    }
+    told(
+        alloc,
+        with_nothing(sql(alloc, current, s, e, stmt, binds, left, ask)),
+    )
+}
+
+/// Whether a statement is a query that locks no rows.
+fn only_reads(stmt: &SqlTree) -> bool
+    ensures { result ≡ only_reads stmt.now }
+{
+    match stmt {
+        SqlTree::Query(query) => !query.get().for_update,
+        _ => false,
+    }
+}
+
+/// Whether an ask leaves all as it was where there is no memory for it.
+pub fn is_light(ask: &Ask) -> bool
+    ensures { result ≡ is_light ask.now }
+{
+    match ask {
+        Ask::Begin => true,
+        Ask::Sql { stmt, .. } => only_reads(stmt.get()),
+        _ => false,
+    }
+}
+
+/// What was given, with a copy of the answer.
+fn told(alloc: Global, given: Result<Given, Halt>) -> Result<Told, Halt>
+    ensures { CopiesGiven given result }
+{
+    match given {
+        Ok(given) => with_copy(alloc, given),
+        Err(why) => Err(why),
+    }
+}
+
+/// A value with what comes with it, and a copy of the value.
+pub fn with_copy<T: CloneIn, B: Drop>(alloc: Global, given: (T, B)) -> Result<((T, B), T), Halt>
+    ensures { Copies given result }
+{
+    match given.0.clone_in(alloc) {
+        Ok(copy) => Ok((given, copy)),
+        Err(NoMemory) => Err(Halt::NoMemory),
+    }
+}
+
+/// Replies to an ask that is no statement and is answered without a view.
+fn reply_plainly<K: Keep>(
     alloc: Global,
     current: &mut Current<K>,
     s: SessionId,
@@ -124,16 +209,6 @@ fn reply_without_view<K: Keep>(
     ensures { ForSession K.as_keeper current.old s (λ db d x. d ≡ e → Replies K.as_keeper current.old current.new result (spec.reply_in d db s x ask.now)) }
 {
     match ask {
-        Ask::Sql { stmt, binds, left } => sql(
-            alloc,
-            current,
-            s,
-            e,
-            stmt.get(),
-            binds.get().as_slice(),
-            *left,
-            ask,
-        ),
         Ask::Ddl { what, text } => ddl(alloc, current, s, e, what.get(), text),
         Ask::EndCall { failed } => {
             end(current, s, *failed);
@@ -146,7 +221,7 @@ fn reply_without_view<K: Keep>(
         | Ask::SetEdition(_)
         | Ask::PushAuto
         | Ask::PopAuto { .. } => answered(alloc, transact(alloc, current, s, ask)),
-        Ask::Begin | Ask::Leave => Ok(Answer::Done),
+        Ask::Begin | Ask::Sql { .. } | Ask::Leave => Ok(Answer::Done),
     }
 }
 

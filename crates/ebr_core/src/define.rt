@@ -214,7 +214,11 @@ fn notice<K: Keep>(
 }
 
 /// Makes a table known to the transactions, where a definition made one.
-fn add_table(alloc: Global, tx: &mut Transactions, made: &CatalogueRecord) -> Result<(), NoMemory>
+pub fn add_table(
+    alloc: Global,
+    tx: &mut Transactions,
+    made: &CatalogueRecord,
+) -> Result<(), NoMemory>
     requires { IsNew tx.old.contents made.now }
     ensures { OnOk result (tx.new.contents ≡ with_table_of tx.old.contents made.now) }
 {

@@ -1,23 +1,29 @@
 //! The engine, with the history of all asks.
 
-ghost use Rattle.std.specs.Prelude.{◌≡◌, ◌≤◌, ◌↔◌, [], length, IsTrue, IfOk, None};
+ghost use Rattle.std.specs.Prelude.{◌≡◌, ◌≤◌, ◌↔◌, [], true, length, IsTrue, IfErr, IfOk, None};
 ghost use Rattle.ebr_core.specs.Apart.{IsApart};
 ghost use Rattle.ebr_core.specs.Asked.{IsFit};
 ghost use Rattle.ebr_core.specs.Engine.{AnswersAsk, HasLegalHistory, IsEmpty, book_at, database_of, no_books, with_book};
-ghost use Rattle.ebr_core.specs.History.{IsLive};
+ghost use Rattle.ebr_asks.specs.declared.ask.Ask.TheVariants.{Leave as leaves};
+ghost use Rattle.ebr_core.specs.History.{IsLive, is_short};
+ghost use Rattle.ebr_core.specs.Kept.{StopsWithin};
+ghost use Rattle.ebr_core.specs.Machine.{Reply};
+ghost use Rattle.ebr_core.specs.Recovered.{AreRecovered, IsReady};
 
 use crate::current::Current;
 use crate::parts::Parts;
 use ebr_asks::{Answer, Ask, Entry};
 use ebr_base::{List, NoMemory, SessionId, Shared};
+use ebr_cross::Catalogue;
 use ebr_exec::World;
-use ebr_record::Keep;
+use ebr_record::{Keep, Record};
+use ebr_tx::Transactions;
 use ebr_units::Book;
 use std::alloc::Global;
 use std::marker::Model;
 
 /// The edition machine: a database, its sessions, numbered from 1, and the history of their asks, which begins with the database of
-/// the records that were recovered, none as yet. Every answer makes one entry.
+/// the records that were recovered. Every answer makes one entry.
 #[derive(Drop)]
 pub struct Engine<K: Keep> {
     parts: Parts<K>,
@@ -47,13 +53,45 @@ impl<K: Keep> Engine<K> {
         requires { IsEmpty (K.as_keeper keeper) }
         ensures { IfOk result (λ e. e ≡ record { history = []; recovered = []; books = no_books sessions; keeper = keeper }) }
     {
-        let parts = Parts::start(alloc, keeper, sessions)?;
-        Ok(Engine { parts })
+        let catalogue = Catalogue::new(alloc)?;
+        let transactions = Transactions::new(alloc, sessions)?;
+        let none = List::new(alloc);
+        match Engine::over(alloc, keeper, none, catalogue, transactions, sessions) {
+            Ok(engine) => Ok(engine),
+            Err(_) => Err(NoMemory),
+        }
+    }
+
+    /// An engine over the database of the records that were recovered, with so many live sessions in its default edition. The
+    /// catalogue and the data, in which no transaction has begun, are those of the records, and the keeper keeps what comes behind
+    /// them. Where there is no memory it gives the keeper back.
+    pub fn over(
+        alloc: Global,
+        keeper: K,
+        recovered: List<Record>,
+        catalogue: Catalogue,
+        transactions: Transactions,
+        sessions: u32,
+    ) -> Result<Engine<K>, K>
+        requires are { AreRecovered recovered sessions catalogue transactions.contents }
+        requires ready { IsReady recovered (K.as_keeper keeper) }
+        ensures engine { IfOk result (λ e. e ≡ record { history = []; recovered = recovered; books = no_books sessions; keeper = keeper }) }
+        ensures keeper { IfErr result (λ k. k ≡ keeper) }
+    {
+        match Parts::over(alloc, keeper, recovered, catalogue, transactions, sessions) {
+            Ok(parts) => Ok(Engine { parts }),
+            Err(keeper) => Err(keeper),
+        }
     }
 
     /// Answers one ask of a live session. Where the answer is a view, the book of it is set aside for `take_book`.
     ///
-    /// Once an answer was DiskFault or NoMemory, every ask is answered Stopped, and the session has left.
+    /// A call that begins and a query that locks no rows, for which there is no memory, leave all as it was, and the session may make
+    /// Leave alone then. Once an answer was DiskFault, or any other ask found no memory, every ask is answered Stopped, and the session
+    /// has left.
+    ///
+    /// Where the keeper tells it, a stop at any moment of the call leaves the records kept before it and the first of those that the
+    /// ask makes, whatever the answer is.
     ///
     /// Editions are apart: in every second database that differs from this one in its catalogue alone, and whose catalogue agrees with
     /// this one for the ask, the answer would be the same, and so would the records made; what is left would differ in its catalogue
@@ -64,7 +102,9 @@ impl<K: Keep> Engine<K> {
     pub fn answer(&mut self, s: SessionId, ask: Ask) -> Answer
         requires live { IsLive (database_of self.old) s }
         requires fit { IsFit ask }
+        requires short { is_short self.old.history s ≡ true → ask ≡ leaves }
         ensures answers { AnswersAsk K.as_keeper self.old self.new s ask result }
+        ensures stops { StopsWithin (K.as_keeper self.old.keeper) (K.as_keeper self.new.keeper) (Reply (database_of self.old) s ask).records }
         ensures apart { IsApart (database_of self.old) s ask result (database_of self.new) }
     {
         self.parts.answer(s, ask)
@@ -94,20 +134,29 @@ impl<K: Keep> Engine<K> {
         self.parts.history.as_slice()
     }
 
-    /// The history, and the keeper.
-    pub fn into_parts(self) -> (List<Entry>, K)
-        ensures history { result.0 ≡ self.history }
-        ensures keeper { result.1 ≡ self.keeper }
+    /// The records of the database with which the history began.
+    pub fn recovered(&self) -> &[Record]
+        ensures { result.now ≡ self.now.recovered }
+    {
+        self.parts.recovered.as_slice()
+    }
+
+    /// The records of the database with which the history began, the history, and the keeper.
+    pub fn into_parts(self) -> (List<Record>, List<Entry>, K)
+        ensures recovered { result.0 ≡ self.recovered }
+        ensures history { result.1 ≡ self.history }
+        ensures keeper { result.2 ≡ self.keeper }
         ensures legal { HasLegalHistory self }
     {
         let Engine { parts } = self;
         let Parts {
+            recovered,
             history,
             current,
             ..
         } = parts;
         let Current { world, .. } = current;
         let World { keeper, .. } = world;
-        (List::from_vec(history), keeper)
+        (recovered, List::from_vec(history), keeper)
     }
 }

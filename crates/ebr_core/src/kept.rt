@@ -4,7 +4,7 @@ ghost use Rattle.std.specs.Prelude.{◌≡◌, ◌≤◌, length, All, IfOk};
 ghost use Rattle.ebr_record.specs.declared.record.Record.TheVariants as left;
 ghost use Rattle.ebr_record.specs.Payload.{HasPayload};
 ghost use Rattle.ebr_core.specs.Records as spec;
-ghost use Rattle.ebr_core.specs.inside.Stored.{HasShortName, IsSmall, max_text};
+ghost use Rattle.ebr_core.specs.inside.Stored.{HasShortName, IsSmall, max_stored};
 
 use ebr_ast::Object;
 use ebr_base::{Class, CloneIn, Column, EditionNo, List, Name, NoMemory, TableDef, TableId};
@@ -57,7 +57,7 @@ fn edition(alloc: Global, name: &Name, parent: EditionNo) -> Result<Record, NoMe
 
 /// The record of an object, by its text.
 fn object_kept(alloc: Global, object: &Object) -> Result<Record, NoMemory>
-    requires small { length object.now.text ≤ max_text }
+    requires small { length object.now.text ≤ max_stored }
     ensures record { IfOk result (λ r. r ≡ left.Object object.now.stamp.edition object.now.enabled object.now.text) }
     ensures payload { IfOk result (λ r. HasPayload r) }
 {

@@ -16,5 +16,6 @@ mod leaving;
 mod parts;
 mod views;
 
+pub use define::add_table;
 pub use engine::Engine;
-pub use laws::definitions_are_read_back;
+pub use laws::{databases_are_rebuilt, definitions_are_read_back, histories_are_kept};

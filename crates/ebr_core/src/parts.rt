@@ -1,25 +1,28 @@
 //! The parts of the engine, and how it answers.
 
-ghost use Rattle.std.specs.Prelude.{◌≡◌, ◌≢◌, ◌<◌, ◌≤◌, ◌+◌, ◌-◌, [], true, false, length, replicate, slice_set, IfOk, OnOk, None, vec_len, vec_capacity};
+ghost use Rattle.std.specs.Prelude.{◌≡◌, ◌≢◌, ◌<◌, ◌≤◌, ◌+◌, ◌-◌, ℕ, List as Sequence, [], true, false, length, replicate, slice_set, IfErr, IfOk, OnOk, None, vec_len, vec_capacity};
 ghost use Rattle.ebr_asks.specs.declared.ask.Ask.TheVariants.{Leave as leaves};
-ghost use Rattle.ebr_asks.specs.declared.answer.Answer.TheVariants.{Done as done, Stopped as stopped};
+ghost use Rattle.ebr_asks.specs.declared.answer.Answer.TheVariants.{Done as done, NoMemory as wanting, Stopped as stopped};
 ghost use Rattle.ebr_core.specs.Asked.{IsFit};
-ghost use Rattle.ebr_core.specs.Engine.{AnswersAsk, IsEmpty, book_at, no_books, with_book};
-ghost use Rattle.ebr_core.specs.History.{IsLive};
+ghost use Rattle.ebr_record.specs.declared.record.Record.{Record as Made};
+ghost use Rattle.ebr_seats.specs.Seats.{Begin};
+ghost use Rattle.ebr_core.specs.Engine.{AnswersAsk, book_at, no_books, with_book};
+ghost use Rattle.ebr_core.specs.History.{IsLive, is_light, is_short};
 ghost use Rattle.ebr_core.specs.Machine as spec;
-ghost use Rattle.ebr_core.specs.inside.Held.{ComesWith, ForSession, Holds, IsHeld, IsReplied};
-ghost use Rattle.ebr_core.specs.inside.Parts.{Adds, Copies, GivesUp, HasRoom, IsSound, Keeps, Tries, database, entry, last_answer, lives_at, state_of};
+ghost use Rattle.ebr_core.specs.Recovered.{AreRecovered, IsReady};
+ghost use Rattle.ebr_core.specs.inside.Held.{ComesWith, ForSession, Holds, IsHeld, IsReplied, Tries};
+ghost use Rattle.ebr_core.specs.inside.Parts.{Adds, ArePlaces, GivesUp, HasRoom, IsSound, Keeps, database, entry, last_answer, lives_at, state_of};
 
-use crate::current::{Current, Given, counted_reply};
+use crate::current::{Current, Given, counted_reply, is_light};
 use crate::leaving::counted_leave;
 use crate::views::Views;
 use ebr_asks::{Answer, Ask, Entry};
-use ebr_base::{CloneIn, EditionNo, NoMemory, SessionId, Shared};
+use ebr_base::{EditionNo, List, NoMemory, SessionId, Shared};
 use ebr_cross::Catalogue;
 use ebr_database::Halt;
 use ebr_exec::World;
-use ebr_record::Keep;
-use ebr_seats::{first_seats, place};
+use ebr_record::{Keep, Record};
+use ebr_seats::{Seat, first_seats, place};
 use ebr_tx::Transactions;
 use ebr_units::{Book, Units};
 use std::alloc::Global;
@@ -35,29 +38,50 @@ pub struct Parts<K> {
     /// For each session the book of the view that it was answered last, until it is taken.
     pub books: Vec<Option<Shared<Book>>>,
     pub history: Vec<Entry>,
+    /// The records of the database with which the history began.
+    pub recovered: List<Record>,
     /// An ask met a fault of the disk, or found no memory.
     pub stopped: bool,
 }
 
+/// What so many sessions have beside their database: a seat, whether they live, a book that is set aside, and the history.
+#[derive(Drop)]
+struct Places {
+    seats: Vec<Seat>,
+    living: Vec<bool>,
+    books: Vec<Option<Shared<Book>>>,
+    history: Vec<Entry>,
+}
+
 impl<K: Keep> Parts<K> {
-    /// With so many live sessions and an empty history.
-    pub fn start(alloc: Global, keeper: K, sessions: u32) -> Result<Parts<K>, NoMemory>
-        requires { IsEmpty (K.as_keeper keeper) }
+    /// With so many live sessions and an empty history, over the records that were recovered, of which the catalogue and the data
+    /// are. Where there is no memory it gives the keeper back.
+    pub fn over(
+        alloc: Global,
+        keeper: K,
+        recovered: List<Record>,
+        catalogue: Catalogue,
+        transactions: Transactions,
+        sessions: u32,
+    ) -> Result<Parts<K>, K>
+        requires are { AreRecovered recovered sessions catalogue transactions.contents }
+        requires ready { IsReady recovered (K.as_keeper keeper) }
         ensures sound { IfOk result (λ p. IsSound K.as_keeper p) }
-        ensures state { IfOk result (λ p. state_of K.as_keeper p ≡ record { history = []; recovered = []; books = no_books sessions; keeper = keeper }) }
+        ensures state { IfOk result (λ p. state_of K.as_keeper p ≡ record { history = []; recovered = recovered; books = no_books sessions; keeper = keeper }) }
+        ensures keeper { IfErr result (λ k. k ≡ keeper) }
     {
-        let mut history = Vec::new(alloc);
-        history.reserve(sessions as usize + 1)?;
-        let living = all_live(alloc, sessions)?;
-        let books = empty_books(alloc, sessions)?;
-        Ok(Parts {
-            alloc,
-            current: first_current(alloc, keeper, sessions)?,
-            living,
-            books,
-            history,
-            stopped: false,
-        })
+        match places_for(alloc, sessions, catalogue.chain.default()) {
+            Ok(places) => Ok(Parts {
+                alloc,
+                current: first_current(alloc, keeper, catalogue, transactions, places.seats),
+                living: places.living,
+                books: places.books,
+                history: places.history,
+                recovered,
+                stopped: false,
+            }),
+            Err(NoMemory) => Err(keeper),
+        }
     }
 
     /// Answers one ask of a live session.
@@ -65,6 +89,7 @@ impl<K: Keep> Parts<K> {
         requires sound { IsSound K.as_keeper self.old }
         requires live { IsLive (database K.as_keeper self.old) s }
         requires fit { IsFit ask }
+        requires short { is_short self.old.history.items s ≡ true → ask ≡ leaves }
         ensures sound { IsSound K.as_keeper self.new }
         ensures answers { AnswersAsk K.as_keeper (state_of K.as_keeper self.old) (state_of K.as_keeper self.new) s ask result }
     {
@@ -110,13 +135,30 @@ impl<K: Keep> Parts<K> {
         requires live { IsLive (database K.as_keeper self.old) s }
         requires stays { ask ≢ leaves }
         requires fit { IsFit ask }
+        requires short { is_short self.old.history.items s ≡ true → ask ≡ leaves }
         ensures sound { IsSound K.as_keeper self.new }
         ensures answers { AnswersAsk K.as_keeper (state_of K.as_keeper self.old) (state_of K.as_keeper self.new) s ask result }
     {
         match self.try_reply(s, &ask) {
             Ok((given, copy)) => self.give(s, ask, given, copy),
-            Err(why) => self.give_up(s, ask, why),
+            Err(why) => {
+                if is_light(&ask) {
+                    return self.pass_by(s, ask);
+                }
+                self.give_up(s, ask, why)
+            }
         }
+    }
+
+    /// Answers that there is no memory for an ask that leaves all as it was.
+    fn pass_by(&mut self, s: SessionId, ask: Ask) -> Answer
+        requires { HasRoom K.as_keeper self.old s }
+        ensures answer { result ≡ wanting }
+        ensures adds { Adds K.as_keeper self.old self.new s (entry s ask wanting) None self.old.living.items }
+        ensures current { self.new.current ≡ self.old.current }
+    {
+        self.add(s, ask, Answer::NoMemory, None);
+        Answer::NoMemory
     }
 
     /// Gives an answer, of which this is a copy.
@@ -137,24 +179,22 @@ impl<K: Keep> Parts<K> {
         requires stays { ask.now ≢ leaves }
         requires fit { IsFit ask.now }
         ensures keeps { Keeps K.as_keeper self.old self.new }
-        ensures reply { ForSession K.as_keeper self.old.current s (λ db e x. Tries K.as_keeper self.old.current self.new.current result (spec.Reply db s ask.now)) }
+        ensures reply { ForSession K.as_keeper self.old.current s (λ db e x. Tries K.as_keeper (is_light ask.now) self.old.current self.new.current db result (spec.Reply db s ask.now)) }
         ensures book { IfOk result (λ pair. ComesWith ask.now pair.0.0 pair.0.1) }
-        ensures room { OnOk result (vec_len self.new.history + (length self.new.living.items + 2) ≤ vec_capacity self.new.history) }
+        ensures room { OnOk result (vec_len self.new.history + (length self.new.living.items + length self.new.living.items + 1) ≤ vec_capacity self.new.history) }
     {
         self.make_room()?;
-        match counted_reply(self.alloc, &mut self.current, s, ask) {
-            Ok(given) => with_copy(self.alloc, given),
-            Err(why) => Err(why),
-        }
+        counted_reply(self.alloc, &mut self.current, s, ask)
     }
 
-    /// Room for an entry, for the one with which the engine gives up, and for a Leave of each session.
+    /// Room for an entry, and for two more of each session.
     fn make_room(&mut self) -> Result<(), NoMemory>
         ensures keeps { Keeps K.as_keeper self.old self.new }
         ensures current { self.new.current ≡ self.old.current }
-        ensures room { OnOk result (vec_len self.new.history + (length self.new.living.items + 2) ≤ vec_capacity self.new.history) }
+        ensures room { OnOk result (vec_len self.new.history + (length self.new.living.items + length self.new.living.items + 1) ≤ vec_capacity self.new.history) }
     {
-        self.history.reserve(self.living.len() + 2)?;
+        let sessions = self.living.len();
+        self.history.reserve(sessions + sessions + 1)?;
         Ok(())
     }
 
@@ -205,16 +245,36 @@ impl<K: Keep> Parts<K> {
     }
 }
 
-/// The first edition alone, in which nothing is defined, with so many sessions.
-fn first_current<K: Keep>(alloc: Global, keeper: K, sessions: u32) -> Result<Current<K>, NoMemory>
-    requires { IsEmpty (K.as_keeper keeper) }
-    ensures holds { IfOk result (λ now. Holds K.as_keeper now (spec.Build [] sessions)) }
-    ensures keeper { IfOk result (λ now. now.world.keeper ≡ keeper) }
+/// The places of so many sessions, in an edition, with room for two entries of each.
+fn places_for(alloc: Global, sessions: u32, e: EditionNo) -> Result<Places, NoMemory>
+    ensures { IfOk result (λ p. ArePlaces p sessions e) }
 {
-    let seats = first_seats(alloc, sessions, EditionNo(1))?;
-    let catalogue = Catalogue::new(alloc)?;
-    let tx = Transactions::new(alloc, sessions)?;
-    Ok(Current {
+    let mut history = Vec::new(alloc);
+    history.reserve(sessions as usize + sessions as usize)?;
+    let seats = first_seats(alloc, sessions, e)?;
+    let living = all_live(alloc, sessions)?;
+    let books = empty_books(alloc, sessions)?;
+    Ok(Places {
+        seats,
+        living,
+        books,
+        history,
+    })
+}
+
+/// The database of a catalogue and of data in which no transaction has begun.
+fn first_current<K: Keep>(
+    alloc: Global,
+    keeper: K,
+    catalogue: Catalogue,
+    tx: Transactions,
+    seats: Vec<Seat>,
+) -> Current<K>
+    ensures holds { (records : Sequence Made) (n : ℕ) → AreRecovered records n catalogue tx.contents → Begin n catalogue.chain.default seats.items → IsReady records (K.as_keeper keeper)
+        → Holds K.as_keeper result (spec.Build records n) }
+    ensures keeper { result.world.keeper ≡ keeper }
+{
+    Current {
         world: World {
             catalogue,
             book: Units::new(alloc),
@@ -223,7 +283,7 @@ fn first_current<K: Keep>(alloc: Global, keeper: K, sessions: u32) -> Result<Cur
         },
         views: Views::new(alloc),
         seats,
-    })
+    }
 }
 
 /// The answer with which the engine gives up.
@@ -233,16 +293,6 @@ fn last_answer(why: Halt) -> Answer
     match why {
         Halt::DiskFault => Answer::DiskFault,
         Halt::Stopped | Halt::NoMemory => Answer::NoMemory,
-    }
-}
-
-/// A value with what comes with it, and a copy of the value.
-fn with_copy<T: CloneIn, B: Drop>(alloc: Global, given: (T, B)) -> Result<((T, B), T), Halt>
-    ensures { Copies given result }
-{
-    match given.0.clone_in(alloc) {
-        Ok(copy) => Ok((given, copy)),
-        Err(NoMemory) => Err(Halt::NoMemory),
     }
 }
 

@@ -1,5 +1,5 @@
 -- The database as the engine holds it, and what its calls leave.
-use Rattle.std.specs.Prelude.{◌≡◌, false, [], Option, Some, None, Result, Ok, Err}
+use Rattle.std.specs.Prelude.{◌≡◌, Bool, true, false, List, [], Option, Some, None, Result, Ok, Err}
 use Rattle.ebr_base.specs.declared.code.Code.{Code}
 use Rattle.ebr_base.specs.declared.code.Stop.{Stop}
 use Rattle.ebr_base.specs.declared.code.Stop.TheVariants.{Raised, NoMemory}
@@ -14,6 +14,7 @@ use Rattle.ebr_asks.specs.declared.ask.Ask.TheVariants.{Begin, Sql, Ddl, EndCall
 use Rattle.ebr_asks.specs.declared.answer.Answer.{Answer}
 use Rattle.ebr_asks.specs.declared.answer.Answer.TheVariants.{View, Done, Refused as refused}
 use Rattle.ebr_cross.specs.Catalogue.{HaveOwnKeys, as_catalogue}
+use Rattle.ebr_record.specs.declared.record.Record.{Record}
 use Rattle.ebr_record.specs.Keeper.{Keeper}
 use Rattle.ebr_database.specs.declared.failure.Failure.{Failure}
 use Rattle.ebr_database.specs.declared.failure.Failure.TheVariants.{Refused, Halted}
@@ -38,6 +39,16 @@ abbrev pub with_nothing : Result Answer Halt → Result (Answer × Option Editio
 with_nothing (Ok a) = Ok (a, None)
 with_nothing (Err why) = Err why
 
+-- what is given again, with a copy of its first part, or no memory for one
+abbrev pub Copies : {T B : Type 0} → T × B → Result ((T × B) × T) Halt → Type 0
+Copies given (Ok pair) = (pair.0 ≡ given) × (pair.1 ≡ given.0)
+Copies given (Err e) = e ≡ why.NoMemory
+
+-- the same of what may not be given
+abbrev pub CopiesGiven : {T B : Type 0} → Result (T × B) Halt → Result ((T × B) × T) Halt → Type 0
+CopiesGiven (Ok given) result = Copies given result
+CopiesGiven (Err e) result = result ≡ Err e
+
 -- a refusal, or want of memory, with which the engine gives up
 abbrev pub failed : Result (Unit {0}) Stop → Result (Unit {0}) Failure
 failed (Ok u) = Ok u
@@ -49,15 +60,15 @@ abbrev pub refused_by : Result (Unit {0}) Code → Result (Unit {0}) Failure
 refused_by (Ok u) = Ok u
 refused_by (Err code) = Err (Refused code)
 
--- an ask that is answered without a view, and no Leave
+-- an ask that is no statement, is answered without a view, and is no Leave
 abbrev pub IsPlain : Ask → Type 0
 IsPlain Begin = ⊥
+IsPlain (Sql stmt binds left) = ⊥
 IsPlain Leave = ⊥
 IsPlain ask = Unit {0}
 
 -- an ask that is done or refused
 abbrev pub IsDone : Ask → Type 0
-IsDone (Sql stmt binds left) = ⊥
 IsDone (Ddl what text) = ⊥
 IsDone (EndCall failed) = ⊥
 IsDone ask = IsPlain ask
@@ -120,6 +131,22 @@ module _ {K : Type 0} (as_keeper : K → Keeper) where
   abbrev pub RepliesGiven : Current K → Current K → Result (Answer × Option EditionView) Halt → Replied → Type 0
   RepliesGiven old new (Ok given) r = IsReplied old new given.0 r
   RepliesGiven old new (Err why) r = GaveUp (keeper_of old) (keeper_of new) r.records why
+
+  -- All is held as before, and nothing was kept.
+  pub record IsUntouched (old new : Current K) (db : Database) : Type 0 where
+    pub holds : Holds new db
+    pub grew : Grew (keeper_of old) (keeper_of new) []
+
+  -- What becomes of an ask without memory for it, or with a fault of the disk: a light one leaves all as it was, and with any other one
+  -- the engine gives up.
+  abbrev pub Fails : Bool → Current K → Current K → Database → List Record → Halt → Type 0
+  Fails true old new db made why = IsUntouched old new db
+  Fails false old new db made why = GaveUp (keeper_of old) (keeper_of new) made why
+
+  -- what a try to reply gives, with a copy of the answer
+  abbrev pub Tries : Bool → Current K → Current K → Database → Result ((Answer × Option EditionView) × Answer) Halt → Replied → Type 0
+  Tries light old new db (Ok told) r = IsReplied old new told.0.0 r × (told.1 ≡ told.0.0)
+  Tries light old new db (Err why) r = Fails light old new db r.records why
 
   -- The ask stands in the right place.
   abbrev pub IsPlaced : Current K → SessionId → Ask → Type 0

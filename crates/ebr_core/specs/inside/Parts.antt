@@ -1,5 +1,6 @@
 -- The parts of the engine, and what holds of them between two asks.
-use Rattle.std.specs.Prelude.{◌≡◌, ℕ, ◌+◌, ◌-◌, ◌<◌, ◌≤◌, suc, zero, Bool, true, false, is_some, List, [], ◌∷◌, ◌++◌, length, map, Option, Some, None, slice_get, slice_set, Result, Ok, Err, vec_len, vec_capacity}
+use Rattle.std.specs.Prelude.{◌≡◌, ℕ, ◌+◌, ◌-◌, ◌<◌, ◌≤◌, suc, zero, Bool, true, false, is_some, List, [], ◌∷◌, ◌++◌, length, map, Option, Some, None, slice_get, slice_set, Result, Ok, Err, replicate, vec_len, vec_capacity}
+use Rattle.ebr_base.specs.declared.numbers.EditionNo.{EditionNo}
 use Rattle.ebr_base.specs.declared.numbers.SessionId.{SessionId}
 use Rattle.ebr_ast.specs.declared.view.EditionView.{EditionView}
 use Rattle.ebr_asks.specs.declared.ask.Ask.{Ask}
@@ -9,13 +10,14 @@ use Rattle.ebr_asks.specs.declared.entry.Entry.{Entry}
 use Rattle.ebr_record.specs.Keeper.{Keeper}
 use Rattle.ebr_database.specs.declared.failure.Halt.{Halt}
 use Rattle.ebr_database.specs.declared.failure.Halt.TheVariants as why
-use Rattle.ebr_database.specs.Database.{Session, Database, Replied}
-use Rattle.ebr_database.specs.Shows.{GaveUp}
+use Rattle.ebr_database.specs.Database.{Session, Database}
 use Rattle.ebr_core.specs.declared.current.Current.{Current}
+use Rattle.ebr_seats.specs.Seats.{Begin}
 use Rattle.ebr_core.specs.declared.parts.Parts.{Parts}
-use Rattle.ebr_core.specs.History.{Legal, AllStopped}
-use Rattle.ebr_core.specs.Engine.{EngineState, database_of, first_of, has_given_up}
-use Rattle.ebr_core.specs.inside.Held.{Holds, IsReplied, keeper_of}
+use Rattle.ebr_core.specs.declared.parts.Places.{Places}
+use Rattle.ebr_core.specs.History.{Legal, AllStopped, is_short}
+use Rattle.ebr_core.specs.Engine.{EngineState, database_of, first_of, has_given_up, no_books}
+use Rattle.ebr_core.specs.inside.Held.{Holds}
 
 -- whether each session lives
 abbrev pub is_there : Session → Bool
@@ -29,6 +31,21 @@ abbrev pub live_count : List Bool → ℕ
 live_count [] = 0
 live_count (true ∷ bs) = suc (live_count bs)
 live_count (false ∷ bs) = live_count bs
+
+-- how many entries a session may still make without memory: an idle one and its Leave; Leave alone where it has an idle one
+abbrev pub last_entries : Bool → Bool → ℕ
+last_entries false short = 0
+last_entries true true = 1
+last_entries true false = 2
+
+-- those of sessions that are numbered from this one on
+abbrev pub needs : (ℕ → Bool) → ℕ → List Bool → ℕ
+needs short n [] = 0
+needs short n (b ∷ bs) = last_entries b (short n) + needs short (suc n) bs
+
+-- those of all sessions
+abbrev pub room_needed : List Entry → List Bool → ℕ
+room_needed history living = needs (λ n. is_short history (record { 0 = n })) 1 living
 
 -- Whether the session of a number is there, and hasn't left. None has the number 0.
 abbrev pub lives_in : Option Bool → Bool
@@ -48,14 +65,18 @@ last_answer why.DiskFault = answer.DiskFault
 last_answer why.Stopped = answer.NoMemory
 last_answer why.NoMemory = answer.NoMemory
 
--- what is given again, with a copy of its first part, or no memory for one
-abbrev pub Copies : {T B : Type 0} → T × B → Result ((T × B) × T) Halt → Type 0
-Copies given (Ok pair) = (pair.0 ≡ given) × (pair.1 ≡ given.0)
-Copies given (Err e) = e ≡ why.NoMemory
+-- The places of so many sessions that live, in an edition: their seats, no book set aside, and an empty history with room for two
+-- entries of each.
+pub record ArePlaces (p : Places) (sessions : ℕ) (e : EditionNo) : Type 0 where
+  pub seats : Begin sessions e p.seats.items
+  pub living : p.living.items ≡ replicate sessions true
+  pub books : p.books.items ≡ no_books sessions
+  pub history : p.history.items ≡ []
+  pub room : vec_len p.history + (sessions + sessions) ≤ vec_capacity p.history
 
 module _ {K : Type 0} (as_keeper : K → Keeper) where
   abbrev pub state_of : Parts K → EngineState K
-  state_of p = record { history = p.history.items; recovered = []; books = p.books.items; keeper = p.current.world.keeper }
+  state_of p = record { history = p.history.items; recovered = p.recovered; books = p.books.items; keeper = p.current.world.keeper }
 
   abbrev pub database : Parts K → Database
   database p = database_of (state_of p)
@@ -63,13 +84,13 @@ module _ {K : Type 0} (as_keeper : K → Keeper) where
   abbrev pub first : Parts K → Database
   first p = first_of (state_of p)
 
-  -- Any history that is legal behind this one goes on with it, the database is held, and there is room for one more entry for each
-  -- live session and for one with which the engine gives up.
+  -- Any history that is legal behind this one goes on with it, the database is held, and there is room for the last entries of all
+  -- sessions.
   pub record Runs (p : Parts K) : Type 0 where
     pub legal : (more : List Entry) → Legal (database p) more → Legal (first p) (p.history.items ++ more)
     pub holds : Holds as_keeper p.current (database p)
     pub goes : (as_keeper p.current.world.keeper).stopped ≡ false
-    pub room : vec_len p.history + live_count p.living.items + 1 ≤ vec_capacity p.history
+    pub room : vec_len p.history + room_needed p.history.items p.living.items ≤ vec_capacity p.history
 
   -- Behind this history all asks are answered Stopped, and there is room for one entry for each live session.
   pub record HasStopped (p : Parts K) : Type 0 where
@@ -95,6 +116,7 @@ module _ {K : Type 0} (as_keeper : K → Keeper) where
     pub room : vec_capacity new.history ≡ vec_capacity old.history
     pub living_is : new.living.items ≡ living
     pub stopped : new.stopped ≡ old.stopped
+    pub recovered : new.recovered ≡ old.recovered
 
   -- It gave up with one entry, and no book is set aside.
   pub record GivesUp (old new : Parts K) (s : SessionId) (x : Entry) : Type 0 where
@@ -104,6 +126,7 @@ module _ {K : Type 0} (as_keeper : K → Keeper) where
     pub room : vec_capacity new.history ≡ vec_capacity old.history
     pub living : new.living.items ≡ old.living.items
     pub stopped : new.stopped ≡ true
+    pub recovered : new.recovered ≡ old.recovered
 
   -- what the calls that add an entry need
   pub record HasRoom (p : Parts K) (s : SessionId) : Type 0 where
@@ -120,8 +143,4 @@ module _ {K : Type 0} (as_keeper : K → Keeper) where
     pub living : new.living.items ≡ old.living.items
     pub books : new.books.items ≡ old.books.items
     pub stopped : new.stopped ≡ old.stopped
-
-  -- what a try to reply gives, with a copy of the answer
-  abbrev pub Tries : Current K → Current K → Result ((Answer × Option EditionView) × Answer) Halt → Replied → Type 0
-  Tries old new (Ok pair) r = IsReplied as_keeper old new pair.0.0 r × (pair.1 ≡ pair.0.0)
-  Tries old new (Err why) r = GaveUp (keeper_of as_keeper old) (keeper_of as_keeper new) r.records why
+    pub recovered : new.recovered ≡ old.recovered

@@ -1,4 +1,4 @@
--- What the stored texts of a catalogue are: each spells its object, and is small. And the records that need so little room.
+-- What the stored texts of a catalogue are: each spells its object, and has room in a record. And the records that need so little room.
 use Rattle.std.specs.Prelude.{◌≡◌, ℕ, ◌≤◌, Bool, List, length, Some}
 use Rattle.ebr_base.specs.declared.numbers.EditionNo.{EditionNo}
 use Rattle.ebr_base.specs.declared.object.ObjectKey.{ObjectKey}
@@ -37,26 +37,26 @@ IsSpelled key o = SpellsObject key o.text o.tree
 abbrev pub AreSpelled : Lists → Type 0
 AreSpelled c = OfObjects IsSpelled c.entries
 
--- the most bytes of a stored text, as of a script (own)
-abbrev pub max_text : ℕ
-max_text = 1048576
+-- the most bytes of a stored text: with the other ten bytes of an object's record they are those of the longest payload (own)
+abbrev pub max_stored : ℕ
+max_stored = 134217718
 
 abbrev pub HasSmallText : ObjectKey → Object → Type 0
-HasSmallText key o = length o.text ≤ max_text
+HasSmallText key o = length o.text ≤ max_stored
 
--- each object's text is small
+-- each object's text has room in a record
 abbrev pub AreSmall : Lists → Type 0
 AreSmall c = OfObjects HasSmallText c.entries
 
--- What a definition left has room in a record: a text is small, and a table has few columns and a short key.
+-- What a definition left has room in a record: a text isn't too long, and a table has few columns and a short key.
 abbrev pub IsSmall : CatalogueRecord → Type 0
-IsSmall (made.Object o) = length o.text ≤ max_text
+IsSmall (made.Object o) = length o.text ≤ max_stored
 IsSmall (made.Table d) = (length d.columns ≤ 64) × (length d.key ≤ 64)
 IsSmall r = Unit {0}
 
--- a record's text is small
+-- a record's text has room in it
 abbrev pub KeepsSmall : Record → Type 0
-KeepsSmall (left.Object e enabled text) = length text ≤ max_text
+KeepsSmall (left.Object e enabled text) = length text ≤ max_stored
 KeepsSmall r = Unit {0}
 
 -- a column's name is short, as each name is
