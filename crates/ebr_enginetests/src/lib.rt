@@ -1,4 +1,5 @@
-//! Tests of the engine alone, the asks of several sessions over a keeper in memory, line by line; and of the pieces of scripts.
+//! Tests of the engine alone, the asks of several sessions over a keeper in memory, line by line; of what is recovered of the
+//! records that it kept; and of the pieces of scripts.
 #![tactic(auto)]
 
 #[cfg(test)]
@@ -15,6 +16,8 @@ mod ends;
 mod pieces;
 #[cfg(test)]
 mod printing;
+#[cfg(test)]
+mod recovered;
 #[cfg(test)]
 mod script;
 #[cfg(test)]

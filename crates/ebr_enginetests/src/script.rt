@@ -1,10 +1,14 @@
 //! Scripts of several sessions, each line with what it answers.
 
+ghost use Rattle.std.specs.Prelude.{◌≡◌, ◌&&◌, false};
+ghost use Rattle.std.specs.List.{list_any};
+ghost use Rattle.ebr_asks.specs.declared.entry.Entry.{Entry};
 ghost use Rattle.ebr_core.specs.Engine.{database_of};
-ghost use Rattle.ebr_core.specs.History.{IsLive};
+ghost use Rattle.ebr_core.specs.History.{IsLive, is_of, is_short, wants};
 
 use crate::asking::{ask_of, release};
 use crate::printing::{answer, entries, records};
+use ebr_asks::{Answer, Entry};
 use ebr_base::{Bytes, NoMemory, SessionId, rest_from};
 use ebr_core::Engine;
 use ebr_record::ListKeep;
@@ -19,21 +23,49 @@ fn first_word(text: &str) -> (&str, &str) {
 }
 
 /// A number; where the text is none, the test fails with want of memory.
-fn number(text: &str) -> Result<u32, NoMemory> {
+pub fn number(text: &str) -> Result<u32, NoMemory> {
     match text.parse::<u32>() {
         Ok(n) => Ok(n),
         Err(_) => Err(NoMemory),
     }
 }
 
-/// What a live session is answered.
+/// Whether an answer is that there is no memory.
+fn wants(answer: &Answer) -> bool
+    ensures { result ≡ wants answer.now }
+{
+    matches!(answer, Answer::NoMemory)
+}
+
+/// Whether an entry is of this session, which was answered so.
+fn is_want(entry: &Entry, s: SessionId) -> bool
+    ensures { result ≡ (is_of s entry.now && wants entry.now.answer) }
+{
+    entry.session.0 == s.0 && wants(&entry.answer)
+}
+
+fn any_want(history: &[Entry], s: SessionId) -> bool
+    ensures { result ≡ list_any (λ (x : Entry). is_of s x && wants x.answer) history.now }
+{
+    history.iter().any(|entry| is_want(entry, s))
+}
+
+/// Whether a session was answered that there is no memory.
+fn is_short(history: &[Entry], s: SessionId) -> bool
+    ensures { result ≡ is_short history.now s }
+{
+    any_want(history, s)
+}
+
+/// What a live session is answered that may ask more than Leave.
 fn answered(
     alloc: Global,
     engine: &mut Engine<ListKeep>,
     s: SessionId,
     text: &str,
 ) -> Result<Bytes, NoMemory>
-    requires { IsLive (database_of engine.old) s }
+    requires live { IsLive (database_of engine.old) s }
+    requires long { is_short engine.old.history s ≡ false }
 {
     let mut out = Bytes::new(alloc);
     let ask = ask_of(alloc, text)?;
@@ -51,6 +83,9 @@ fn said(
     s: SessionId,
     text: &str,
 ) -> Result<Bytes, NoMemory> {
+    if is_short(engine.history(), s) {
+        return Err(NoMemory);
+    }
     if engine.live(s) {
         answered(alloc, engine, s, text)
     } else {
@@ -128,7 +163,7 @@ fn fault(
 }
 
 /// The first fault of these lines.
-fn fault_of(
+pub fn fault_of(
     alloc: Global,
     engine: &mut Engine<ListKeep>,
     lines: &str,
@@ -147,14 +182,23 @@ fn fault_of(
     Ok(None)
 }
 
+/// The keeper of an engine.
+pub fn kept_by(engine: Engine<ListKeep>) -> ListKeep
+    ensures { result ≡ engine.keeper }
+{
+    let (recovered, history, keeper) = engine.into_parts();
+    release(recovered);
+    release(history);
+    keeper
+}
+
 /// The records that were kept, where they are others than these.
 fn kept_fault(
     alloc: Global,
     engine: Engine<ListKeep>,
     wanted: &str,
 ) -> Result<Option<String>, NoMemory> {
-    let (history, keeper) = engine.into_parts();
-    release(history);
+    let keeper = kept_by(engine);
     let mut out = Bytes::new(alloc);
     let printed = records(alloc, keeper.records(), &mut out);
     release(keeper);
@@ -208,7 +252,7 @@ fn first_fault(
 }
 
 /// A part of a table, before its next `~`, and the rest.
-fn part(table: &str) -> Result<(&str, &str), NoMemory> {
+pub fn part(table: &str) -> Result<(&str, &str), NoMemory> {
     table.split_once('~').ok_or(NoMemory)
 }
 
