@@ -37,7 +37,7 @@ module _ {S K : Type 0} (held : S → Option (List ℕ)) (faults : S → ℕ) (w
 
   in_sink : (sink : Option S) → IfSome sink (λ t. faults t ≡ w.faults) → IfSome sink (λ t. faults t ≡ failed_writes x.end)
   in_sink None counted = tt
-  in_sink (Some t) counted = counted ∙ over.failed ∙ ap failed_writes (sym end_is)
+  in_sink (Some t) counted = counted ∙ over.come.failed ∙ ap failed_writes (sym end_is)
 
   pub is_end : IsEnd held faults e.history script s x
   is_end = record {
@@ -47,7 +47,7 @@ module _ {S K : Type 0} (held : S → Option (List ℕ)) (faults : S → ℕ) (w
       requests = came_to.requests ∙ sym (ap length mine_is ∙ length-map w.session.transcript as_recorded);
       refused = came_to.refused ∙ sym (ap (count_by is_refused) mine_is ∙ refused_kept w.session.transcript);
       came = subst (λ f. Came f script (Mine e.history s) w.written) (sym end_is)
-          (subst (λ t. Came k t (Mine e.history s) w.written) script_is (subst (λ r. Came k w.session.script (Mine e.history r) w.written) number over.came));
+          (subst (λ t. Came k t (Mine e.history s) w.written) script_is (subst (λ mine. Came k w.session.script mine w.written) (sym mine_is) over.come.came));
     };
     holds = came_to.holds;
     failed = in_sink x.sink came_to.counted;

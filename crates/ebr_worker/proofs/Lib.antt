@@ -1,6 +1,7 @@
 mod Ending
 mod First
 mod Histories
+mod Keeping
 mod Outputs
 mod Rehearsing
 mod Replying

@@ -1,6 +1,6 @@
 -- What turns make of a rehearsal.
 use Rattle.std.proofs.Common.{ℕ, suc, ◌≡◌, ◌+◌, ◌-◌, ◌<◌, ◌≤◌, Bool, true, false, List, [], ◌∷◌, ◌++◌, length, Option, Some, None, inl, inr, refl, sym, ◌∙◌, ap, subst, arith, rules, append-nil, append_assoc}
-use Rattle.std.specs.Prelude.{All, drop, get_or, zero, ◌⊎◌, ◌||◌, cond, if◌then◌else◌, nat_lt, not, sum_by, map, slice_get, slice_set, is_none}
+use Rattle.std.specs.Prelude.{All, drop, get_or, zero, ◌⊎◌, cond, if◌then◌else◌, nat_lt, not, sum_by, map, slice_get, slice_set, is_none}
 use Rattle.std.specs.List.{position, position_or_len, prefix_len}
 use Rattle.std.proofs.lemmas.List.{length-append, length-map}
 use Rattle.std.proofs.lemmas.List.{at_drop_more}
@@ -10,29 +10,24 @@ use Rattle.std.proofs.lemmas.Option.{get_or_from_slice_get, slice_get_within}
 use Rattle.ebr_base.specs.declared.numbers.TheConstants.{MAX_COUNT}
 use Rattle.ebr_base.specs.declared.numbers.SessionId.{SessionId}
 use Rattle.ebr_report.specs.declared.ends.EndKind.{EndKind}
-use Rattle.ebr_asks.specs.declared.answer.Answer.{Answer}
-use Rattle.ebr_asks.specs.declared.answer.Answer.TheVariants.{DiskFault}
 use Rattle.ebr_asks.specs.declared.entry.Entry.{Entry}
-use Rattle.ebr_faults.specs.Faults.{Rises}
 use Rattle.ebr_record.specs.Keeper.{Keeper}
-use Rattle.ebr_core.specs.Engine.{EngineState}
+use Rattle.ebr_core.specs.Engine.{EngineState, first_of}
 use Rattle.ebr_core.specs.History.{Mine, exchange}
-use Rattle.ebr_worker.specs.Matches.{has_fault, is_fault, as_recorded}
+use Rattle.ebr_core.specs.Kept.{Kept}
+use Rattle.ebr_worker.specs.Matches.{as_recorded}
 use Rattle.ebr_worker.specs.Paced.{AllOver, IsFirst, IsSession, Next, Paced, ToEnds, Turn, Turns, is_over}
-use Rattle.ebr_worker.specs.Ends.{Came}
-use Rattle.ebr_worker.specs.Work.{Adds, Makes, Over, Seated, Stands, StandsBy, Turned, Work}
-use Rattle.ebr_worker.specs.Rehearsal.{AllEnded, AllStand, Faultless, scripts_of}
+use Rattle.ebr_worker.specs.Work.{Adds, Makes, Over, Seated, Stands, StandsBy, Turned, Work, Works}
+use Rattle.ebr_worker.specs.Rehearsal.{AllEnded, AllStand, scripts_of}
 use Rattle.ebr_worker.specs.inside.Rehearsal.{Rehearses, TurnedAt, asks_left, goes_on}
-use Rattle.ebr_worker.proofs.Histories.{mine_more, mine_other, over_other}
+use Rattle.ebr_worker.proofs.Histories.{mine_more, mine_other, over_is}
+use Rattle.ebr_worker.proofs.Keeping.{kept_adds, kept_none}
 
 -- ---- workers behind an entry of another session
 
 module _ {K : Type 0} (as_keeper : K → Keeper) (s : SessionId) (x : Entry) (w : Work) (e e' : EngineState K) (adds : Adds as_keeper s x e e') (other : w.session.session.0 ≡ s.0 → ⊥) where
   same_mine : Mine e'.history w.session.session ≡ Mine e.history w.session.session
   same_mine = ap (λ h. Mine h w.session.session) adds.is ∙ mine_other e.history x s w.session.session adds.of other
-
-  same_over : is_over e'.history w.session.session ≡ is_over e.history w.session.session
-  same_over = ap (λ h. is_over h w.session.session) adds.is ∙ over_other e.history x s w.session.session adds.of other
 
   seated_on : Seated w.session e → Seated w.session e'
   seated_on seated = record {
@@ -42,25 +37,11 @@ module _ {K : Type 0} (as_keeper : K → Keeper) (s : SessionId) (x : Entry) (w 
 
   by_end : (k : Option EndKind) → StandsBy k w e → StandsBy k w e'
   by_end None works = record {
-    goes_on = works.goes_on;
-    no_quit = works.no_quit;
-    no_ask = works.no_ask;
-    follows = works.follows;
+    runs = works.runs;
     seated = seated_on works.seated;
-    not_over = same_over ∙ works.not_over;
-    few = works.few;
-    written = works.written;
-    unfailed = works.unfailed;
     live = adds.others w.session.session other works.live;
   }
-  by_end (Some k) over = record {
-    ended = over.ended;
-    seated = seated_on over.seated;
-    over = same_over ∙ over.over;
-    few = over.few;
-    came = subst (λ mine. Came k w.session.script mine w.written) (sym same_mine) over.came;
-    failed = over.failed;
-  }
+  by_end (Some k) over = record { come = over.come; seated = seated_on over.seated }
 
   pub stands_on : Stands w e → Stands w e'
   stands_on = by_end w.end
@@ -157,37 +138,15 @@ pub seated_of : {K : Type 0} (k : Option EndKind) (w : Work) (e : EngineState K)
 seated_of None w e works = works.seated
 seated_of (Some k) w e over = over.seated
 
-fault_is : (x : Answer) → is_fault x ≡ true → x ≡ DiskFault
-fault_is DiskFault is = refl
-fault_is x is = cc
+-- A session that runs hasn't ended in the history, ..
+pub still_runs : {K : Type 0} (w : Work) (e : EngineState K) → Works w e → is_over e.history w.session.session ≡ false
+still_runs w e works = over_is e.history w.session.session w.session.transcript works.seated.matches ∙ works.runs.not_over
 
-any_behind : (h : List Entry) (x : Entry) → has_fault (h ++ x ∷ []) ≡ true → (has_fault h ≡ true) ⊎ (is_fault x.answer ≡ true)
-any_behind [] x is = inr (last (is_fault x.answer) is)
-  where
-    last : (b : Bool) → b || false ≡ true → b ≡ true
-    last true is = refl
-    last false is = is
-any_behind (y ∷ h) x is = either (is_fault y.answer) (has_fault h) (has_fault (h ++ x ∷ [])) (any_behind h x) is
-  where
-    either : (b c d : Bool) → (d ≡ true → (c ≡ true) ⊎ (is_fault x.answer ≡ true)) → b || d ≡ true → (b || c ≡ true) ⊎ (is_fault x.answer ≡ true)
-    either true c d rest is = inl refl
-    either false c d rest is = rest is
-
-rises_since : (a b c : ℕ) → a ≤ b → Rises b c → Rises a c
-rises_since a b c grown rises = omega (arith, grown, rises)
-
-rises_on : (a b c : ℕ) → Rises a b → b ≤ c → Rises a c
-rises_on a b c rises grown = omega (arith, grown, rises)
-
--- An entry more is that the disk failed only where the count of faults rose.
-pub faultless_more : {K : Type 0} (as_keeper : K → Keeper) (s : SessionId) (x : Entry) (first e e' : EngineState K) → Adds as_keeper s x e e' → (as_keeper first.keeper).faults ≤ (as_keeper e.keeper).faults → Faultless as_keeper first e → Faultless as_keeper first e'
-faultless_more as_keeper s x first e e' adds grown was = λ is.
-    elim (any_behind e.history x (ap has_fault (sym adds.is) ∙ is)) [ inl before ↦ rises_on _ _ _ (was before) adds.counted | inr now ↦ rises_since _ _ _ grown (adds.fault (fault_is x.answer now)) ]
+-- .. and one that has ended has.
+pub is_done : {K : Type 0} (k : EndKind) (w : Work) (e : EngineState K) → Over k w e → is_over e.history w.session.session ≡ true
+is_done k w e over = over_is e.history w.session.session w.session.transcript over.seated.matches ∙ over.come.over
 
 module _ {K : Type 0} (as_keeper : K → Keeper) (order left : List SessionId) (ws0 ws ws' : List Work) (first e e' : EngineState K) (at : ℕ) (did : TurnedAt as_keeper at ws ws' e e') where
-  faults : EngineState K → ℕ
-  faults f = (as_keeper f.keeper).faults
-
   -- What a turn keeps of a rehearsal, whatever is left of the order.
   keeps : (left' : List SessionId) → Rehearses as_keeper order left ws0 ws first e
       → ((rest : List Entry) → Turns (length e.books) left' e'.history rest → Turns (length e.books) order [] (e'.history ++ rest))
@@ -201,21 +160,16 @@ module _ {K : Type 0} (as_keeper : K → Keeper) (order left : List SessionId) (
         books = books ∙ so_far.books;
         recovered = recovered_by did.before.end did.turned.makes ∙ so_far.recovered;
         paced = subst (λ n. (rest : List Entry) → Turns n left' e'.history rest → Turns n order [] (e'.history ++ rest)) (sym books) paced';
-        counted = counted_by did.before.end did.turned.makes so_far.counted;
-        faultless = faultless_by did.before.end did.turned.makes so_far.counted so_far.faultless;
+        kept = kept_by did.before.end did.turned.makes so_far.kept;
       }
     where
       recovered_by : (k : Option EndKind) → Makes as_keeper k did.before did.after e e' → e'.recovered ≡ e.recovered
       recovered_by None (x, adds) = adds.recovered
       recovered_by (Some k) (same, is) = ap (λ (f : EngineState K). f.recovered) is
 
-      counted_by : (k : Option EndKind) → Makes as_keeper k did.before did.after e e' → (as_keeper first.keeper).faults ≤ (as_keeper e.keeper).faults → (as_keeper first.keeper).faults ≤ (as_keeper e'.keeper).faults
-      counted_by None (x, adds) grown = omega (arith, grown, adds.counted)
-      counted_by (Some k) (same, is) grown = subst (λ (f : EngineState K). (as_keeper first.keeper).faults ≤ (as_keeper f.keeper).faults) (sym is) grown
-
-      faultless_by : (k : Option EndKind) → Makes as_keeper k did.before did.after e e' → (as_keeper first.keeper).faults ≤ (as_keeper e.keeper).faults → Faultless as_keeper first e → Faultless as_keeper first e'
-      faultless_by None (x, adds) grown was = faultless_more as_keeper did.before.session.session x first e e' adds grown was
-      faultless_by (Some k) (same, is) grown was = subst (Faultless as_keeper first) (sym is) was
+      kept_by : (k : Option EndKind) → Makes as_keeper k did.before did.after e e' → Kept (as_keeper first.keeper) (as_keeper e.keeper) (first_of e) e.history → Kept (as_keeper first.keeper) (as_keeper e'.keeper) (first_of e') e'.history
+      kept_by None (x, adds) kept = kept_adds as_keeper (as_keeper first.keeper) did.before.session.session x e e' adds kept
+      kept_by (Some k) (same, is) kept = subst (λ (f : EngineState K). Kept (as_keeper first.keeper) (as_keeper f.keeper) (first_of f) f.history) (sym is) kept
 
 -- A turn of the order is taken.
 module _ {K : Type 0} (as_keeper : K → Keeper) (order left : List SessionId) (s : SessionId) (ws0 ws ws' : List Work) (first e e' : EngineState K) (at : ℕ) (did : TurnedAt as_keeper at ws ws' e e') (is : s ≡ record { 0 = at + 1 })
@@ -226,12 +180,12 @@ module _ {K : Type 0} (as_keeper : K → Keeper) (order left : List SessionId) (
   step : (n : ℕ) → ((rest : List Entry) → Turns n (s ∷ left) e.history rest → Turns n order [] (e.history ++ rest)) → (k : Option EndKind) → StandsBy k did.before e → Makes as_keeper k did.before did.after e e'
       → (rest : List Entry) → Turns n left e'.history rest → Turns n order [] (e'.history ++ rest)
   step n on None works (x, adds) =
-      let runs : is_over e.history s ≡ false = subst (λ r. is_over e.history r ≡ false) session_is works.not_over in
+      let runs : is_over e.history s ≡ false = subst (λ r. is_over e.history r ≡ false) session_is (still_runs did.before e works) in
       subst (λ h. (rest : List Entry) → Turns n left h rest → Turns n order [] (h ++ rest)) (sym adds.is)
       (λ rest turns. subst (Turns n order []) (sym (append_assoc e.history (x ∷ []) rest))
       (on (x ∷ rest) (subst (λ b. Turn b (Turns n left e.history (x ∷ rest)) (Next s (x ∷ rest) (λ y more. Turns n left (e.history ++ y ∷ []) more))) (sym runs) (adds.of ∙ session_is, turns))))
   step n on (Some k) over (same, is_same) =
-      let ended : is_over e.history s ≡ true = subst (λ r. is_over e.history r ≡ true) session_is over.over in
+      let ended : is_over e.history s ≡ true = subst (λ r. is_over e.history r ≡ true) session_is (is_done k did.before e over) in
       subst (λ (f : EngineState K). (rest : List Entry) → Turns n left f.history rest → Turns n order [] (f.history ++ rest)) (sym is_same)
       (λ rest turns. on rest (subst (λ b. Turn b (Turns n left e.history rest) (Next s rest (λ y more. Turns n left (e.history ++ y ∷ []) more))) (sym ended) turns))
 
@@ -320,7 +274,7 @@ module _ {K : Type 0} (ws : List Work) (e : EngineState K) (all : AllStand ws e)
       let how = has_end there.0 (ended there.0 there.1) in
       let number : r.0 - 1 + 1 ≡ r.0 = omega (arith, is_session.first) in
       subst (λ q. is_over e.history q ≡ true) (all.number (r.0 - 1) there.0 there.1 ∙ ap (λ n. record { 0 = n }) number)
-      (is_over_by there.0 e how.0 how.1 (all.stand (r.0 - 1) there.0 there.1)).over
+      (is_done how.0 there.0 e (is_over_by there.0 e how.0 how.1 (all.stand (r.0 - 1) there.0 there.1)))
 
   pub all_ended : position goes_on ws ≡ None → AllEnded ws e
   all_ended none = record {
@@ -350,7 +304,7 @@ module _ {K : Type 0} (as_keeper : K → Keeper) (order : List SessionId) (ws0 w
   last_step None works (x, adds) =
       subst (λ h. (rest : List Entry) → ToEnds (length e.books) h rest → Turns (length e.books) order [] (h ++ rest)) (sym adds.is)
       (λ rest turns. subst (Turns (length e.books) order []) (sym (append_assoc e.history (x ∷ []) rest))
-      (so_far.paced (x ∷ rest) (subst (IsFirst (length e.books) e.history) (sym adds.of) (is_first works.not_over), turns)))
+      (so_far.paced (x ∷ rest) (subst (IsFirst (length e.books) e.history) (sym adds.of) (is_first (still_runs did.before e works)), turns)))
   last_step (Some k) over (same, is_same) =
       subst (λ (f : EngineState K). (rest : List Entry) → ToEnds (length e.books) f.history rest → Turns (length e.books) order [] (f.history ++ rest)) (sym is_same) so_far.paced
 
@@ -366,12 +320,8 @@ begins as_keeper order ws e all empty = record {
   books = refl;
   recovered = refl;
   paced = subst (λ h. (rest : List Entry) → Turns (length e.books) order h rest → Turns (length e.books) order [] (h ++ rest)) (sym empty) (λ rest turns. turns);
-  counted = omega arith;
-  faultless = λ is. absurd (no_entry (ap has_fault (sym empty) ∙ is));
+  kept = kept_none as_keeper e empty;
 }
-  where
-    no_entry : false ≡ true → ⊥
-    no_entry is = cc
 
 pub paced_so : {K : Type 0} (as_keeper : K → Keeper) (order : List SessionId) (ws0 ws : List Work) (first e : EngineState K) → Rehearses as_keeper order [] ws0 ws first e → position goes_on ws ≡ None → Paced (length e.books) order e.history
 paced_so as_keeper order ws0 ws first e so_far none =
@@ -391,7 +341,7 @@ module _ {K : Type 0} (as_keeper : K → Keeper) (w w' : Work) (e e' : EngineSta
       sym (mine_length w' e' now) ∙ ap (λ r. length (Mine e'.history r)) did.session ∙ ap length more ∙ length-append (Mine e.history s) (exchange x ∷ []) ∙ ap (λ n. n + 1) (mine_length w e was)
 
   fewer_by : (k : Option EndKind) → k ≡ None → StandsBy k w e → Makes as_keeper k w w' e e' → MAX_COUNT - length w'.session.transcript < MAX_COUNT - length w.session.transcript
-  fewer_by None is works (x, adds) = omega (arith, works.few, grown x adds works.seated (seated_of w'.end w' e' did.stands))
+  fewer_by None is works (x, adds) = omega (arith, works.runs.few, grown x adds works.seated (seated_of w'.end w' e' did.stands))
   fewer_by (Some k) is over makes = cc
 
   pub fewer_turned : w.end ≡ None → Stands w e → MAX_COUNT - length w'.session.transcript < MAX_COUNT - length w.session.transcript

@@ -2,7 +2,6 @@
 use Rattle.std.proofs.Common.{ℕ, zero, suc, ◌≡◌, ◌<◌, ◌≤◌, Bool, true, false, List, [], ◌∷◌, length, Option, Some, None, arith, refl, sym, ◌∙◌, ap, subst}
 use Rattle.std.specs.Prelude.{slice_get, slice_set}
 use Rattle.ebr_base.specs.declared.numbers.SessionId.{SessionId}
-use Rattle.ebr_faults.specs.Faults.{Rises}
 use Rattle.ebr_ast.specs.declared.view.EditionView.{EditionView}
 use Rattle.ebr_asks.specs.declared.ask.Ask.{Ask}
 use Rattle.ebr_asks.specs.declared.ask.Ask.TheVariants as ask
@@ -16,7 +15,7 @@ use Rattle.ebr_session.specs.Has.{Suits}
 use Rattle.ebr_core.specs.Asked as core
 use Rattle.ebr_core.specs.Machine.{Build, Reply}
 use Rattle.ebr_core.specs.History.{After, IsLive}
-use Rattle.ebr_core.specs.Engine.{AnswersAsk, EngineState, Gives, HasBook, IsAnswer, book_at, database_of, entry_of, has_given_up, with_book}
+use Rattle.ebr_core.specs.Engine.{AnswersAsk, EngineState, Gives, HasBook, book_at, database_of, entry_of, has_given_up, with_book}
 use Rattle.ebr_worker.specs.Ends.{AnswersLeave}
 use Rattle.ebr_worker.specs.Paced.{IsSession}
 use Rattle.ebr_worker.specs.inside.Engine.{Replies}
@@ -30,37 +29,16 @@ entry_of_session : (s : SessionId) (q : Ask) (x : Answer) → (entry_of s q x).s
 entry_of_session s q answer.Stopped = refl
 entry_of_session s q x = refl
 
-entry_of_answer : (s : SessionId) (q : Ask) (x : Answer) → (entry_of s q x).answer ≡ x
-entry_of_answer s q answer.Stopped = refl
-entry_of_answer s q x = refl
-
 -- ---- the keeper
 
-counted_so : (x : Answer) (r : Replied) (k l : Keeper) → IsAnswer x r k l → k.faults ≤ l.faults
-counted_so answer.DiskFault r k l is = is.faults
-counted_so answer.NoMemory r k l is = is.faults
-counted_so answer.Stopped r k l is = absurd is
-counted_so x r k l is = is.1.faults
-
 module _ {K : Type 0} (as_keeper : K → Keeper) where
-  counted_by : (b : Bool) (old new : K) (x : Answer) (r : Replied) → Gives as_keeper b old new x r → (as_keeper old).faults ≤ (as_keeper new).faults
-  counted_by false old new x r gives = counted_so x r (as_keeper old) (as_keeper new) gives
-  counted_by true old new x r gives = omega (arith, ap (λ k. (as_keeper k).faults) gives.1)
+  pub stopped_by : (b : Bool) (old new : K) (q : Ask) (x : Answer) (r : Replied) → Gives as_keeper b old new q x r → x ≡ answer.Stopped → b ≡ true
+  stopped_by false old new q x r gives is = absurd (subst (λ a. Gives as_keeper false old new q a r) is gives)
+  stopped_by true old new q x r gives is = refl
 
-  fault_by : (b : Bool) (old new : K) (x : Answer) (r : Replied) → Gives as_keeper b old new x r → x ≡ answer.DiskFault → Rises (as_keeper old).faults (as_keeper new).faults
-  fault_by false old new x r gives is = (subst (λ a. IsAnswer a r (as_keeper old) (as_keeper new)) is gives).cause
-  fault_by true old new x r gives is = absurd (not_both x is gives.0)
-    where
-      not_both : (a : Answer) → a ≡ answer.DiskFault → a ≡ answer.Stopped → ⊥
-      not_both a one two = cc
-
-  stopped_by : (b : Bool) (old new : K) (x : Answer) (r : Replied) → Gives as_keeper b old new x r → x ≡ answer.Stopped → b ≡ true
-  stopped_by false old new x r gives is = absurd (subst (λ a. IsAnswer a r (as_keeper old) (as_keeper new)) is gives)
-  stopped_by true old new x r gives is = refl
-
-  leaves_by : (b : Bool) (old new : K) (x : Answer) (r : Replied) → Gives as_keeper b old new x r → (b ≡ false → x ≡ answer.Done) → AnswersLeave x
-  leaves_by false old new x r gives done = subst AnswersLeave (sym (done refl)) tt
-  leaves_by true old new x r gives done = subst AnswersLeave (sym gives.0) tt
+  leaves_by : (b : Bool) (old new : K) (q : Ask) (x : Answer) (r : Replied) → Gives as_keeper b old new q x r → (b ≡ false → x ≡ answer.Done) → AnswersLeave x
+  leaves_by false old new q x r gives done = subst AnswersLeave (sym (done refl)) tt
+  leaves_by true old new q x r gives done = subst AnswersLeave (sym gives.0) tt
 
 -- ---- its book
 
@@ -103,17 +81,18 @@ module _ {K : Type 0} (as_keeper : K → Keeper) (old mid : EngineState K) (s : 
   replies_taken : Replies as_keeper old (record mid { books = with_book mid.books s.0 None }) s q x (book_at mid.books s.0)
   replies_taken = record {
     adds = record {
-      is = did.entry;
+      ask = q;
+      answer = x;
+      entry = refl;
       of = entry_of_session s q x;
+      is = did.entry;
       recovered = did.recovered;
       books = books_length mid.books s.0 None ∙ ap length did.books ∙ books_length old.books s.0 did.book;
       others = λ r differ is. subst (λ db. IsLive db r) (sym taken) (did.others r differ is);
-      counted = counted_by as_keeper (has_given_up old.history) old.keeper mid.keeper x (Reply (database_of old) s q) did.gives;
-      fault = λ is. fault_by as_keeper (has_given_up old.history) old.keeper mid.keeper x (Reply (database_of old) s q) did.gives (sym (entry_of_answer s q x) ∙ is);
-      stopped = λ is. stopped_by as_keeper (has_given_up old.history) old.keeper mid.keeper x (Reply (database_of old) s q) did.gives (sym (entry_of_answer s q x) ∙ is);
+      gives = did.gives;
     };
     suits = suits x _ (subst (HasBook x) (sym book_is) did.has_book);
-    leaves = λ is. leaves_by as_keeper (has_given_up old.history) old.keeper mid.keeper x (Reply (database_of old) s q) did.gives (did.leaves is);
+    leaves = λ is. leaves_by as_keeper (has_given_up old.history) old.keeper mid.keeper q x (Reply (database_of old) s q) did.gives (did.leaves is);
     stays = λ going staying. subst (λ db. IsLive db s) (sym taken) (did.stays going staying);
   }
 

@@ -1,50 +1,39 @@
 -- What turns make of the one session.
-use Rattle.std.proofs.Common.{ℕ, ◌≡◌, ◌≤◌, Bool, true, false, ◌||◌, List, [], ◌∷◌, ◌++◌, length, Option, Some, None, refl, sym, ◌∙◌, ap, subst, arith}
-use Rattle.std.specs.Prelude.{IsSome, is_some, not}
+use Rattle.std.proofs.Common.{ℕ, ◌≡◌, ◌≤◌, ◌⊎◌, Bool, true, false, ◌||◌, ◌&&◌, List, [], ◌∷◌, ◌++◌, length, Option, Some, None, inl, inr, refl, sym, ◌∙◌, ap, subst, arith}
+use Rattle.std.specs.Prelude.{IsSome, is_some, map, not}
+use Rattle.std.specs.List.{list_any}
+use Rattle.ebr_base.specs.declared.numbers.SessionId.{SessionId}
 use Rattle.ebr_base.specs.declared.numbers.TheConstants.{MAX_COUNT}
 use Rattle.ebr_report.specs.declared.ends.EndKind.{EndKind}
+use Rattle.ebr_report.specs.declared.ends.EndKind.TheVariants as ending
 use Rattle.ebr_report.specs.declared.ends.SessionEnd.{SessionEnd}
 use Rattle.ebr_asks.specs.declared.ask.Ask.{Ask}
 use Rattle.ebr_asks.specs.declared.ask.Ask.TheVariants as ask
 use Rattle.ebr_asks.specs.declared.answer.Answer.{Answer}
 use Rattle.ebr_asks.specs.declared.answer.Answer.TheVariants as answer
 use Rattle.ebr_asks.specs.declared.entry.Entry.{Entry}
+use Rattle.ebr_asks.specs.declared.entry.Exchange.{Exchange}
 use Rattle.ebr_record.specs.Keeper.{Keeper}
-use Rattle.ebr_session.specs.Has.{Follows, Progress, begun, ends}
-use Rattle.ebr_core.specs.Engine.{EngineState, HasLegalHistory, has_given_up, is_last, no_books}
-use Rattle.ebr_core.specs.History.{Legal}
-use Rattle.ebr_core.specs.Machine.{Build}
-use Rattle.ebr_worker.specs.Matches.{has_fault, has_stop, is_stop}
+use Rattle.ebr_calls.specs.Courses.{AllContinue}
+use Rattle.ebr_session.specs.Has as session
+use Rattle.ebr_session.specs.Has.{Follows, Progress, answers, begun, ends}
+use Rattle.ebr_core.specs.Engine.{EngineState, HasLegalHistory, database_of, entry_of, gives_up, has_given_up, is_last, no_books}
+use Rattle.ebr_core.specs.History.{Legal, Mine, exchange, is_light, is_short, wants}
+use Rattle.ebr_core.specs.Machine.{Build, Reply}
+use Rattle.ebr_worker.specs.Matches.{as_recorded, has_fault, has_stop, is_stop}
 use Rattle.ebr_worker.specs.Paced.{is_over}
-use Rattle.ebr_worker.specs.Ends.{IsEnd}
+use Rattle.ebr_worker.specs.Ends.{AnswersLeave, Came, IsEnd, StopsIt}
 use Rattle.ebr_worker.specs.Runs.{IsHistory, RanAlone, nth_session}
 use Rattle.ebr_worker.specs.Work.{Adds, IsEndOf, Makes, StandsBy, Turned, Work, Works}
 use Rattle.ebr_worker.specs.inside.Rehearsal.{EndsAt, IsEndAt, RunsAlone}
-use Rattle.ebr_worker.proofs.Histories.{over_more}
-use Rattle.ebr_worker.proofs.Rehearsing.{faultless_more}
+use Rattle.ebr_worker.proofs.Histories.{any_last, any_more, any_on, kept_short, mine_more, over_more, short_is}
+use Rattle.ebr_worker.proofs.Keeping.{kept_adds, kept_none}
+use Rattle.ebr_worker.proofs.Rehearsing.{still_runs}
+use Rattle.ebr_worker.proofs.Replying.{stopped_by}
 use Rattle.ebr_worker.proofs.Running.{begun_so, books_count, end_at, first_history, no_fault, works_first}
+use Rattle.ebr_worker.proofs.Turns.{none_short}
 
 -- ---- the history
-
-or_false : (b c d : Bool) → b || c ≡ false → (c ≡ false → d ≡ false) → b || d ≡ false
-or_false true c d is rest = cc
-or_false false c d is rest = rest is
-
-or_last : (b : Bool) → b ≡ false → b || false ≡ false
-or_last true is = cc
-or_last false is = refl
-
-stop_more : (h : List Entry) (x : Entry) → has_stop h ≡ false → is_stop x.answer ≡ false → has_stop (h ++ x ∷ []) ≡ false
-stop_more [] x none here = or_last (is_stop x.answer) here
-stop_more (y ∷ h) x none here = or_false (is_stop y.answer) (has_stop h) (has_stop (h ++ x ∷ [])) none (λ rest. stop_more h x rest here)
-
-given_up_more : (h : List Entry) (x : Entry) → has_given_up h ≡ false → is_last x.answer ≡ false → has_given_up (h ++ x ∷ []) ≡ false
-given_up_more [] x goes here = or_last (is_last x.answer) here
-given_up_more (y ∷ h) x goes here = or_false (is_last y.answer) (has_given_up h) (has_given_up (h ++ x ∷ [])) goes (λ rest. given_up_more h x rest here)
-
-stop_is : (x : Answer) → is_stop x ≡ true → x ≡ answer.Stopped
-stop_is answer.Stopped is = refl
-stop_is x is = cc
 
 not_true : (b : Bool) → (b ≡ true → ⊥) → b ≡ false
 not_true true never = absurd (never refl)
@@ -53,15 +42,38 @@ not_true false never = refl
 both : (b : Bool) → b ≡ false → b ≡ true → ⊥
 both b off on = cc
 
--- an answer with which the engine gives up ends the session, whatever it asked
-last_ends : (q : Ask) (x : Answer) → is_last x ≡ true → ends q x ≡ true
-last_ends ask.Leave x last = refl
-last_ends q answer.DiskFault last = refl
-last_ends q answer.NoMemory last = refl
-last_ends q x last = cc
+last_or : (b : Bool) → b || false ≡ true → b ≡ true
+last_or true is = refl
+last_or false is = is
 
-goes_by : (q : Ask) (x : Answer) → ends q x ≡ false → is_last x ≡ false
-goes_by q x on = not_true (is_last x) (λ last. both (ends q x) on (last_ends q x last))
+either_more : (a b c : Bool) (P : Type 0) → a || c ≡ true → (c ≡ true → (b ≡ true) ⊎ P) → (a || b ≡ true) ⊎ P
+either_more true b c P is rest = inl refl
+either_more false b c P is rest = rest is
+
+stop_more : (h : List Entry) (x : Entry) → has_stop (h ++ x ∷ []) ≡ true → (has_stop h ≡ true) ⊎ (is_stop x.answer ≡ true)
+stop_more [] x is = inr (last_or (is_stop x.answer) is)
+stop_more (y ∷ h) x is = either_more (is_stop y.answer) (has_stop h) (has_stop (h ++ x ∷ [])) (is_stop x.answer ≡ true) is (stop_more h x)
+
+given_up_more : (h : List Entry) (x : Entry) → has_given_up (h ++ x ∷ []) ≡ true → (has_given_up h ≡ true) ⊎ (gives_up x ≡ true)
+given_up_more [] x is = inr (last_or (gives_up x) is)
+given_up_more (y ∷ h) x is = either_more (gives_up y) (has_given_up h) (has_given_up (h ++ x ∷ [])) (gives_up x ≡ true) is (given_up_more h x)
+
+stop_is : (x : Answer) → is_stop x ≡ true → x ≡ answer.Stopped
+stop_is answer.Stopped is = refl
+stop_is x is = cc
+
+fault_ends : (q : Ask) → ends q answer.DiskFault ≡ true
+fault_ends ask.Leave = refl
+fault_ends q = refl
+
+-- where the engine gives up with an answer that doesn't end the session, it is that there is no memory
+gave_up_short : (x : Entry) → gives_up x ≡ true → ends x.ask x.answer ≡ false → wants x.answer ≡ true
+gave_up_short x = by x.ask x.answer
+  where
+    by : (q : Ask) (a : Answer) → (is_last a && not (wants a && is_light q)) ≡ true → ends q a ≡ false → wants a ≡ true
+    by q answer.DiskFault is on = absurd (both (ends q answer.DiskFault) on (fault_ends q))
+    by q answer.NoMemory is on = refl
+    by q a is on = cc
 
 -- ---- a turn
 
@@ -72,28 +84,59 @@ module _ {K : Type 0} (as_keeper : K → Keeper) (w0 w w' : Work) (first e e' : 
   works : Works w e
   works = subst (λ o. StandsBy o w e) runs so_far.stands
 
-  not_stopped : (x : Entry) → Adds as_keeper w.session.session x e e' → is_stop x.answer ≡ false
-  not_stopped x adds = not_true (is_stop x.answer) (λ is. both (has_given_up e.history) (so_far.goes runs) (adds.stopped (stop_is x.answer is)))
+  module _ (x : Entry) (adds : Adds as_keeper w.session.session x e e') where
+    abbrev s : SessionId
+    s = w.session.session
 
-  goes_on : (x : Entry) → Adds as_keeper w.session.session x e e' → w'.end ≡ None → has_given_up e'.history ≡ false
-  goes_on x adds still =
-      let after : Works w' e' = subst (λ o. StandsBy o w' e') still did.stands in
-      let on : ends x.ask x.answer ≡ false =
-      sym (over_more e.history x w.session.session adds.of works.not_over) ∙ ap (λ h. is_over h w.session.session) (sym adds.is) ∙ ap (is_over e'.history) (sym did.session) ∙ after.not_over in
-      ap has_given_up adds.is ∙ given_up_more e.history x (so_far.goes runs) (goes_by x.ask x.answer on)
+    mine_is : Mine e'.history w'.session.session ≡ Mine e.history s ++ exchange x ∷ []
+    mine_is = ap (Mine e'.history) did.session ∙ ap (λ h. Mine h s) adds.is ∙ mine_more e.history x s adds.of
 
-  after_entry : (x : Entry) → Adds as_keeper w.session.session x e e' → RunsAlone as_keeper w0 w' first e'
-  after_entry x adds = record {
-    stands = did.stands;
-    session = did.session ∙ so_far.session;
-    script = did.script ∙ so_far.script;
-    recovered = adds.recovered ∙ so_far.recovered;
-    books = adds.books ∙ so_far.books;
-    counted = omega (arith, so_far.counted, adds.counted);
-    faultless = faultless_more as_keeper w.session.session x first e e' adds so_far.counted so_far.faultless;
-    no_stop = ap has_stop adds.is ∙ stop_more e.history x so_far.no_stop (not_stopped x adds);
-    goes = goes_on x adds;
-  }
+    still_short : is_short e.history s ≡ true → is_short e'.history w'.session.session ≡ true
+    still_short is = ap (λ mine. list_any (λ (y : Exchange). wants y.answer) mine) mine_is ∙ any_on (λ (y : Exchange). wants y.answer) (Mine e.history s) (exchange x ∷ []) is
+
+    short_now : wants x.answer ≡ true → is_short e'.history w'.session.session ≡ true
+    short_now is = ap (λ mine. list_any (λ (y : Exchange). wants y.answer) mine) mine_is ∙ any_last (λ (y : Exchange). wants y.answer) (Mine e.history s) (exchange x) is
+
+    -- Stopped is answered where the engine has given up alone
+    stopped_so : is_stop x.answer ≡ true → has_given_up e.history ≡ true
+    stopped_so is = stopped_by as_keeper (has_given_up e.history) e.keeper e'.keeper adds.ask adds.answer (Reply (database_of e) s adds.ask) adds.gives
+        (sym (entry_answer s adds.ask adds.answer) ∙ sym (ap (λ (y : Entry). y.answer) adds.entry) ∙ stop_is x.answer is)
+      where
+        entry_answer : (s : SessionId) (q : Ask) (a : Answer) → (entry_of s q a).answer ≡ a
+        entry_answer s q answer.Stopped = refl
+        entry_answer s q a = refl
+
+    stop_so : has_stop e'.history ≡ true → is_short e'.history w'.session.session ≡ true
+    stop_so is = by (stop_more e.history x (ap has_stop (sym adds.is) ∙ is))
+      where
+        by : (has_stop e.history ≡ true) ⊎ (is_stop x.answer ≡ true) → is_short e'.history w'.session.session ≡ true
+        by (inl before) = still_short (so_far.stop before)
+        by (inr now) = still_short (so_far.goes runs (stopped_so now))
+
+    goes_so : w'.end ≡ None → has_given_up e'.history ≡ true → is_short e'.history w'.session.session ≡ true
+    goes_so still is = by (given_up_more e.history x (ap has_given_up (sym adds.is) ∙ is))
+      where
+        after : Works w' e'
+        after = subst (λ o. StandsBy o w' e') still did.stands
+
+        on : ends x.ask x.answer ≡ false
+        on = sym (over_more e.history x s adds.of (still_runs w e works)) ∙ ap (λ h. is_over h s) (sym adds.is) ∙ ap (is_over e'.history) (sym did.session) ∙ still_runs w' e' after
+
+        by : (has_given_up e.history ≡ true) ⊎ (gives_up x ≡ true) → is_short e'.history w'.session.session ≡ true
+        by (inl before) = still_short (so_far.goes runs before)
+        by (inr now) = short_now (gave_up_short x now on)
+
+    after_entry : RunsAlone as_keeper w0 w' first e'
+    after_entry = record {
+      stands = did.stands;
+      session = did.session ∙ so_far.session;
+      script = did.script ∙ so_far.script;
+      recovered = adds.recovered ∙ so_far.recovered;
+      books = adds.books ∙ so_far.books;
+      kept = kept_adds as_keeper (as_keeper first.keeper) s x e e' adds so_far.kept;
+      stop = stop_so;
+      goes = goes_so;
+    }
 
   pub alone_turned : RunsAlone as_keeper w0 w' first e'
   alone_turned = after_entry makes.0 makes.1
@@ -107,19 +150,18 @@ alone_first as_keeper w e works runs none = record {
   script = refl;
   recovered = refl;
   books = refl;
-  counted = omega arith;
-  faultless = λ is. absurd (both (has_fault e.history) (ap has_fault none) is);
-  no_stop = ap has_stop none;
-  goes = λ still. ap has_given_up none;
+  kept = kept_none as_keeper e none;
+  stop = λ is. absurd (both (has_stop e.history) (ap has_stop none) is);
+  goes = λ still is. absurd (both (has_given_up e.history) (ap has_given_up none) is);
 }
 
 -- The one worker works over the engine of one session.
 pub works_alone : {K : Type 0} (e : EngineState K) (k : K) (w : Work) (s : Progress) (script : List ℕ) → e ≡ record { history = []; recovered = []; books = no_books 1; keeper = k } → s ≡ begun (record { 0 = 1 }) script → Follows s
-    → w.session ≡ s → w.written ≡ [] → w.faults ≡ 0 → w.end ≡ None → Works w e
-works_alone {K} e k w s script is begins f session written unfailed no_end =
+    → w.session ≡ s → w.written ≡ [] → w.faults ≡ 0 → w.why ≡ None → w.end ≡ None → Works w e
+works_alone {K} e k w s script is begins f session written unfailed no_why no_end =
     let count : length e.books ≡ 1 = ap (λ (g : EngineState K). length g.books) is ∙ books_count 1 in
     works_first e (ap (λ (g : EngineState K). g.history) is) 1 w (record { first = omega arith; last = omega (arith, count) })
-    (begun_so 1 script w (session ∙ begins) (subst Follows (sym session) f) written unfailed no_end)
+    (begun_so 1 script w (session ∙ begins) (subst Follows (sym session) f) written unfailed no_why no_end)
 
 no_end : false ≡ true → ⊥
 no_end is = cc
@@ -129,7 +171,7 @@ alone_few as_keeper w0 w first e ran ended = by w.end ended ran.stands
   where
     by : (o : Option EndKind) → IsSome o → StandsBy o w e → length w.session.transcript ≤ MAX_COUNT
     by None some stands = absurd (no_end some)
-    by (Some k) some over = over.few
+    by (Some k) some over = over.come.few
 
 pub runs_on : (o p : Option EndKind) (r : Bool) → p ≡ o → is_some p ≡ not r → r ≡ true → o ≡ None
 runs_on o p r same is on = by o (ap is_some (sym same) ∙ is ∙ ap not on)
@@ -152,6 +194,33 @@ module _ {S K : Type 0} (held : S → Option (List ℕ)) (faults : S → ℕ) (a
     script = λ t there. ran.script ∙ script_is ∙ same_some script t there;
   }
 
+  -- a session that came to another end was never answered that there is no memory
+  no_short : (before : List Exchange) (y : Exchange) → AllContinue (answers before) → session.wants y.answer ≡ false → session.is_short (before ++ y ∷ []) ≡ false
+  no_short before y all is = any_more (λ (z : Exchange). session.wants z.answer) before y (none_short before all) ∙ is
+
+  leave_wants : (a : Answer) → AnswersLeave a → session.wants a ≡ false
+  leave_wants answer.Done h = refl
+  leave_wants answer.Stopped h = refl
+  leave_wants answer.NoMemory h = absurd h
+  leave_wants a h = refl
+
+  stop_wants : (a : Answer) → StopsIt a → session.wants a ≡ false
+  stop_wants answer.NoMemory h = absurd h
+  stop_wants a h = refl
+
+  short_end : (k : EndKind) (script : List ℕ) (mine : List Exchange) (replies : List ℕ) → Came k script mine replies → session.is_short mine ≡ true → k ≡ ending.NoMemory
+  short_end ending.NoMemory script mine replies came is = refl
+  short_end ending.Ended script mine replies came is = absurd (both (session.is_short mine) (ap session.is_short came.last ∙ no_short came.before (record { ask = ask.Leave; answer = answer.Done }) came.went_on refl) is)
+  short_end ending.SinkFault script mine replies came is = absurd (both (session.is_short mine) (ap session.is_short came.last ∙ no_short came.before (record { ask = ask.Leave; answer = came.answer }) came.went_on (leave_wants came.answer came.answers_leave)) is)
+  short_end ending.Stopped script mine replies came is = absurd (both (session.is_short mine) (ap session.is_short came.last ∙ no_short came.before (record { ask = came.ask; answer = came.answer }) came.went_on (stop_wants came.answer came.by)) is)
+
+  -- where its Leave was answered that the engine has stopped, it found no memory
+  stop_end : (o : Option EndKind) → w.end ≡ o → IsSome o → StandsBy o w e → (x : SessionEnd S) → IsEndOf held faults w x → has_stop e.history ≡ true → x.end ≡ ending.NoMemory
+  stop_end None same some stands x is_end is = absurd (no_end some)
+  stop_end (Some k) same some over x is_end is =
+      let short : session.is_short w.session.transcript ≡ true = sym (short_is e.history w.session.session w.session.transcript over.seated.matches) ∙ ran.stop is in
+      same_some x.end k (sym is_end.end ∙ same) ∙ short_end k w.session.script (map as_recorded w.session.transcript) w.written over.come.came (kept_short w.session.transcript ∙ short)
+
   pub ran_alone : (x : SessionEnd S) (h : List Entry) → IsSome w.end → h ≡ e.history → IsHistory 1 h → IsEndOf held faults w x → IsSome x.sink → RanAlone held faults script h x
   ran_alone x h ended same is_history is_end sink =
       let at : IsEndAt held faults (script ∷ []) e.history 0 x = end_at held faults (script ∷ []) e 0 w x (ends_at w.end refl ended ran.stands) is_end sink in
@@ -159,12 +228,12 @@ module _ {S K : Type 0} (held : S → Option (List ℕ)) (faults : S → ℕ) (a
         is_history = is_history;
         is_end = subst (λ t. IsEnd held faults t script (nth_session 0) x) (sym same) (at.is_end script refl);
         sink = sink;
-        no_stop = ap has_stop same ∙ ran.no_stop;
+        stop = λ is. stop_end w.end refl ended ran.stands x is_end (ap has_stop (sym same) ∙ is);
       }
 
 pub history_alone : {K : Type 0} (as_keeper : K → Keeper) (w0 w : Work) (first e : EngineState K) (h : List Entry) → ((k : K) → (as_keeper k).faults ≡ 0) → RunsAlone as_keeper w0 w first e → (k : K)
     → first ≡ record { history = []; recovered = []; books = no_books 1; keeper = k } → h ≡ e.history → HasLegalHistory e → IsHistory 1 h
 history_alone as_keeper w0 w first e h none ran k is same legal = record {
   legal = subst (λ t. Legal (Build [] 1) t) (sym same) (first_history first e 1 1 k is refl ran.recovered ran.books legal);
-  no_fault = ap has_fault same ∙ no_fault as_keeper first e none ran.faultless;
+  no_fault = ap has_fault same ∙ no_fault as_keeper first e none ran.kept legal;
 }

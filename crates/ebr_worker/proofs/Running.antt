@@ -1,23 +1,29 @@
 -- What comes of scripts, by their workers.
 use Rattle.std.proofs.Common.{ℕ, zero, suc, ◌≡◌, ◌+◌, ◌<◌, ◌≤◌, Bool, true, false, List, [], ◌∷◌, ◌++◌, length, take, get_or, Option, Some, None, inl, inr, arith, refl, sym, ◌∙◌, ap, subst}
-use Rattle.std.specs.Prelude.{All, ◌⊎◌, IsSome, map, slice_get}
+use Rattle.std.specs.Prelude.{All, ◌⊎◌, ◌||◌, ◌&&◌, IsSome, map, slice_get}
 use Rattle.std.proofs.lemmas.List.{length-append, length-map, length-take-le, map-append, take_more}
 use Rattle.ebr_base.specs.declared.numbers.SessionId.{SessionId}
 use Rattle.ebr_base.specs.declared.numbers.TheConstants.{MAX_COUNT}
 use Rattle.ebr_faults.specs.Faults.{Rises}
 use Rattle.ebr_report.specs.declared.ends.SessionEnd.{SessionEnd}
+use Rattle.ebr_asks.specs.declared.ask.Ask.{Ask}
+use Rattle.ebr_asks.specs.declared.answer.Answer.{Answer}
+use Rattle.ebr_asks.specs.declared.answer.Answer.TheVariants as answer
 use Rattle.ebr_asks.specs.declared.entry.Entry.{Entry}
 use Rattle.ebr_record.specs.Keeper.{Keeper}
-use Rattle.ebr_session.specs.Has.{Follows, Progress, begun}
-use Rattle.ebr_core.specs.Machine.{Build}
-use Rattle.ebr_core.specs.Engine.{EngineState, HasLegalHistory, database_of, no_books}
-use Rattle.ebr_core.specs.History.{IsLive, Legal, Mine}
-use Rattle.ebr_worker.specs.Matches.{has_fault}
-use Rattle.ebr_worker.specs.Paced.{IsSession, is_over}
-use Rattle.ebr_worker.specs.Runs.{AreEnds, IsHistory, nth_session}
-use Rattle.ebr_worker.specs.Work.{IsEndOf, StandsBy, Work, Works}
-use Rattle.ebr_worker.specs.Rehearsal.{AllEnded, AllStand, Faultless, scripts_of}
-use Rattle.ebr_worker.specs.inside.Rehearsal.{AllFrom, AreBegun, EndsAt, IsBegun, IsEndAt}
+use Rattle.ebr_database.specs.declared.failure.Halt.TheVariants as why
+use Rattle.ebr_database.specs.Database.{Database}
+use Rattle.ebr_session.specs.Has.{Follows, Progress, begun, is_short}
+use Rattle.ebr_core.specs.Machine.{Build, Reply}
+use Rattle.ebr_core.specs.Engine.{EngineState, HasLegalHistory, database_of, first_of, no_books}
+use Rattle.ebr_core.specs.History.{AllStopped, Answered, IsLive, Legal, Mine, is_light, next, wants}
+use Rattle.ebr_core.specs.Kept.{Kept, KeptBy, cause_by, given_up_by, or_else}
+use Rattle.ebr_worker.specs.Matches.{has_fault, is_fault}
+use Rattle.ebr_worker.specs.Paced.{IsSession, has_ended}
+use Rattle.ebr_worker.specs.Runs.{AreEnds, nth_session}
+use Rattle.ebr_worker.specs.Work.{IsEndOf, StandsBy, Work, Works, why_short}
+use Rattle.ebr_worker.specs.Rehearsal.{AllEnded, AllStand, scripts_of}
+use Rattle.ebr_worker.specs.inside.Rehearsal.{AllFrom, AreBegun, AreReady, EndsAt, IsBegun, IsEndAt}
 use Rattle.ebr_worker.proofs.Ending.{is_end}
 use Rattle.ebr_worker.proofs.First.{first_live}
 
@@ -51,12 +57,13 @@ begun_more scripts ws script w all here is = record {
   each = λ i v is. subst (λ n. IsBegun n v) (omega arith) (from_more (λ i v. IsBegun (i + 1) v) ws w (λ i v is. subst (λ n. IsBegun n v) (omega arith) (all.each i v is)) here i v is);
 }
 
-pub begun_so : (n : ℕ) (script : List ℕ) (w : Work) → w.session ≡ begun (record { 0 = n }) script → Follows w.session → w.written ≡ [] → w.faults ≡ 0 → w.end ≡ None → IsBegun n w
-begun_so n script w is f written unfailed no_end = record {
+pub begun_so : (n : ℕ) (script : List ℕ) (w : Work) → w.session ≡ begun (record { 0 = n }) script → Follows w.session → w.written ≡ [] → w.faults ≡ 0 → w.why ≡ None → w.end ≡ None → IsBegun n w
+begun_so n script w is f written unfailed no_why no_end = record {
   session = is ∙ ap (begun (record { 0 = n })) (sym (ap (λ (s : Progress). s.script) is));
   follows = f;
   written = written;
   unfailed = unfailed;
+  no_why = no_why;
   no_end = no_end;
 }
 
@@ -67,18 +74,21 @@ module _ {K : Type 0} (e : EngineState K) (none : e.history ≡ []) where
       let number : s.session ≡ record { 0 = n } = ap (λ (t : Progress). t.session) begun_yet.session in
       let mine : s.transcript ≡ [] = ap (λ (t : Progress). t.transcript) begun_yet.session in
       record {
-        goes_on = ap (λ (t : Progress). t.ended) begun_yet.session;
-        no_quit = ap (λ (t : Progress). t.quit) begun_yet.session;
-        no_ask = ap (λ (t : Progress). t.out) begun_yet.session;
-        follows = begun_yet.follows;
+        runs = record {
+          goes_on = ap (λ (t : Progress). t.ended) begun_yet.session;
+          no_quit = ap (λ (t : Progress). t.quit) begun_yet.session;
+          no_ask = ap (λ (t : Progress). t.out) begun_yet.session;
+          follows = begun_yet.follows;
+          not_over = ap has_ended mine;
+          few = omega (arith, ap length mine);
+          written = begun_yet.written ∙ sym (ap (λ (t : Progress). t.printed) begun_yet.session);
+          unfailed = begun_yet.unfailed;
+          why = begun_yet.no_why ∙ sym (ap (λ l. why_short (is_short l)) mine);
+        };
         seated = record {
           is_session = subst (IsSession (length e.books)) (sym number) is_session;
           matches = ap (λ h. Mine h s.session) none ∙ ap (map _) (sym mine);
         };
-        not_over = ap (λ h. is_over h s.session) none;
-        few = omega (arith, ap length mine);
-        written = begun_yet.written ∙ sym (ap (λ (t : Progress). t.printed) begun_yet.session);
-        unfailed = begun_yet.unfailed;
         live = subst (IsLive (database_of e)) (sym number) (first_live e (record { 0 = n }) none is_session);
       }
 
@@ -129,11 +139,37 @@ end_at held faults scripts e i w x at as_keeper sink = record {
 no_rise : (a b : ℕ) → Rises a b → b ≡ 0 → ⊥
 no_rise a b rises none = omega (arith, rises, none)
 
-pub no_fault : {K : Type 0} (as_keeper : K → Keeper) (first e : EngineState K) → ((k : K) → (as_keeper k).faults ≡ 0) → Faultless as_keeper first e → has_fault e.history ≡ false
-no_fault as_keeper first e none faultless = by (has_fault e.history) refl
+none_behind : (db : Database) (h : List Entry) → AllStopped db h → has_fault h ≡ false
+none_behind db [] stopped = refl
+none_behind db (x ∷ h) stopped = ap (λ a. is_fault a || has_fault h) stopped.2 ∙ none_behind (next db x) h stopped.3
+
+-- With an entry that the disk failed the engine gives up.
+gave_up_by : (db : Database) (h : List Entry) → Legal db h → has_fault h ≡ true → given_up_by h ≡ Some why.DiskFault
+gave_up_by db [] legal is = cc
+gave_up_by db (x ∷ h) legal is = by x.ask x.answer legal.1 is (gave_up_by (next db x) h)
   where
+    wanting : (b : Bool) → Answered b answer.NoMemory (Reply db x.session x.ask).answer (Legal (next db x) h) (AllStopped (next db x) h) → has_fault h ≡ true
+        → (Legal (next db x) h → has_fault h ≡ true → given_up_by h ≡ Some why.DiskFault) → or_else (cause_by b answer.NoMemory) (given_up_by h) ≡ Some why.DiskFault
+    wanting true legal is rest = rest legal is
+    wanting false stopped is rest = absurd (not_both (has_fault h) (none_behind (next db x) h stopped) is)
+      where
+        not_both : (b : Bool) → b ≡ false → b ≡ true → ⊥
+        not_both b off on = cc
+
+    by : (q : Ask) (a : Answer) → Answered (wants a && is_light q) a (Reply db x.session x.ask).answer (Legal (next db x) h) (AllStopped (next db x) h)
+        → (is_fault a || has_fault h) ≡ true → (Legal (next db x) h → has_fault h ≡ true → given_up_by h ≡ Some why.DiskFault) → or_else (cause_by (wants a && is_light q) a) (given_up_by h) ≡ Some why.DiskFault
+    by q answer.DiskFault legal is rest = refl
+    by q answer.NoMemory legal is rest = wanting (is_light q) legal is rest
+    by q a legal is rest = rest legal.1 is
+
+pub no_fault : {K : Type 0} (as_keeper : K → Keeper) (first e : EngineState K) → ((k : K) → (as_keeper k).faults ≡ 0) → Kept (as_keeper first.keeper) (as_keeper e.keeper) (first_of e) e.history → HasLegalHistory e → has_fault e.history ≡ false
+no_fault as_keeper first e none kept legal = by (has_fault e.history) refl
+  where
+    rises : KeptBy (Some why.DiskFault) (as_keeper first.keeper) (as_keeper e.keeper) (first_of e) e.history → ⊥
+    rises until = no_rise (as_keeper first.keeper).faults (as_keeper e.keeper).faults until.gave_up.cause (none e.keeper)
+
     by : (b : Bool) → has_fault e.history ≡ b → has_fault e.history ≡ false
-    by true is = absurd (no_rise (as_keeper first.keeper).faults (as_keeper e.keeper).faults (faultless is) (none e.keeper))
+    by true is = absurd (rises (subst (λ o. KeptBy o (as_keeper first.keeper) (as_keeper e.keeper) (first_of e) e.history) (gave_up_by (first_of e) e.history legal is) kept))
     by false is = is
 
 -- ---- the loops over workers and sinks
@@ -142,7 +178,7 @@ pub end_some : {K : Type 0} (scripts : List (List ℕ)) (e : EngineState K) (i :
 end_some scripts e i w at = subst (λ o. IsSome o) (sym at.ended) refl
 
 pub end_few : {K : Type 0} (scripts : List (List ℕ)) (e : EngineState K) (i : ℕ) (w : Work) → EndsAt scripts e i w → length w.session.transcript ≤ MAX_COUNT
-end_few scripts e i w at = at.over.few
+end_few scripts e i w at = at.over.come.few
 
 module _ {X : Type 0} (P : ℕ → X → Type 0) where
   pub next_first : (n : ℕ) (xs rest : List X) (x : X) → xs ≡ x ∷ rest → AllFrom P n xs → P n x
@@ -167,11 +203,10 @@ none_told Q ys none = subst (AllFrom Q 0) (sym none) (λ i y is. absurd (nothing
     nothing : {Y : Type 0} (i : ℕ) (y : Y) → slice_get [] i ≡ Some y → ⊥
     nothing i y is = cc
 
-pub are_ends : {S : Type 0} (held : S → Option (List ℕ)) (faults : S → ℕ) (scripts : List (List ℕ)) (history history' : List Entry) (ends : List (SessionEnd S)) → history' ≡ history → IsHistory (length scripts) history
-    → AllFrom (IsEndAt held faults scripts history) 0 ends → length ends ≡ length scripts → AreEnds held faults scripts history' ends
-are_ends held faults scripts history history' ends same is_history all count =
+pub are_ends : {S : Type 0} (held : S → Option (List ℕ)) (faults : S → ℕ) (scripts : List (List ℕ)) (history history' : List Entry) (ends : List (SessionEnd S)) → history' ≡ history → AllFrom (IsEndAt held faults scripts history) 0 ends → length ends ≡ length scripts
+    → AreEnds held faults scripts history' ends
+are_ends held faults scripts history history' ends same all count =
     subst (λ h. AreEnds held faults scripts h ends) (sym same) (record {
-      is_history = is_history;
       count = count;
       each = λ i script x there is. (subst (λ k. IsEndAt held faults scripts history k x) (omega arith) (all i x is)).is_end script there;
       sinks = λ i x is. (all i x is).sink;
@@ -179,13 +214,13 @@ are_ends held faults scripts history history' ends same is_history all count =
 
 -- One worker more was made, for the script at a place.
 pub begun_at : (scripts : List (List ℕ)) (ws ws' : List Work) (at : ℕ) (script d : List ℕ) (w : Work) (s : Progress) → at < length scripts → script ≡ get_or scripts at d → (bytes : List ℕ) → bytes ≡ script → s ≡ begun (record { 0 = at + 1 }) bytes → Follows s
-    → w.session ≡ s → w.written ≡ [] → w.faults ≡ 0 → w.end ≡ None → ws' ≡ ws ++ w ∷ [] → AreBegun (take at scripts) ws → AreBegun (take (at + 1) scripts) ws'
-begun_at scripts ws ws' at script d w s within is bytes same begins f session written unfailed no_end more all =
+    → w.session ≡ s → w.written ≡ [] → w.faults ≡ 0 → w.why ≡ None → w.end ≡ None → ws' ≡ ws ++ w ∷ [] → AreBegun (take at scripts) ws → AreBegun (take (at + 1) scripts) ws'
+begun_at scripts ws ws' at script d w s within is bytes same begins f session written unfailed no_why no_end more all =
     let count : length ws ≡ at = sym (length-map ws (λ (v : Work). v.session.script)) ∙ ap length all.scripts_are ∙ length-take-le at scripts (omega (arith, within)) in
     let here : w.session ≡ begun (record { 0 = length ws + 1 }) script = session ∙ begins ∙ ap (begun (record { 0 = at + 1 })) same ∙ ap (λ n. begun (record { 0 = n + 1 }) script) (sym count) in
     subst (AreBegun (take (at + 1) scripts)) (sym more)
     (subst (λ xs. AreBegun xs (ws ++ w ∷ [])) (sym (take_more scripts at d within ∙ ap (λ x. take at scripts ++ x ∷ []) (sym is)))
-    (begun_more (take at scripts) ws script w all (begun_so (length ws + 1) script w here (subst Follows (sym session) f) written unfailed no_end) (ap (λ (t : Progress). t.script) here)))
+    (begun_more (take at scripts) ws script w all (begun_so (length ws + 1) script w here (subst Follows (sym session) f) written unfailed no_why no_end) (ap (λ (t : Progress). t.script) here)))
 
 -- ---- the beginning
 
@@ -196,10 +231,34 @@ books_count (suc n) = ap suc (books_count n)
 pub begun_count : (scripts : List (List ℕ)) (ws : List Work) → AreBegun scripts ws → length ws ≡ length scripts
 begun_count scripts ws all = sym (length-map ws (λ (w : Work). w.session.script)) ∙ ap length all.scripts_are
 
-pub stand_first : {K : Type 0} (e : EngineState K) (n : ℕ) (k : K) (scripts : List (List ℕ)) (ws ws' : List Work) → e ≡ record { history = []; recovered = []; books = no_books n; keeper = k } → n ≡ length scripts → ws' ≡ ws → AreBegun scripts ws → AllStand ws' e
-stand_first {K} e n k scripts ws ws' is count same all =
-    let books : length e.books ≡ n = ap (λ (f : EngineState K). length f.books) is ∙ books_count n in
-    subst (λ xs. AllStand xs e) (sym same) (all_first e (ap (λ (f : EngineState K). f.history) is) scripts ws (books ∙ count) all)
+pub begun_as : (scripts : List (List ℕ)) (ws : List Work) → scripts_of ws ≡ scripts → AreBegun (scripts_of ws) ws → AreBegun scripts ws
+begun_as scripts ws is begun_yet = subst (λ ss. AreBegun ss ws) is begun_yet
+
+-- with room for the ends of all of them
+pub ready_first : {E : Type 0} (scripts : List (List ℕ)) (ws : List Work) (ends : List E) (room : ℕ) → AreBegun scripts ws → ends ≡ [] → length scripts ≤ room → AreReady ws ends room
+ready_first scripts ws ends room all none within = record {
+  begun = subst (λ ss. AreBegun ss ws) (sym all.scripts_are) all;
+  no_end = none;
+  fits = omega (arith, within, begun_count scripts ws all);
+}
+
+pub stand_first : {K : Type 0} (e : EngineState K) (scripts : List (List ℕ)) (ws ws' : List Work) → e.history ≡ [] → length e.books ≡ length scripts → ws' ≡ ws → AreBegun scripts ws → AllStand ws' e
+stand_first e scripts ws ws' none books same all = subst (λ xs. AllStand xs e) (sym same) (all_first e none scripts ws books all)
+
+-- the database with which a history began, of so many sessions
+began : {K : Type 0} (first e : EngineState K) (n : ℕ) → e.recovered ≡ first.recovered → length e.books ≡ length first.books → length first.books ≡ n → first_of e ≡ Build first.recovered n
+began first e n recovered books count = λ i. Build (recovered i) ((books ∙ count) i)
+
+pub legal_since : {K : Type 0} (first e : EngineState K) (n : ℕ) (h : List Entry) → e.recovered ≡ first.recovered → length e.books ≡ length first.books → length first.books ≡ n → h ≡ e.history → HasLegalHistory e → Legal (Build first.recovered n) h
+legal_since first e n h recovered books count same legal =
+    subst (λ t. Legal (Build first.recovered n) t) (sym same) (subst (λ d. Legal d e.history) (began first e n recovered books count) legal)
+
+pub kept_since : {K : Type 0} (as_keeper : K → Keeper) (first e : EngineState K) (n : ℕ) (k : K) (h : List Entry) → e.recovered ≡ first.recovered → length e.books ≡ length first.books → length first.books ≡ n → k ≡ e.keeper → h ≡ e.history
+    → Kept (as_keeper first.keeper) (as_keeper e.keeper) (first_of e) e.history → Kept (as_keeper first.keeper) (as_keeper k) (Build first.recovered n) h
+kept_since as_keeper first e n k h recovered books count same_k same kept =
+    subst (λ t. Kept (as_keeper first.keeper) (as_keeper k) (Build first.recovered n) t) (sym same)
+    (subst (λ l. Kept (as_keeper first.keeper) (as_keeper l) (Build first.recovered n) e.history) (sym same_k)
+    (subst (λ d. Kept (as_keeper first.keeper) (as_keeper e.keeper) d e.history) (began first e n recovered books count) kept))
 
 -- a history that began with no records
 pub first_history : {K : Type 0} (first e : EngineState K) (n m : ℕ) (k : K) → first ≡ record { history = []; recovered = []; books = no_books n; keeper = k } → n ≡ m

@@ -1,11 +1,12 @@
--- What a turn makes of what the worker keeps.
-use Rattle.std.proofs.Common.{ℕ, ◌≡◌, ◌+◌, ◌<◌, Bool, true, false, List, [], ◌∷◌, ◌++◌, length, take, Option, Some, None, Ok, Err, inl, inr, arith, refl, sym, ◌∙◌, ap, subst}
-use Rattle.std.specs.Prelude.{map, IfSome, if◌then◌else◌}
+-- What a turn makes of what the worker keeps: the session goes on to its next ask, and takes the answer.
+use Rattle.std.proofs.Common.{ℕ, ◌≡◌, ◌+◌, ◌<◌, Bool, true, false, List, [], ◌∷◌, ◌++◌, length, take, Option, Some, None, Ok, Err, inl, inr, arith, refl, sym, ◌∙◌, ap, subst, append-nil}
+use Rattle.std.specs.Prelude.{map, is_some, ◌||◌}
 use Rattle.std.proofs.Math.Seq.{take-append_seam}
 use Rattle.std.proofs.lemmas.List.{map-append, length-append, length-map}
 use Rattle.ebr_base.specs.declared.clone_in.NoMemory.{NoMemory}
 use Rattle.ebr_base.specs.declared.numbers.SessionId.{SessionId}
 use Rattle.ebr_base.specs.declared.numbers.TheConstants.{MAX_COUNT}
+use Rattle.ebr_ast.specs.declared.view.EditionView.{EditionView}
 use Rattle.ebr_asks.specs.declared.ask.Ask.{Ask}
 use Rattle.ebr_asks.specs.declared.ask.Ask.TheVariants as ask
 use Rattle.ebr_asks.specs.declared.answer.Answer.{Answer}
@@ -17,19 +18,21 @@ use Rattle.ebr_record.specs.Keeper.{Keeper}
 use Rattle.ebr_report.specs.declared.ends.EndKind.{EndKind}
 use Rattle.ebr_report.specs.declared.ends.EndKind.TheVariants as ending
 use Rattle.ebr_calls.specs.Steps.{Ended}
-use Rattle.ebr_calls.specs.Courses.{AllContinue}
+use Rattle.ebr_calls.specs.Courses.{AllContinue, Continues}
 use Rattle.ebr_session.specs.declared.next.NextAsk.TheVariants as next
-use Rattle.ebr_session.specs.Has.{Follows, HasAsked, HasPrinted, IsFit, IsPrefix, Made, Progress, WentOn, answered, answers, asks, ends, exchange, printed_before, quitting, run_of, stops}
+use Rattle.ebr_session.specs.Has.{Follows, GoesBehind, HasAsked, HasPrinted, IsFit, IsPrefix, IsShort, Made, Progress, WentOn, answered, answers, asks, ends, exchange, is_leaving, is_short, printed_before, run_of, stops, wants}
 use Rattle.ebr_session.specs.Sessions.{SessionRun, Printed}
 use Rattle.ebr_core.specs.Engine.{EngineState, database_of, entry_of}
 use Rattle.ebr_core.specs.History.{IsLive, Mine}
+use Rattle.ebr_core.specs.History as core
 use Rattle.ebr_core.specs.History.{exchange as exchange_of}
 use Rattle.ebr_worker.specs.Matches.{ask_recorded, as_recorded}
-use Rattle.ebr_worker.specs.Paced.{IsSession, is_over}
-use Rattle.ebr_worker.specs.Ends.{AnswersLeave, Came, QuitWhole, Ran, RanOut, RanToEnd, StopsIt, WantsMemory, failed_writes, printed_before_last}
-use Rattle.ebr_worker.specs.Work.{Adds, Over, Seated, StandsBy, Work, Works}
-use Rattle.ebr_worker.specs.inside.Worker.{Advanced, Asked, Flushed, Left, MayLeave, Stepped, end_of}
-use Rattle.ebr_worker.proofs.Histories.{mine_more, over_more}
+use Rattle.ebr_worker.specs.Paced.{IsSession, has_ended}
+use Rattle.ebr_worker.specs.Ends.{AnswersLeave, Came, Quit, Ran, RanOut, RanToEnd, StopsIt, failed_writes, printed_before_last}
+use Rattle.ebr_worker.specs.Work.{Adds, HasCome, Makes, Runs, Seated, StandsBy, Turned, Work, Works, why_short}
+use Rattle.ebr_worker.specs.inside.Engine.{Replies}
+use Rattle.ebr_worker.specs.inside.Worker.{Advanced, Asks, AsksBy, Flushed, HasGoneOn, HasQuit, LeavesNow, Quits, Settles, end_by, end_of, having_quit, if_ended, why_by, with_leave}
+use Rattle.ebr_worker.proofs.Histories.{any_more, mine_more, short_is}
 
 -- ---- what is kept of exchanges
 
@@ -59,11 +62,6 @@ stopped_ends : (q : Ask) → ends q answer.Stopped ≡ true
 stopped_ends ask.Leave = refl
 stopped_ends q = refl
 
--- .. and ends a session as the ask does
-entry_ends : (s : SessionId) (q : Ask) (x : Answer) → ends (entry_of s q x).ask (entry_of s q x).answer ≡ ends q x
-entry_ends s q answer.Stopped = sym (stopped_ends q)
-entry_ends s q x = refl
-
 leave_kept : (x : Answer) → ask_recorded ask.Leave x ≡ ask.Leave
 leave_kept answer.Stopped = refl
 leave_kept x = refl
@@ -86,45 +84,6 @@ ran_so s mine f over matches =
 Ran-same : (script script' : List ℕ) (mine : List Exchange) (quit quit' : Option ℕ) (p p' : List ℕ) → script ≡ script' → quit ≡ quit' → p ≡ p' → Ran script mine quit p → Ran script' mine quit' p'
 Ran-same script script' mine quit quit' p p' a c d ran =
     subst (λ s. Ran s mine quit' p') a (subst (λ q. Ran script mine q p') c (subst (Ran script mine quit) d ran))
-
--- a session that runs has gone on after each answer
-went_on_so : (s : Progress) → Follows s → s.ended ≡ false → AllContinue (answers s.transcript)
-went_on_so s f runs = (subst (λ b. WentOn b s) runs f.went_on).0
-
--- ---- an ask
-
--- an ask is out
-pub record Asking {K : Type 0} (q : Ask) (s : Progress) (e : EngineState K) : Type 0 where
-  pub goes_on : s.ended ≡ false
-  pub no_quit : s.quit ≡ None
-  pub out : s.out ≡ Some q
-  pub follows : Follows s
-  pub seated : Seated s e
-  pub not_over : is_over e.history s.session ≡ false
-  pub few : length s.transcript + 1 < MAX_COUNT
-  pub live : IsLive (database_of e) s.session
-  pub fit : IsFit q
-
-pub asking : {K : Type 0} (q : Ask) (old new : Work) (e : EngineState K) → Works old e → length old.session.transcript + 1 < MAX_COUNT → Advanced (Ok (next.Ask q)) old new → Asking q new.session e
-asking q old new e works few on =
-    let s : Progress = old.session in
-    let is : new.session ≡ record s { printed = new.session.printed; out = Some q } = on.advances.is in
-    let number : new.session.session ≡ s.session = ap (λ (t : Progress). t.session) is in
-    let mine : new.session.transcript ≡ s.transcript = ap (λ (t : Progress). t.transcript) is in
-    record {
-      goes_on = ap (λ (t : Progress). t.ended) is ∙ works.goes_on;
-      no_quit = ap (λ (t : Progress). t.quit) is ∙ works.no_quit;
-      out = ap (λ (t : Progress). t.out) is;
-      follows = on.follows;
-      seated = record {
-        is_session = subst (IsSession (length e.books)) (sym number) works.seated.is_session;
-        matches = ap (Mine e.history) number ∙ works.seated.matches ∙ ap (map as_recorded) (sym mine);
-      };
-      not_over = ap (is_over e.history) number ∙ works.not_over;
-      few = subst (λ t. length t + 1 < MAX_COUNT) (sym mine) few;
-      live = subst (IsLive (database_of e)) (sym number) works.live;
-      fit = on.advances.fit;
-    }
 
 is_true : (b : Bool) → b ≡ false → b ≡ true → ⊥
 is_true b runs is = cc
@@ -171,7 +130,7 @@ ran_to_end script before mine q x replies on over l =
 
 ended_by : (script : List ℕ) (before mine : List Exchange) (q : Ask) (x : Answer) (replies : List ℕ) → ends q x ≡ true → Last script before mine q x replies → Came (end_of x) script mine replies
 ended_by script before mine q answer.DiskFault replies over l = ran_out StopsIt script before mine q answer.DiskFault replies tt l
-ended_by script before mine q answer.NoMemory replies over l = inr (ran_out WantsMemory script before mine q answer.NoMemory replies tt l)
+ended_by script before mine q answer.NoMemory replies over l = absurd (l.leaves (left_by q answer.NoMemory refl over))
 ended_by script before mine q answer.Stopped replies over l = ran_out StopsIt script before mine q answer.Stopped replies tt l
 ended_by script before mine q x replies over l = ran_to_end script before mine q x replies refl over l
 
@@ -182,293 +141,497 @@ none_failed answer.NoMemory = refl
 none_failed answer.Stopped = refl
 none_failed x = refl
 
--- What an answered ask makes of it, where all was written before.
-module _ {K : Type 0} (as_keeper : K → Keeper) (q : Ask) (end : Option EndKind) (old new : Work) (e e' : EngineState K) (was : Asking q old.session e) (written : old.written ≡ old.session.printed) (unfailed : old.faults ≡ 0) (did : Asked as_keeper q end old new e e') where
+-- ---- without memory
+
+-- none of the answers behind which it went on is that there is no memory
+pub none_short : (mine : List Exchange) → AllContinue (answers mine) → is_short mine ≡ false
+none_short [] all = refl
+none_short (x ∷ mine) all = ap (λ b. b || is_short mine) (goes x.answer all.0) ∙ none_short mine all.1
+  where
+    goes : (a : Answer) → Continues a → wants a ≡ false
+    goes answer.DiskFault c = absurd c
+    goes answer.NoMemory c = absurd c
+    goes answer.Stopped c = absurd c
+    goes a c = refl
+
+last_short : (mine : List Exchange) (q : Ask) → AllContinue (answers mine) → is_short (mine ++ exchange q answer.NoMemory ∷ []) ≡ true
+last_short mine q all = any_more (λ (x : Exchange). wants x.answer) mine (exchange q answer.NoMemory) (none_short mine all)
+
+-- behind which answers a session goes on that runs
+goes_behind : (s : Progress) → Follows s → s.ended ≡ false → GoesBehind s.transcript
+goes_behind s f runs = (subst (λ b. WentOn b s) runs f.went_on).0
+
+goes_all : (s : Progress) → Follows s → s.ended ≡ false → is_short s.transcript ≡ false → AllContinue (answers s.transcript)
+goes_all s f runs long = by (goes_behind s f runs)
+  where
+    by : GoesBehind s.transcript → AllContinue (answers s.transcript)
+    by (inl all) = all
+    by (inr h) = absurd (is_true (is_short s.transcript) long (ap is_short h.is ∙ last_short h.before h.ask h.went_on))
+
+goes_short : (s : Progress) → Follows s → s.ended ≡ false → is_short s.transcript ≡ true → IsShort s.transcript
+goes_short s f runs short = by (goes_behind s f runs)
+  where
+    by : GoesBehind s.transcript → IsShort s.transcript
+    by (inl all) = absurd (is_true (is_short s.transcript) (none_short s.transcript all) short)
+    by (inr h) = h
+
+some_why : (b : Bool) → is_some (why_short b) ≡ b
+some_why true = refl
+some_why false = refl
+
+-- whether it has a cause to leave, by its exchanges
+pub why_is : (w : Work) (b : Bool) → Runs w → is_some w.why ≡ b → is_short w.session.transcript ≡ b
+why_is w b runs is = sym (some_why (is_short w.session.transcript)) ∙ ap (λ (o : Option EndKind). is_some o) (sym runs.why) ∙ is
+
+no_why : (o : Option EndKind) → is_some o ≡ false → o ≡ None
+no_why None is = refl
+no_why (Some k) is = cc
+
+-- what a running session without an ask has printed
+printed_so : (w : Work) → Runs w → HasPrinted None false None w.session
+printed_so w runs =
+    let s : Progress = w.session in
+    subst (λ o. HasPrinted None false o s) runs.no_ask (subst (λ b. HasPrinted None b s.out s) runs.goes_on (subst (λ n. HasPrinted n s.ended s.out s) runs.no_quit runs.follows.printed))
+
+-- .. of which all is written
+written_so : (w : Work) → Runs w → w.written ≡ printed_before_last w.session.script (answers w.session.transcript)
+written_so w runs =
+    let s : Progress = w.session in
+    runs.written ∙ (printed_so w runs).0 ∙ ap (printed_before s.script (answers s.transcript)) (sym (length-map s.transcript (λ (x : Exchange). x.answer)))
+
+most_so : (w : Work) → Runs w → IsPrefix w.written (Printed w.session.script (answers w.session.transcript))
+most_so w runs =
+    let s : Progress = w.session in
+    let p : IsPrefix s.printed (SessionRun s.script (answers s.transcript) None).state.printed = subst (λ n. IsPrefix s.printed (SessionRun s.script (answers s.transcript) n).state.printed) runs.no_quit (printed_so w runs).1 in
+    subst (λ l. IsPrefix l (Printed s.script (answers s.transcript))) (sym runs.written) p
+
+prefix_same : (xs ys : List ℕ) → xs ≡ ys → IsPrefix ys xs
+prefix_same xs ys is = record { rest = []; whole = is ∙ sym (append-nil ys) }
+
+-- ---- it goes on
+
+-- It was answered that there is no memory: Leave is out.
+pub gone_leaving : (q : Ask) (w new : Work) → Runs w → w.end ≡ None → is_some w.why ≡ true → LeavesNow q w new → HasGoneOn q w new
+gone_leaving q w new runs no_end some n =
+    let short : is_short w.session.transcript ≡ true = why_is w true runs some in
+    let why : w.why ≡ Some ending.NoMemory = runs.why ∙ ap why_short short in
+    let session : new.session ≡ with_leave w.session = ap (λ (v : Work). v.session) n.is in
+    let mine : new.session.transcript ≡ w.session.transcript = ap (λ (t : Progress). t.transcript) session in
+    record {
+      asks = record {
+        goes_on = ap (λ (t : Progress). t.ended) session ∙ runs.goes_on;
+        out = ap (λ (t : Progress). t.out) session ∙ ap Some (sym n.leave);
+        follows = n.follows;
+        not_over = ap has_ended mine ∙ runs.not_over;
+        few = subst (λ l. length l < MAX_COUNT) (sym mine) runs.few;
+        fit = subst IsFit (sym n.leave) tt;
+        short = λ is. n.leave;
+        by = subst (λ o. AsksBy o q new) (sym (ap (λ (v : Work). v.why) n.is ∙ why)) (
+          n.leave,
+          ap (λ (v : Work). v.faults) n.is ∙ runs.unfailed,
+          inr (record {
+            no_quit = ap (λ (t : Progress). t.quit) session ∙ runs.no_quit;
+            short = subst IsShort (sym mine) (goes_short w.session runs.follows runs.goes_on short);
+            written = ap (λ (v : Work). v.written) n.is ∙ runs.written ∙ sym (ap (λ (t : Progress). t.printed) session);
+          }),
+        );
+        no_end = ap (λ (v : Work). v.end) n.is ∙ no_end;
+      };
+      session = ap (λ (t : Progress). t.session) session;
+      script = ap (λ (t : Progress). t.script) session;
+      transcript = mine;
+    }
+
+-- It has quit: Leave is out.
+module _ (why : EndKind) (q : Ask) (w mid new : Work) (runs : Runs w) (no_end : w.end ≡ None) (long : is_some w.why ≡ false)
+    (number : mid.session.session ≡ w.session.session) (script : mid.session.script ≡ w.session.script) (mine : mid.session.transcript ≡ w.session.transcript) (goes : mid.session.ended ≡ false) (end : mid.end ≡ None) (n : Quits why q mid new) where
+  quit_session : new.session ≡ (having_quit why mid).session
+  quit_session = ap (λ (v : Work). v.session) n.is
+
+  quit_mine : new.session.transcript ≡ w.session.transcript
+  quit_mine = ap (λ (t : Progress). t.transcript) quit_session ∙ mine
+
+  quit_script : new.session.script ≡ w.session.script
+  quit_script = ap (λ (t : Progress). t.script) quit_session ∙ script
+
+  gone_quit : AsksBy (Some why) q new → HasGoneOn q w new
+  gone_quit by = record {
+    asks = record {
+      goes_on = ap (λ (t : Progress). t.ended) quit_session ∙ goes;
+      out = ap (λ (t : Progress). t.out) quit_session ∙ ap Some (sym n.leave);
+      follows = n.follows;
+      not_over = ap has_ended quit_mine ∙ runs.not_over;
+      few = subst (λ l. length l < MAX_COUNT) (sym quit_mine) runs.few;
+      fit = subst IsFit (sym n.leave) tt;
+      short = λ is. n.leave;
+      by = subst (λ o. AsksBy o q new) (sym (ap (λ (v : Work). v.why) n.is)) by;
+      no_end = ap (λ (v : Work). v.end) n.is ∙ end;
+    };
+    session = ap (λ (t : Progress). t.session) quit_session ∙ number;
+    script = quit_script;
+    transcript = quit_mine;
+  }
+
+  quit_all : AllContinue (answers w.session.transcript)
+  quit_all = goes_all w.session runs.follows runs.goes_on (why_is w false runs long)
+
+  -- of what its script prints so much is written
+  quit_so : (written : List ℕ) → new.written ≡ written → IsPrefix written (Printed w.session.script (answers w.session.transcript)) → IsPrefix (printed_before_last w.session.script (answers w.session.transcript)) written → HasQuit new
+  quit_so written is most least = record {
+    quit = ap (λ (t : Progress). t.quit) quit_session ∙ ap (λ (l : List Exchange). Some (length l)) (mine ∙ sym quit_mine);
+    went_on = subst (λ (l : List Exchange). AllContinue (answers l)) (sym quit_mine) quit_all;
+    most = subst (λ l. IsPrefix l (Printed new.session.script (answers new.session.transcript))) (sym is)
+        (subst (λ (l : List Exchange). IsPrefix written (Printed new.session.script (answers l))) (sym quit_mine) (subst (λ t. IsPrefix written (Printed t (answers w.session.transcript))) (sym quit_script) most));
+    least = subst (λ l. IsPrefix (printed_before_last new.session.script (answers new.session.transcript)) l) (sym is)
+        (subst (λ (l : List Exchange). IsPrefix (printed_before_last new.session.script (answers l)) written) (sym quit_mine) (subst (λ t. IsPrefix (printed_before_last t (answers w.session.transcript)) written) (sym quit_script) least));
+  }
+
+-- It found no memory, or has made too many asks: it quits with all written that it printed.
+pub gone_short : (why : EndKind) (q : Ask) (w mid new : Work) → why ≡ ending.NoMemory → Runs w → w.end ≡ None → is_some w.why ≡ false → mid ≡ w → Quits why q mid new → HasGoneOn q w new
+gone_short why q w mid new is runs no_end long same n =
+    let d : Quits ending.NoMemory q w new = subst (λ v. Quits ending.NoMemory q v new) same (subst (λ k. Quits k q mid new) is n) in
+    let written : new.written ≡ w.written = ap (λ (v : Work). v.written) d.is in
+    let script : new.session.script ≡ w.session.script = quit_script ending.NoMemory q w w new runs no_end long refl refl refl runs.goes_on no_end d in
+    let mine : new.session.transcript ≡ w.session.transcript = quit_mine ending.NoMemory q w w new runs no_end long refl refl refl runs.goes_on no_end d in
+    gone_quit ending.NoMemory q w w new runs no_end long refl refl refl runs.goes_on no_end d (
+      d.leave,
+      ap (λ (v : Work). v.faults) d.is ∙ runs.unfailed,
+      inl (record {
+        quit = quit_so ending.NoMemory q w w new runs no_end long refl refl refl runs.goes_on no_end d w.written written (most_so w runs) (prefix_same _ _ (written_so w runs));
+        whole = written ∙ written_so w runs ∙ ap (λ t. printed_before_last t (answers w.session.transcript)) (sym script) ∙ ap (λ (l : List Exchange). printed_before_last new.session.script (answers l)) (sym mine);
+      }),
+    )
+
+pub why_seen : (seen w : Work) (b : Bool) → seen ≡ w → is_some seen.why ≡ b → is_some w.why ≡ b
+why_seen seen w b same is = ap (λ (v : Work). is_some v.why) (sym same) ∙ is
+
+-- a session that was answered that there is no memory is to leave
+pub is_to_leave : (w : Work) → Runs w → is_some w.why ≡ true → is_leaving w.session ≡ true
+is_to_leave w runs some = ap (λ (o : Option ℕ). is_some o || is_short w.session.transcript) runs.no_quit ∙ why_is w true runs some
+
+-- one that runs isn't done, and has not ended behind what it does
+pub never_done : {P : Type 0} (w mid : Work) → Runs w → Advanced (Ok next.Done) w mid → P
+never_done w mid runs on = absurd (is_true w.session.ended runs.goes_on on.advances.0)
+
+pub goes_wrote : (all : Bool) (p : Ask) (w mid wrote : Work) → Runs w → Advanced (Ok (next.Ask p)) w mid → Flushed all mid wrote → wrote.session.ended ≡ false
+goes_wrote all p w mid wrote runs on flushed = ap (λ (t : Progress). t.ended) (flushed.session ∙ on.advances.is) ∙ runs.goes_on
+
+pub goes_failed : (e : NoMemory) (w mid : Work) → Runs w → Advanced (Err e) w mid → mid.session.ended ≡ false
+goes_failed e w mid runs on = ap (λ (t : Progress). t.ended) on.advances.2 ∙ runs.goes_on
+
+-- where it stands as it did
+pub stands_still : (w mid : Work) → mid ≡ record w { session = mid.session } → mid.session ≡ w.session → mid ≡ w
+stands_still w mid is same = is ∙ ap (λ (s : Progress). record w { session = s }) same
+
+-- The next ask is out, and all that it printed is written.
+pub gone_on : (q : Ask) (w mid new : Work) → Runs w → w.end ≡ None → is_some w.why ≡ false → length w.session.transcript + 1 < MAX_COUNT → Advanced (Ok (next.Ask q)) w mid → Flushed true mid new → HasGoneOn q w new
+gone_on q w mid new runs no_end long few on flushed =
+    let s : Progress = w.session in
+    let is : mid.session ≡ record s { printed = mid.session.printed; out = Some q } = on.advances.is in
+    let session : new.session ≡ record s { printed = mid.session.printed; out = Some q } = flushed.session ∙ is in
+    let mine : new.session.transcript ≡ s.transcript = ap (λ (t : Progress). t.transcript) session in
+    let not_short : is_short s.transcript ≡ false = why_is w false runs long in
+    record {
+      asks = record {
+        goes_on = ap (λ (t : Progress). t.ended) session ∙ runs.goes_on;
+        out = ap (λ (t : Progress). t.out) session;
+        follows = subst Follows (sym flushed.session) on.follows;
+        not_over = ap has_ended mine ∙ runs.not_over;
+        few = subst (λ l. length l < MAX_COUNT) (sym mine) runs.few;
+        fit = on.advances.fit;
+        short = λ e. absurd (is_true (is_short s.transcript) not_short (ap is_short (sym mine) ∙ e));
+        by = subst (λ o. AsksBy o q new) (sym (flushed.why ∙ ap (λ (v : Work). v.why) on.same ∙ no_why w.why long)) (record {
+          no_quit = ap (λ (t : Progress). t.quit) session ∙ runs.no_quit;
+          went_on = subst (λ (l : List Exchange). AllContinue (answers l)) (sym mine) (goes_all s runs.follows runs.goes_on not_short);
+          written = flushed.whole;
+          unfailed = flushed.counted ∙ ap (λ (v : Work). v.faults) on.same ∙ runs.unfailed;
+          few = subst (λ l. length l + 1 < MAX_COUNT) (sym mine) few;
+        });
+        no_end = flushed.end ∙ ap (λ (v : Work). v.end) on.same ∙ no_end;
+      };
+      session = ap (λ (t : Progress). t.session) session;
+      script = ap (λ (t : Progress). t.script) session;
+      transcript = mine;
+    }
+
+-- A write failed: it quits, and that was the one write that failed.
+pub gone_unwritten : (why : EndKind) (q p : Ask) (w mid wrote new : Work) → why ≡ ending.SinkFault → Runs w → w.end ≡ None → is_some w.why ≡ false → Advanced (Ok (next.Ask p)) w mid → Flushed false mid wrote → Quits why q wrote new → HasGoneOn q w new
+gone_unwritten why q p w mid wrote new k runs no_end long on flushed n =
+    let s : Progress = w.session in
+    let d : Quits ending.SinkFault q wrote new = subst (λ j. Quits j q wrote new) k n in
+    let is : mid.session ≡ record s { printed = mid.session.printed; out = Some p } = on.advances.is in
+    let session : wrote.session ≡ record s { printed = mid.session.printed; out = Some p } = flushed.session ∙ is in
+    let number : wrote.session.session ≡ s.session = ap (λ (t : Progress). t.session) session in
+    let script : wrote.session.script ≡ s.script = ap (λ (t : Progress). t.script) session in
+    let mine : wrote.session.transcript ≡ s.transcript = ap (λ (t : Progress). t.transcript) session in
+    let goes : wrote.session.ended ≡ false = ap (λ (t : Progress). t.ended) session ∙ runs.goes_on in
+    let end : wrote.end ≡ None = flushed.end ∙ ap (λ (v : Work). v.end) on.same ∙ no_end in
+    let one : new.faults ≡ 1 = ap (λ (v : Work). v.faults) d.is ∙ flushed.counted ∙ ap one_more (ap (λ (v : Work). v.faults) on.same ∙ runs.unfailed) in
+    gone_quit ending.SinkFault q w wrote new runs no_end long number script mine goes end d (
+      d.leave,
+      one,
+      quit_so ending.SinkFault q w wrote new runs no_end long number script mine goes end d wrote.written (ap (λ (v : Work). v.written) d.is)
+          (subst (λ l. IsPrefix wrote.written l) printed_out flushed_part)
+          (subst (λ l. IsPrefix l wrote.written) (ap (λ (v : Work). v.written) on.same ∙ written_so w runs) flushed.grown),
+    )
+  where
+    flushed_part : IsPrefix wrote.written mid.session.printed
+    flushed_part = subst (λ (t : Progress). IsPrefix wrote.written t.printed) flushed.session flushed.part
+
+    at_ask : mid.session ≡ record w.session { printed = mid.session.printed; out = Some p }
+    at_ask = on.advances.is
+
+    -- what it had printed at its ask is what its run prints
+    printed_out : mid.session.printed ≡ Printed w.session.script (answers w.session.transcript)
+    printed_out =
+        let q0 : HasPrinted mid.session.quit mid.session.ended mid.session.out mid.session = on.follows.printed in
+        let q1 : mid.session.printed ≡ (run_of mid.session).state.printed = subst (λ o. HasPrinted None false o mid.session) (ap (λ (t : Progress). t.out) at_ask)
+        (subst (λ b. HasPrinted None b mid.session.out mid.session) (ap (λ (t : Progress). t.ended) at_ask ∙ runs.goes_on)
+        (subst (λ n. HasPrinted n mid.session.ended mid.session.out mid.session) (ap (λ (t : Progress). t.quit) at_ask ∙ runs.no_quit) q0)) in
+        q1
+        ∙ ap (λ n. (SessionRun mid.session.script (answers mid.session.transcript) n).state.printed) (ap (λ (t : Progress). t.quit) at_ask ∙ runs.no_quit)
+        ∙ ap (λ t. Printed t (answers mid.session.transcript)) (ap (λ (t : Progress). t.script) at_ask)
+        ∙ ap (λ (l : List Exchange). Printed w.session.script (answers l)) (ap (λ (t : Progress). t.transcript) at_ask)
+
+-- ---- it takes the answer
+
+module _ (q : Ask) (x : Answer) (w new : Work) (was : Asks q w) (did : Settles x w new) (leaves : q ≡ ask.Leave → AnswersLeave x) where
   abbrev s : Progress
-  s = old.session
-
-  abbrev x : Answer
-  x = did.answer
-
-  abbrev entry : Entry
-  entry = entry_of s.session q x
+  s = w.session
 
   session_is : new.session ≡ answered (Some q) x s
-  session_is = ap (λ (w : Work). w.session) did.took
+  session_is = ap (λ (v : Work). v.session) did.is ∙ ap (λ o. answered o x s) was.out
 
-  number_same : new.session.session ≡ s.session
-  number_same = ap (λ (t : Progress). t.session) session_is
-
-  transcript_is : new.session.transcript ≡ s.transcript ++ exchange q x ∷ []
+  pub transcript_is : new.session.transcript ≡ s.transcript ++ exchange q x ∷ []
   transcript_is = ap (λ (t : Progress). t.transcript) session_is
 
-  written_same : new.written ≡ old.written
-  written_same = ap (λ (w : Work). w.written) did.took
+  pub number_same : new.session.session ≡ s.session
+  number_same = ap (λ (t : Progress). t.session) session_is
 
-  faults_none : new.faults ≡ 0
-  faults_none = ap (λ (w : Work). w.faults) did.took ∙ unfailed
+  pub script_same : new.session.script ≡ s.script
+  script_same = ap (λ (t : Progress). t.script) session_is
 
   printed_same : new.session.printed ≡ s.printed
   printed_same = ap (λ (t : Progress). t.printed) session_is
 
-  quit_is : new.session.quit ≡ None
-  quit_is = ap (λ (t : Progress). t.quit) session_is ∙ was.no_quit
+  quit_same : new.session.quit ≡ s.quit
+  quit_same = ap (λ (t : Progress). t.quit) session_is
 
-  mine_is : Mine e'.history s.session ≡ Mine e.history s.session ++ as_recorded (exchange q x) ∷ []
-  mine_is =
-      ap (λ h. Mine h s.session) did.replies.adds.is
-      ∙ mine_more e.history entry s.session did.replies.adds.of
-      ∙ ap (λ y. Mine e.history s.session ++ y ∷ []) (entry_kept s.session q x)
+  ended_is : new.session.ended ≡ ends q x
+  ended_is = ap (λ (t : Progress). t.ended) session_is
 
-  matches_is : Mine e'.history s.session ≡ map as_recorded new.session.transcript
-  matches_is =
-      mine_is
-      ∙ ap (λ m. m ++ as_recorded (exchange q x) ∷ []) was.seated.matches
-      ∙ sym (map-append as_recorded s.transcript (exchange q x ∷ []))
-      ∙ ap (map as_recorded) (sym transcript_is)
+  written_same : new.written ≡ w.written
+  written_same = ap (λ (v : Work). v.written) did.is
 
-  seated_is : Seated new.session e'
-  seated_is = record {
-    is_session = subst (IsSession (length e'.books)) (sym number_same) (subst (λ n. IsSession n s.session) (sym did.replies.adds.books) was.seated.is_session);
-    matches = ap (Mine e'.history) number_same ∙ matches_is;
-  }
+  faults_same : new.faults ≡ w.faults
+  faults_same = ap (λ (v : Work). v.faults) did.is
 
-  over_is : is_over e'.history new.session.session ≡ ends q x
-  over_is =
-      ap (is_over e'.history) number_same
-      ∙ ap (λ h. is_over h s.session) did.replies.adds.is
-      ∙ over_more e.history entry s.session did.replies.adds.of was.not_over
-      ∙ entry_ends s.session q x
+  pub end_is : new.end ≡ if_ended (ends q x) (end_by w.why x)
+  end_is = ap (λ (v : Work). v.end) did.is ∙ ap (λ o. if_ended (answered o x s).ended (end_by w.why x)) was.out
 
   long : length new.session.transcript ≡ length s.transcript + 1
   long = ap length transcript_is ∙ length-append s.transcript (exchange q x ∷ [])
 
-  goes_on : ends q x ≡ false → Works new e'
-  goes_on on = record {
-    goes_on = ap (λ (t : Progress). t.ended) session_is ∙ on;
-    no_quit = quit_is;
-    no_ask = ap (λ (t : Progress). t.out) session_is;
-    follows = did.follows;
-    seated = seated_is;
-    not_over = over_is ∙ on;
-    few = omega (arith, long, was.few);
-    written = written_same ∙ written ∙ sym printed_same;
-    unfailed = faults_none;
-    live = subst (IsLive (database_of e')) (sym number_same)
-        (did.replies.stays (λ is. is_true (ends q x) on (ap (ends q) is ∙ stopped_ends q)) (λ is. is_true (ends q x) on (ap (λ a. ends a x) is)));
-  }
+  over_now : has_ended new.session.transcript ≡ ends q x
+  over_now = ap has_ended transcript_is ∙ any_more (λ (y : Exchange). ends y.ask y.answer) s.transcript (exchange q x) was.not_over
 
-  ended_is : ends q x ≡ true → new.session.ended ≡ true
-  ended_is over = ap (λ (t : Progress). t.ended) session_is ∙ over
+  not_leave : ends q x ≡ false → q ≡ ask.Leave → ⊥
+  not_leave on is = is_true (ends q x) on (ap (λ a. ends a x) is)
 
-  -- all that its run prints is written
-  whole : ends q x ≡ true → (run_of new.session).state.printed ≡ new.written
-  whole over =
-      let printed : new.session.printed ≡ (run_of new.session).state.printed =
-      subst (λ n. HasPrinted n true new.session.out new.session) quit_is (subst (λ b. HasPrinted new.session.quit b new.session.out new.session) (ended_is over) did.follows.printed) in
-      sym printed ∙ printed_same ∙ sym written ∙ sym written_same
-
-  last : ends q x ≡ true → Last new.session.script (Mine e.history s.session) (Mine e'.history s.session) q x new.written
-  last over = record {
-    is = mine_is;
-    went_on = subst AllContinue (sym (answers_of (Mine e.history s.session) s.transcript was.seated.matches)) (went_on_so s was.follows was.goes_on);
-    ran = Ran-same _ _ _ _ _ _ _ refl quit_is (whole over) (ran_so new.session (Mine e'.history s.session) did.follows (ended_is over) matches_is);
-    leaves = did.replies.leaves;
-  }
-
-  is_over_so : ends q x ≡ true → Over (end_of x) new e'
-  is_over_so over = record {
-    ended = ended_is over;
-    seated = seated_is;
-    over = over_is ∙ over;
-    few = omega (arith, long, was.few);
-    came = subst (λ r. Came (end_of x) new.session.script (Mine e'.history r) new.written) (sym number_same)
-        (ended_by new.session.script (Mine e.history s.session) (Mine e'.history s.session) q x new.written over (last over));
-    failed = faults_none ∙ sym (none_failed x);
-  }
-
-  came : StandsBy end new e'
-  came = by (ends q x) refl did.ended
+  -- It runs, or is to leave for want of memory.
+  pub runs_on : ends q x ≡ false → Runs new
+  runs_on on = by w.why refl was.by
     where
-      by : (b : Bool) → ends q x ≡ b → end ≡ (if b then Some (end_of x) else None) → StandsBy end new e'
-      by true over is = subst (λ d. StandsBy d new e') (sym is) (is_over_so over)
-      by false on is = subst (λ d. StandsBy d new e') (sym is) (goes_on on)
+      why_so : (a : Answer) → why_by None a ≡ why_short (wants a)
+      why_so answer.NoMemory = refl
+      why_so a = refl
 
--- ---- leaving
+      by : (o : Option EndKind) → w.why ≡ o → AsksBy o q w → Runs new
+      by None is g = record {
+        goes_on = ended_is ∙ on;
+        no_quit = quit_same ∙ g.no_quit;
+        no_ask = ap (λ (t : Progress). t.out) session_is;
+        follows = did.follows;
+        not_over = over_now ∙ on;
+        few = omega (arith, long, g.few);
+        written = written_same ∙ g.written ∙ sym printed_same;
+        unfailed = faults_same ∙ g.unfailed;
+        why = ap (λ (v : Work). v.why) did.is ∙ ap (λ o. why_by o x) is ∙ why_so x
+            ∙ ap why_short (sym (ap is_short transcript_is ∙ any_more (λ (y : Exchange). wants y.answer) s.transcript (exchange q x) (none_short s.transcript g.went_on)));
+      }
+      by (Some ending.NoMemory) is a = absurd (not_leave on a.0)
+      by (Some ending.SinkFault) is a = absurd (not_leave on a.0)
+      by (Some ending.Ended) is a = absurd a
+      by (Some ending.Stopped) is a = absurd a
 
--- what a running session without an ask has printed
-printed_so : {K : Type 0} (w : Work) (e : EngineState K) → Works w e → HasPrinted None false None w.session
-printed_so w e works =
-    let s : Progress = w.session in
-    subst (λ o. HasPrinted None false o s) works.no_ask (subst (λ b. HasPrinted None b s.out s) works.goes_on (subst (λ n. HasPrinted n s.ended s.out s) works.no_quit works.follows.printed))
+  abbrev before : List Exchange
+  before = map as_recorded s.transcript
 
--- .. of which all is written
-written_so : {K : Type 0} (w : Work) (e : EngineState K) → Works w e → w.written ≡ printed_before_last w.session.script (answers w.session.transcript)
-written_so w e works =
-    let s : Progress = w.session in
-    works.written ∙ (printed_so w e works).0 ∙ ap (printed_before s.script (answers s.transcript)) (sym (length-map s.transcript (λ (x : Exchange). x.answer)))
+  abbrev mine : List Exchange
+  mine = map as_recorded new.session.transcript
 
--- A session quits, goes on to Leave, and has it answered.
-module _ {K : Type 0} (as_keeper : K → Keeper) (w quits mid new : Work) (e e' : EngineState K) (q : Ask) (c : Option EndKind) (may : MayLeave w.session w.written e) (quit_is : quits ≡ record w { session = quitting w.session.ended w.session })
-    (on : Advanced (Ok (next.Ask q)) quits mid) (did : Asked as_keeper q c mid new e e') where
-  abbrev p : Progress
-  p = w.session
+  mine_is : mine ≡ before ++ as_recorded (exchange q x) ∷ []
+  mine_is = ap (map as_recorded) transcript_is ∙ map-append as_recorded s.transcript (exchange q x ∷ [])
 
-  abbrev said : Answer
-  said = did.answer
+  leave_is : q ≡ ask.Leave → as_recorded (exchange q x) ≡ record { ask = ask.Leave; answer = x }
+  leave_is is = ap (λ a. as_recorded (exchange a x)) is ∙ ap (λ a. record { ask = a; answer = x }) (leave_kept x)
 
-  session_quit : quits.session ≡ quitting false p
-  session_quit = ap (λ (v : Work). v.session) quit_is ∙ ap (λ b. quitting b p) may.goes_on
+  left_is : q ≡ ask.Leave → mine ≡ before ++ record { ask = ask.Leave; answer = x } ∷ []
+  left_is is = mine_is ∙ ap (λ y. before ++ y ∷ []) (leave_is is)
 
-  quit_at : quits.session.quit ≡ Some (length p.transcript)
-  quit_at = ap (λ (t : Progress). t.quit) session_quit
+  -- where it hasn't quit, all that its run prints is written
+  ran_whole : ends q x ≡ true → s.quit ≡ None → w.written ≡ s.printed → Ran new.session.script mine None new.written
+  ran_whole over none written =
+      let quit : new.session.quit ≡ None = quit_same ∙ none in
+      let printed : new.session.printed ≡ (run_of new.session).state.printed =
+      subst (λ n. HasPrinted n true new.session.out new.session) quit (subst (λ b. HasPrinted new.session.quit b new.session.out new.session) (ended_is ∙ over) did.follows.printed) in
+      Ran-same _ _ _ _ _ _ _ refl quit (sym printed ∙ printed_same ∙ sym written ∙ sym written_same) (ran_so new.session mine did.follows (ended_is ∙ over) refl)
 
-  is_leave : q ≡ ask.Leave
-  is_leave = (subst (λ o. IfSome o (λ n. (q ≡ ask.Leave) × (mid.session.printed ≡ quits.session.printed))) quit_at on.advances.leaves).0
+  -- it had quit
+  quit_left : ends q x ≡ true → q ≡ ask.Leave → HasQuit w → Quit new.session.script mine new.written
+  quit_left over is h =
+      let same : answers before ≡ answers s.transcript = answers_kept s.transcript in
+      let quit : new.session.quit ≡ Some (length s.transcript) = quit_same ∙ h.quit in
+      let printed : (run_of new.session).state.printed ≡ Printed new.session.script (answers before) =
+      (subst (λ n. HasPrinted n new.session.ended new.session.out new.session) quit did.follows.printed).2
+      ∙ ap (λ l. Printed new.session.script (take (length s.transcript) (answers l))) transcript_is
+      ∙ ap (Printed new.session.script) (before_last s.transcript (exchange q x) ∙ sym same) in
+      record {
+        before = before;
+        answer = x;
+        last = left_is is;
+        answers_leave = leaves is;
+        went_on = subst AllContinue (sym same) h.went_on;
+        ran = Ran-same _ _ _ _ _ _ _ refl (quit ∙ ap Some (sym (length-map s.transcript as_recorded))) printed (ran_so new.session mine did.follows (ended_is ∙ over) refl);
+        most = subst (λ l. IsPrefix l (Printed new.session.script (answers before))) (sym written_same)
+            (subst (λ t. IsPrefix w.written (Printed t (answers before))) (sym script_same) (subst (λ given. IsPrefix w.written (Printed s.script given)) (sym same) h.most));
+        least = subst (λ l. IsPrefix (printed_before_last new.session.script (answers before)) l) (sym written_same)
+            (subst (λ t. IsPrefix (printed_before_last t (answers before)) w.written) (sym script_same) (subst (λ given. IsPrefix (printed_before_last s.script given) w.written) (sym same) h.least));
+      }
 
-  session_left : new.session ≡ answered (Some q) said mid.session
-  session_left = ap (λ (v : Work). v.session) did.took
+  -- It has ended.
+  pub has_come : ends q x ≡ true → HasCome (end_by w.why x) new
+  unfolding quit_left
+  has_come over = record {
+    ended = ended_is ∙ over;
+    over = over_now ∙ over;
+    few = omega (arith, long, was.few);
+    came = came w.why was.by;
+    failed = faults_same ∙ failed w.why was.by;
+  }
+    where
+      came : (o : Option EndKind) → AsksBy o q w → Came (end_by o x) new.session.script mine new.written
+      came None g = ended_by new.session.script before mine q x new.written over (record {
+        is = mine_is;
+        went_on = subst AllContinue (sym (answers_kept s.transcript)) g.went_on;
+        ran = ran_whole over g.no_quit g.written;
+        leaves = leaves;
+      })
+      came (Some ending.NoMemory) (is, none, inl h) = inl (record {
+        quit = quit_left over is h.quit;
+        whole = written_same ∙ h.whole ∙ ap (λ t. printed_before_last t (answers s.transcript)) (sym script_same) ∙ ap (printed_before_last new.session.script) (sym (answers_kept s.transcript));
+      })
+      came (Some ending.NoMemory) (is, none, inr h) = inr (record {
+        before = map as_recorded h.short.before;
+        ask = h.short.ask;
+        answer = x;
+        last = left_is is ∙ ap (λ l. map as_recorded l ++ record { ask = ask.Leave; answer = x } ∷ []) h.short.is
+            ∙ ap (λ l. l ++ record { ask = ask.Leave; answer = x } ∷ []) (map-append as_recorded h.short.before (exchange h.short.ask answer.NoMemory ∷ []));
+        answers_leave = leaves is;
+        went_on = subst AllContinue (sym (answers_kept h.short.before)) h.short.went_on;
+        ran = ran_whole over h.no_quit h.written;
+      })
+      came (Some ending.SinkFault) a = quit_left over a.0 a.2
+      came (Some ending.Ended) a = absurd a
+      came (Some ending.Stopped) a = absurd a
 
-  number_mid : mid.session.session ≡ p.session
-  number_mid = ap (λ (t : Progress). t.session) on.advances.is ∙ ap (λ (t : Progress). t.session) session_quit
+      failed : (o : Option EndKind) → AsksBy o q w → w.faults ≡ failed_writes (end_by o x)
+      failed None g = g.unfailed ∙ sym (none_failed x)
+      failed (Some ending.NoMemory) a = a.1
+      failed (Some ending.SinkFault) a = a.1
+      failed (Some ending.Ended) a = absurd a
+      failed (Some ending.Stopped) a = absurd a
 
-  number_left : new.session.session ≡ p.session
-  number_left = ap (λ (t : Progress). t.session) session_left ∙ number_mid
+-- ---- a turn
 
-  transcript_left : new.session.transcript ≡ p.transcript ++ exchange q said ∷ []
-  transcript_left =
-      ap (λ (t : Progress). t.transcript) session_left
-      ∙ ap (λ (t : Progress). t.transcript ++ exchange q said ∷ []) on.advances.is
-      ∙ ap (λ (t : Progress). t.transcript ++ exchange q said ∷ []) session_quit
+-- one that hasn't ended works
+pub not_ended : (o : Option EndKind) (w : Work) → o ≡ w.end → is_some o ≡ false → w.end ≡ None
+not_ended o w same is = sym same ∙ no_why o is
 
-  ended_left : new.session.ended ≡ true
-  ended_left = ap (λ (t : Progress). t.ended) session_left ∙ ap (λ a. ends a said) is_leave
+pub works_of : {K : Type 0} (w : Work) (e : EngineState K) → StandsBy w.end w e → w.end ≡ None → Works w e
+works_of w e stands is = subst (λ o. StandsBy o w e) is stands
 
-  quit_left : new.session.quit ≡ Some (length p.transcript)
-  quit_left = ap (λ (t : Progress). t.quit) session_left ∙ ap (λ (t : Progress). t.quit) on.advances.is ∙ quit_at
+-- the turn of one that has ended does nothing
+pub rests : {K : Type 0} (as_keeper : K → Keeper) (o : Option EndKind) (w : Work) (e : EngineState K) → StandsBy w.end w e → o ≡ w.end → is_some o ≡ true → Turned as_keeper w w e e
+rests as_keeper o w e stands same is = record { session = refl; script = refl; stands = stands; makes = nothing w.end (ap (λ (k : Option EndKind). is_some k) (sym same) ∙ is) }
+  where
+    nothing : (k : Option EndKind) → is_some k ≡ true → Makes as_keeper k w w e e
+    nothing None is = cc
+    nothing (Some k) is = (refl, refl)
 
-  script_left : new.session.script ≡ p.script
-  script_left = ap (λ (t : Progress). t.script) session_left ∙ ap (λ (t : Progress). t.script) on.advances.is ∙ ap (λ (t : Progress). t.script) session_quit
-
-  abbrev leaving : Entry
-  leaving = entry_of p.session q said
-
-  adds_left : Adds as_keeper p.session leaving e e'
-  adds_left = subst (λ r. Adds as_keeper r (entry_of r q said) e e') number_mid did.replies.adds
-
-  mine_left : Mine e'.history p.session ≡ Mine e.history p.session ++ as_recorded (exchange q said) ∷ []
-  mine_left =
-      ap (λ h. Mine h p.session) adds_left.is
-      ∙ mine_more e.history leaving p.session adds_left.of
-      ∙ ap (λ y. Mine e.history p.session ++ y ∷ []) (entry_kept p.session q said)
-
-  matches_left : Mine e'.history p.session ≡ map as_recorded new.session.transcript
-  matches_left =
-      mine_left
-      ∙ ap (λ m. m ++ as_recorded (exchange q said) ∷ []) may.seated.matches
-      ∙ sym (map-append as_recorded p.transcript (exchange q said ∷ []))
-      ∙ ap (map as_recorded) (sym transcript_left)
-
-  answers_same : answers (Mine e.history p.session) ≡ answers p.transcript
-  answers_same = answers_of (Mine e.history p.session) p.transcript may.seated.matches
-
-  printed_left : (run_of new.session).state.printed ≡ Printed p.script (answers (Mine e.history p.session))
-  printed_left =
-      (subst (λ n. HasPrinted n new.session.ended new.session.out new.session) quit_left did.follows.printed).2
-      ∙ ap (λ script. Printed script (take (length p.transcript) (answers new.session.transcript))) script_left
-      ∙ ap (λ mine. Printed p.script (take (length p.transcript) (answers mine))) transcript_left
-      ∙ ap (Printed p.script) (before_last p.transcript (exchange q said) ∙ sym answers_same)
-
-  long_left : length new.session.transcript ≡ length p.transcript + 1
-  long_left = ap length transcript_left ∙ length-append p.transcript (exchange q said ∷ [])
-
-  leave_is : as_recorded (exchange q said) ≡ record { ask = ask.Leave; answer = said }
-  leave_is = ap (λ a. as_recorded (exchange a said)) is_leave ∙ ap (λ a. record { ask = a; answer = said }) (leave_kept said)
-
-  pub left : Left as_keeper w new e e'
-  left = record {
-    quit = record {
-      before = Mine e.history p.session;
-      answer = said;
-      last = mine_left ∙ ap (λ y. Mine e.history p.session ++ y ∷ []) leave_is;
-      answers_leave = did.replies.leaves is_leave;
-      went_on = subst AllContinue (sym answers_same) may.went_on;
-      ran = Ran-same _ _ _ _ _ _ _ script_left (quit_left ∙ ap Some (sym (length_of (Mine e.history p.session) p.transcript may.seated.matches))) printed_left
-          (ran_so new.session (Mine e'.history p.session) did.follows ended_left matches_left);
-      most = subst (λ given. IsPrefix w.written (Printed p.script given)) (sym answers_same) may.most;
-      least = subst (λ given. IsPrefix (printed_before_last p.script given) w.written) (sym answers_same) may.least;
-    };
-    behind = answers_same;
-    makes = (leaving, adds_left);
-    seated = record {
-      is_session = subst (IsSession (length e'.books)) (sym number_left) (subst (λ n. IsSession n p.session) (sym adds_left.books) may.seated.is_session);
-      matches = ap (Mine e'.history) number_left ∙ matches_left;
-    };
-    over = ap (λ h. is_over h p.session) adds_left.is ∙ over_more e.history leaving p.session adds_left.of may.not_over ∙ entry_ends p.session q said ∙ ap (λ a. ends a said) is_leave;
-    ended = ended_left;
-    few = omega (arith, long_left, may.few);
-    session = number_left;
-    script = script_left;
-    written = ap (λ (v : Work). v.written) did.took ∙ ap (λ (v : Work). v.written) on.same ∙ ap (λ (v : Work). v.written) quit_is;
-    faults = ap (λ (v : Work). v.faults) did.took ∙ ap (λ (v : Work). v.faults) on.same ∙ ap (λ (v : Work). v.faults) quit_is;
+-- The session has come to its next ask: the engine can answer it.
+module _ {K : Type 0} (q : Ask) (w mid : Work) (e : EngineState K) (works : Works w e) (on : HasGoneOn q w mid) where
+  pub seated_mid : Seated mid.session e
+  seated_mid = record {
+    is_session = subst (IsSession (length e.books)) (sym on.session) works.seated.is_session;
+    matches = ap (Mine e.history) on.session ∙ works.seated.matches ∙ ap (map as_recorded) (sym on.transcript);
   }
 
--- ---- turns
+  pub live_mid : IsLive (database_of e) mid.session.session
+  live_mid = subst (IsLive (database_of e)) (sym on.session) works.live
 
--- A session that has quit is over, with its cause.
-over_left_so : {K : Type 0} (as_keeper : K → Keeper) (k : EndKind) (old new : Work) (e e' : EngineState K) → Left as_keeper old new e e'
-    → Came k old.session.script (Mine e'.history old.session.session) old.written → new.faults ≡ failed_writes k → Over k new e'
-over_left_so as_keeper k old new e e' l came failed = record {
-  ended = l.ended;
-  seated = l.seated;
-  over = ap (is_over e'.history) l.session ∙ l.over;
-  few = l.few;
-  came = subst (λ r. Came k new.session.script (Mine e'.history r) new.written) (sym l.session)
-      (subst (λ script. Came k script (Mine e'.history old.session.session) new.written) (sym l.script)
-      (subst (Came k old.session.script (Mine e'.history old.session.session)) (sym l.written) came));
-  failed = failed;
-}
+  pub short_mid : core.is_short e.history mid.session.session ≡ true → q ≡ ask.Leave
+  short_mid is = on.asks.short (sym (short_is e.history mid.session.session mid.session.transcript seated_mid.matches) ∙ is)
 
-pub stepped_asked : {K : Type 0} (as_keeper : K → Keeper) (q : Ask) (c : Option EndKind) (old mid wrote new : Work) (e e' : EngineState K) → Works old e → length old.session.transcript + 1 < MAX_COUNT
-    → Advanced (Ok (next.Ask q)) old mid → Flushed true mid wrote → Asked as_keeper q c wrote new e e' → Stepped as_keeper c old new e e'
-stepped_asked as_keeper q c old mid wrote new e e' works few on flushed did =
-    let was : Asking q wrote.session e = subst (λ s. Asking q s e) (sym flushed.session) (asking q old mid e works few on) in
-    let unfailed : wrote.faults ≡ 0 = flushed.counted ∙ ap (λ (v : Work). v.faults) on.same ∙ works.unfailed in
-    let number : wrote.session.session ≡ old.session.session = ap (λ (t : Progress). t.session) flushed.session ∙ ap (λ (t : Progress). t.session) on.advances.is in
-    record {
-      session = ap (λ (t : Progress). t.session) (ap (λ (v : Work). v.session) did.took) ∙ number;
-      script = ap (λ (t : Progress). t.script) (ap (λ (v : Work). v.session) did.took) ∙ ap (λ (t : Progress). t.script) flushed.session ∙ ap (λ (t : Progress). t.script) on.advances.is;
-      came = came as_keeper q c wrote new e e' was flushed.whole unfailed did;
-      makes = (entry_of old.session.session q did.answer, subst (λ r. Adds as_keeper r (entry_of r q did.answer) e e') number did.replies.adds);
-    }
+pub out_mid : (q : Ask) (w : Work) → Asks q w → is_some w.session.out ≡ true
+out_mid q w a = ap (λ (o : Option Ask). is_some o) a.out
 
--- A session that found no memory, or has made too many asks, leaves with all written that it printed.
-pub stepped_left : {K : Type 0} (as_keeper : K → Keeper) (k : EndKind) (old new : Work) (e e' : EngineState K) → k ≡ ending.NoMemory → Works old e → Left as_keeper old new e e' → Stepped as_keeper (Some k) old new e e'
-stepped_left as_keeper k old new e e' is works l =
-    let quit : QuitWhole old.session.script (Mine e'.history old.session.session) old.written =
-    record { quit = l.quit; whole = written_so old e works ∙ ap (printed_before_last old.session.script) (sym l.behind) } in
-    subst (λ c. Stepped as_keeper (Some c) old new e e') (sym is) (record {
-      session = l.session;
-      script = l.script;
-      came = over_left_so as_keeper ending.NoMemory old new e e' l (inl quit) (l.faults ∙ works.unfailed);
-      makes = l.makes;
-    })
+module _ {K : Type 0} (as_keeper : K → Keeper) (q : Ask) (x : Answer) (book : Option EditionView) (old mid new : Work) (e e' : EngineState K) (id : SessionId) (works : Works old e) (no_end : old.end ≡ None)
+    (on : HasGoneOn q old mid) (number : id ≡ mid.session.session) (replied : Replies as_keeper e e' id q x book) (did : Settles x mid new) where
+  replies_mid : Replies as_keeper e e' mid.session.session q x book
+  replies_mid = subst (λ r. Replies as_keeper e e' r q x book) number replied
 
--- A session whose sink failed leaves, and that was the one write that failed.
-pub stepped_unwritten : {K : Type 0} (as_keeper : K → Keeper) (k : EndKind) (q : Ask) (old mid wrote new : Work) (e e' : EngineState K) → k ≡ ending.SinkFault → Works old e → Advanced (Ok (next.Ask q)) old mid → Flushed false mid wrote
-    → Left as_keeper wrote new e e' → Stepped as_keeper (Some k) old new e e'
-stepped_unwritten as_keeper k q old mid wrote new e e' is works on flushed l =
-    let number : wrote.session.session ≡ old.session.session = ap (λ (t : Progress). t.session) flushed.session ∙ ap (λ (t : Progress). t.session) on.advances.is in
-    let one : new.faults ≡ 1 = l.faults ∙ flushed.counted ∙ ap one_more (ap (λ (v : Work). v.faults) on.same ∙ works.unfailed) in
-    subst (λ c. Stepped as_keeper (Some c) old new e e') (sym is) (record {
-      session = l.session ∙ number;
-      script = l.script ∙ ap (λ (t : Progress). t.script) flushed.session ∙ ap (λ (t : Progress). t.script) on.advances.is;
-      came = over_left_so as_keeper ending.SinkFault wrote new e e' l l.quit one;
-      makes = (l.makes.0, subst (λ r. Adds as_keeper r l.makes.0 e e') number l.makes.1);
-    })
+  abbrev adds_mid : Adds as_keeper mid.session.session (entry_of mid.session.session q x) e e'
+  adds_mid = replies_mid.adds
 
-pub stepped_failed : {K : Type 0} (as_keeper : K → Keeper) (k : EndKind) (m : NoMemory) (old mid new : Work) (e e' : EngineState K) → k ≡ ending.NoMemory → Works old e → Advanced (Err m) old mid → Left as_keeper mid new e e'
-    → Stepped as_keeper (Some k) old new e e'
-stepped_failed as_keeper k m old mid new e e' is works on l =
-    let same : mid ≡ old = on.same ∙ ap (λ s. record old { session = s }) on.advances.2 in
-    subst (λ w. Stepped as_keeper (Some k) w new e e') same (stepped_left as_keeper k mid new e e' is (subst (λ w. Works w e) (sym same) works) l)
+  number_new : new.session.session ≡ mid.session.session
+  number_new = number_same q x mid new on.asks did replies_mid.leaves
+
+  seated_new : Seated new.session e'
+  seated_new = record {
+    is_session = subst (IsSession (length e'.books)) (sym number_new) (subst (λ n. IsSession n mid.session.session) (sym adds_mid.books) (seated_mid q old mid e works on).is_session);
+    matches = ap (Mine e'.history) number_new
+        ∙ ap (λ h. Mine h mid.session.session) adds_mid.is
+        ∙ mine_more e.history (entry_of mid.session.session q x) mid.session.session adds_mid.of
+        ∙ ap (λ y. Mine e.history mid.session.session ++ y ∷ []) (entry_kept mid.session.session q x)
+        ∙ ap (λ m. m ++ as_recorded (exchange q x) ∷ []) (seated_mid q old mid e works on).matches
+        ∙ sym (map-append as_recorded mid.session.transcript (exchange q x ∷ []))
+        ∙ ap (map as_recorded) (sym (transcript_is q x mid new on.asks did replies_mid.leaves));
+  }
+
+  stands_new : StandsBy new.end new e'
+  stands_new = subst (λ o. StandsBy o new e') (sym (end_is q x mid new on.asks did replies_mid.leaves)) (by (ends q x) refl)
+    where
+      by : (b : Bool) → ends q x ≡ b → StandsBy (if_ended b (end_by mid.why x)) new e'
+      by true over = record { come = has_come q x mid new on.asks did replies_mid.leaves over; seated = seated_new }
+      by false going = record {
+        runs = runs_on q x mid new on.asks did replies_mid.leaves going;
+        seated = seated_new;
+        live = subst (IsLive (database_of e')) (sym number_new)
+            (replies_mid.stays (λ is. is_true (ends q x) going (ap (ends q) is ∙ stopped_ends q)) (λ is. is_true (ends q x) going (ap (λ a. ends a x) is)));
+      }
+
+  pub turned : Turned as_keeper old new e e'
+  turned = record {
+    session = number_new ∙ on.session;
+    script = script_same q x mid new on.asks did replies_mid.leaves ∙ on.script;
+    stands = stands_new;
+    makes = makes_of old.end no_end;
+  }
+    where
+      adds_old : (y : Entry) × Adds as_keeper old.session.session y e e'
+      adds_old = (entry_of mid.session.session q x, subst (λ r. Adds as_keeper r (entry_of mid.session.session q x) e e') on.session adds_mid)
+
+      makes_of : (o : Option EndKind) → o ≡ None → Makes as_keeper o old new e e'
+      makes_of None is = adds_old
+      makes_of (Some k) is = cc

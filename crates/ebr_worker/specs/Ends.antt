@@ -63,6 +63,16 @@ pub record QuitWhole (script : List ℕ) (mine : List Exchange) (replies : List 
   pub quit : Quit script mine replies
   pub whole : replies ≡ printed_before_last script (answers quit.before)
 
+-- A session was answered that there is no memory, and left. Its replies are all that it printed.
+pub record RanShort (script : List ℕ) (mine : List Exchange) (replies : List ℕ) : Type 0 where
+  pub before : List Exchange
+  pub ask : Ask
+  pub answer : Answer
+  pub last : mine ≡ (before ++ record { ask = ask; answer = NoMemory } ∷ []) ++ record { ask = Leave; answer = answer } ∷ []
+  pub answers_leave : AnswersLeave answer
+  pub went_on : AllContinue (answers before)
+  pub ran : Ran script mine None replies
+
 -- A session was ended by its last answer. Its replies are all that it printed.
 pub record RanOut (By : Answer → Type 0) (script : List ℕ) (mine : List Exchange) (replies : List ℕ) : Type 0 where
   pub before : List Exchange
@@ -78,16 +88,12 @@ StopsIt DiskFault = Unit {0}
 StopsIt Stopped = Unit {0}
 StopsIt x = ⊥
 
-abbrev pub WantsMemory : Answer → Type 0
-WantsMemory NoMemory = Unit {0}
-WantsMemory x = ⊥
-
 -- What an end says of a session with these exchanges, of whose replies these were written.
 abbrev pub Came : EndKind → List ℕ → List Exchange → List ℕ → Type 0
 Came ending.Ended script mine replies = RanToEnd script mine replies
 Came ending.SinkFault script mine replies = Quit script mine replies
 Came ending.Stopped script mine replies = RanOut StopsIt script mine replies
-Came ending.NoMemory script mine replies = QuitWhole script mine replies ⊎ RanOut WantsMemory script mine replies
+Came ending.NoMemory script mine replies = QuitWhole script mine replies ⊎ RanShort script mine replies
 
 abbrev pub refuses : Answer → Bool
 refuses (Refused code steps lines) = true

@@ -1,10 +1,7 @@
 -- All workers over one engine.
-use Rattle.std.specs.Prelude.{ℕ, ◌≡◌, ◌+◌, true, List, length, map, slice_get, Some}
-use Rattle.ebr_faults.specs.Faults.{Rises}
-use Rattle.ebr_record.specs.Keeper.{Keeper}
+use Rattle.std.specs.Prelude.{ℕ, ◌≡◌, ◌+◌, List, length, map, slice_get, Some}
 use Rattle.ebr_report.specs.declared.ends.EndKind.{EndKind}
 use Rattle.ebr_core.specs.Engine.{EngineState}
-use Rattle.ebr_worker.specs.Matches.{has_fault}
 use Rattle.ebr_worker.specs.Work.{Over, Stands, Work}
 
 -- The workers are those of the engine's sessions, in order, and each stands over it.
@@ -21,7 +18,3 @@ pub record AllEnded {K : Type 0} (ws : List Work) (e : EngineState K) : Type 0 w
 
 abbrev pub scripts_of : List Work → List (List ℕ)
 scripts_of ws = map (λ (w : Work). w.session.script) ws
-
--- An entry that the disk failed stands in the history only where the keeper's count of faults rose.
-abbrev pub Faultless : {K : Type 0} → (K → Keeper) → EngineState K → EngineState K → Type 0
-Faultless as_keeper first e = has_fault e.history ≡ true → Rises (as_keeper first.keeper).faults (as_keeper e.keeper).faults

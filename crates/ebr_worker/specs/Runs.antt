@@ -1,7 +1,8 @@
--- What comes of scripts that are run from an empty database.
-use Rattle.std.specs.Prelude.{ℕ, ◌≡◌, ◌+◌, false, IsSome, IfSome, List, [], length, Option, Some, slice_get}
+-- What comes of scripts that are run.
+use Rattle.std.specs.Prelude.{ℕ, ◌≡◌, ◌+◌, true, false, IsSome, IfSome, List, [], length, Option, Some, slice_get}
 use Rattle.ebr_base.specs.declared.numbers.SessionId.{SessionId}
 use Rattle.ebr_asks.specs.declared.entry.Entry.{Entry}
+use Rattle.ebr_report.specs.declared.ends.EndKind.TheVariants as ending
 use Rattle.ebr_report.specs.declared.ends.SessionEnd.{SessionEnd}
 use Rattle.ebr_core.specs.Machine.{Build}
 use Rattle.ebr_core.specs.History.{Legal}
@@ -23,14 +24,14 @@ pub record IsHistory (n : ℕ) (history : List Entry) : Type 0 where
 
 -- Each script was run as one session, in order, with a sink of its own.
 pub record AreEnds {S : Type 0} (held : S → Option (List ℕ)) (faults : S → ℕ) (scripts : List (List ℕ)) (history : List Entry) (ends : List (SessionEnd S)) : Type 0 where
-  pub is_history : IsHistory (length scripts) history
   pub count : length ends ≡ length scripts
   pub each : (i : ℕ) (script : List ℕ) (e : SessionEnd S) → slice_get scripts i ≡ Some script → slice_get ends i ≡ Some e → IsEnd held faults history script (nth_session i) e
   pub sinks : (i : ℕ) (e : SessionEnd S) → slice_get ends i ≡ Some e → IsSome e.sink
 
--- A script was run as the one session. None of its asks is answered that the engine has stopped, since it ends before.
+-- A script was run as the one session of an empty database. Only where it found no memory for one of its asks may its Leave be answered that the engine has
+-- stopped, and no other ask is.
 pub record RanAlone {S : Type 0} (held : S → Option (List ℕ)) (faults : S → ℕ) (script : List ℕ) (history : List Entry) (e : SessionEnd S) : Type 0 where
   pub is_history : IsHistory 1 history
   pub is_end : IsEnd held faults history script (nth_session 0) e
   pub sink : IsSome e.sink
-  pub no_stop : has_stop history ≡ false
+  pub stop : has_stop history ≡ true → e.end ≡ ending.NoMemory

@@ -1,58 +1,77 @@
 -- A session at work: how it stands over its engine, what a turn does, and what it comes to.
-use Rattle.std.specs.Prelude.{ℕ, ◌≡◌, ◌<◌, ◌≤◌, true, false, List, [], ◌∷◌, ◌++◌, length, Option, Some, None, IfSome}
+use Rattle.std.specs.Prelude.{ℕ, ◌≡◌, ◌<◌, ◌≤◌, Bool, true, false, List, [], ◌∷◌, ◌++◌, length, map, Option, Some, None, IfSome}
 use Rattle.std.specs.List.{count_by}
 use Rattle.ebr_base.specs.declared.numbers.SessionId.{SessionId}
 use Rattle.ebr_base.specs.declared.numbers.TheConstants.{MAX_COUNT}
-use Rattle.ebr_faults.specs.Faults.{Rises}
-use Rattle.ebr_asks.specs.declared.answer.Answer.TheVariants.{DiskFault, Stopped}
+use Rattle.ebr_asks.specs.declared.ask.Ask.{Ask}
+use Rattle.ebr_asks.specs.declared.answer.Answer.{Answer}
 use Rattle.ebr_asks.specs.declared.entry.Entry.{Entry}
 use Rattle.ebr_record.specs.Keeper.{Keeper}
 use Rattle.ebr_report.specs.declared.ends.EndKind.{EndKind}
+use Rattle.ebr_report.specs.declared.ends.EndKind.TheVariants as ending
 use Rattle.ebr_report.specs.declared.ends.SessionEnd.{SessionEnd}
-use Rattle.ebr_session.specs.Has.{Follows, Progress}
-use Rattle.ebr_core.specs.Engine.{EngineState, database_of, has_given_up}
-use Rattle.ebr_core.specs.History.{IsLive, Mine}
-use Rattle.ebr_worker.specs.Matches.{Matches}
-use Rattle.ebr_worker.specs.Paced.{IsSession, is_over}
+use Rattle.ebr_session.specs.Has.{Follows, Progress, is_short}
+use Rattle.ebr_core.specs.Engine.{EngineState, Gives, database_of, entry_of, has_given_up}
+use Rattle.ebr_core.specs.History.{IsLive}
+use Rattle.ebr_core.specs.Machine.{Reply}
+use Rattle.ebr_worker.specs.Matches.{Matches, as_recorded}
+use Rattle.ebr_worker.specs.Paced.{IsSession, has_ended}
 use Rattle.ebr_worker.specs.Ends.{Came, failed_writes, is_refused}
 
--- Where the session stands, what it printed that is written, what the sink holds, if it tells, its count of faults, and how the session
--- has ended, if it has.
+-- Where the session stands, what it printed that is written, what the sink holds, if it tells, its count of faults, why it leaves before
+-- its script has ended, if it does, and how it has ended, if it has.
 pub record Work : Type 0 where
   pub session : Progress
   pub written : List ℕ
   pub held : Option (List ℕ)
   pub faults : ℕ
+  pub why : Option EndKind
   pub end : Option EndKind
 
--- ---- how it stands
+-- ---- the session by itself
+
+-- why it leaves where it has an answer that there is no memory, or none
+abbrev pub why_short : Bool → Option EndKind
+why_short true = Some ending.NoMemory
+why_short false = None
+
+-- The session runs, or was answered that there is no memory and is to leave. All that it printed is written, and no write has failed.
+pub record Runs (w : Work) : Type 0 where
+  pub goes_on : w.session.ended ≡ false
+  pub no_quit : w.session.quit ≡ None
+  pub no_ask : w.session.out ≡ None
+  pub follows : Follows w.session
+  pub not_over : has_ended w.session.transcript ≡ false
+  pub few : length w.session.transcript < MAX_COUNT
+  pub written : w.written ≡ w.session.printed
+  pub unfailed : w.faults ≡ 0
+  pub why : w.why ≡ why_short (is_short w.session.transcript)
+
+-- The session has ended so. A write failed exactly where that ended it, and none was made behind it.
+pub record HasCome (k : EndKind) (w : Work) : Type 0 where
+  pub ended : w.session.ended ≡ true
+  pub over : has_ended w.session.transcript ≡ true
+  pub few : length w.session.transcript ≤ MAX_COUNT
+  pub came : Came k w.session.script (map as_recorded w.session.transcript) w.written
+  pub failed : w.faults ≡ failed_writes k
+
+-- ---- over its engine
 
 -- The session has a place in the engine, and its exchanges are those of the history.
 pub record Seated {K : Type 0} (s : Progress) (e : EngineState K) : Type 0 where
   pub is_session : IsSession (length e.books) s.session
   pub matches : Matches s.transcript e.history s.session
 
--- The session runs, and all that it printed is written. No write has failed.
+-- It runs, and lives.
 pub record Works {K : Type 0} (w : Work) (e : EngineState K) : Type 0 where
-  pub goes_on : w.session.ended ≡ false
-  pub no_quit : w.session.quit ≡ None
-  pub no_ask : w.session.out ≡ None
-  pub follows : Follows w.session
+  pub runs : Runs w
   pub seated : Seated w.session e
-  pub not_over : is_over e.history w.session.session ≡ false
-  pub few : length w.session.transcript < MAX_COUNT
-  pub written : w.written ≡ w.session.printed
-  pub unfailed : w.faults ≡ 0
   pub live : IsLive (database_of e) w.session.session
 
--- The session has ended so. A write failed exactly where that ended it, and none was made behind it.
+-- It has ended so.
 pub record Over {K : Type 0} (k : EndKind) (w : Work) (e : EngineState K) : Type 0 where
-  pub ended : w.session.ended ≡ true
+  pub come : HasCome k w
   pub seated : Seated w.session e
-  pub over : is_over e.history w.session.session ≡ true
-  pub few : length w.session.transcript ≤ MAX_COUNT
-  pub came : Came k w.session.script (Mine e.history w.session.session) w.written
-  pub failed : w.faults ≡ failed_writes k
 
 abbrev pub StandsBy : {K : Type 0} → Option EndKind → Work → EngineState K → Type 0
 StandsBy None w e = Works w e
@@ -64,17 +83,18 @@ Stands w e = StandsBy w.end w e
 
 -- ---- a turn
 
--- An entry of a session was added. Other sessions that live stay so. That the disk failed is answered only where the keeper's count of
--- faults rose, and Stopped only where the engine had given up.
+-- An entry of a session was added: its ask was answered, by the reply in the database that the entries before it leave, and what became
+-- of the keeper goes by that. Other sessions that live stay so.
 pub record Adds {K : Type 0} (as_keeper : K → Keeper) (s : SessionId) (x : Entry) (old new : EngineState K) : Type 0 where
-  pub is : new.history ≡ old.history ++ x ∷ []
+  pub ask : Ask
+  pub answer : Answer
+  pub entry : x ≡ entry_of s ask answer
   pub of : x.session ≡ s
+  pub is : new.history ≡ old.history ++ x ∷ []
   pub recovered : new.recovered ≡ old.recovered
   pub books : length new.books ≡ length old.books
   pub others : (r : SessionId) → (r.0 ≡ s.0 → ⊥) → IsLive (database_of old) r → IsLive (database_of new) r
-  pub counted : (as_keeper old.keeper).faults ≤ (as_keeper new.keeper).faults
-  pub fault : x.answer ≡ DiskFault → Rises (as_keeper old.keeper).faults (as_keeper new.keeper).faults
-  pub stopped : x.answer ≡ Stopped → has_given_up old.history ≡ true
+  pub gives : Gives as_keeper (has_given_up old.history) old.keeper new.keeper ask answer (Reply (database_of old) s ask)
 
 -- The turn of a session that has ended does nothing, and any other one makes an entry.
 abbrev pub Makes : {K : Type 0} → (K → Keeper) → Option EndKind → Work → Work → EngineState K → EngineState K → Type 0

@@ -1,9 +1,10 @@
 //! The engine, asked by its sessions.
 
-ghost use Rattle.std.specs.Prelude.{◌≡◌, [], IfOk, length};
+ghost use Rattle.std.specs.Prelude.{◌≡◌, [], true, IfOk, length};
+ghost use Rattle.ebr_asks.specs.declared.ask.Ask.TheVariants.{Leave as leaves};
 ghost use Rattle.ebr_session.specs.Has.{IsFit};
 ghost use Rattle.ebr_core.specs.Engine.{database_of, no_books};
-ghost use Rattle.ebr_core.specs.History.{IsLive};
+ghost use Rattle.ebr_core.specs.History.{IsLive, is_short};
 ghost use Rattle.ebr_worker.specs.Paced.{IsSession};
 ghost use Rattle.ebr_worker.specs.inside.Engine.{Replies};
 ghost use Rattle.ebr_worker.specs.inside.Memory.{nothing_kept};
@@ -33,6 +34,7 @@ pub fn answer<K: Keep>(
     requires seat { IsSession (length engine.old.books) session }
     requires live { IsLive (database_of engine.old) session }
     requires fit { IsFit ask }
+    requires short { is_short engine.old.history session ≡ true → ask ≡ leaves }
     ensures { Replies K.as_keeper engine.old engine.new session ask result.0 result.1 }
 {
     let answer = engine.answer(session, ask);

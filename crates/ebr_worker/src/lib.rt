@@ -1,8 +1,9 @@
 //! Sessions at work over one engine. A worker hands its session's asks over and writes what it printed; a rehearsal gives the
 //! workers their turns by a written order.
 //!
-//! What is used above: `run_sessions` and `run_alone`, which run scripts from an empty database and say what each session came
-//! to, in one legal history. `Worker::turn` and `rehearse_core` are their parts, for any keeper.
+//! What is used above: `sessions_of` begins the sessions of scripts, and `run_sessions` runs them over any engine and any keeper and
+//! says what each session came to, in one legal history, and what became of the keeper. `run_alone` runs one script from an empty
+//! database. `Worker::turn` and `rehearse_core` are their parts.
 //!
 //! That calls succeed with ample memory is tested alone (`ebr_servertests`, `ebr_cases`).
 #![tactic(auto)]
@@ -14,5 +15,5 @@ mod run;
 mod worker;
 
 pub use rehearse::rehearse_core;
-pub use run::{Rehearsed, run_alone, run_sessions};
+pub use run::{Rehearsed, Sessions, run_alone, run_sessions, sessions_of};
 pub use worker::Worker;

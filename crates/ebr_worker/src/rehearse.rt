@@ -2,8 +2,10 @@
 
 ghost use Rattle.std.specs.Prelude.{◌≡◌, ◌<◌, [], All, length};
 ghost use Rattle.std.specs.List.{position};
+ghost use Rattle.ebr_core.specs.Engine.{first_of};
+ghost use Rattle.ebr_core.specs.Kept.{Kept};
 ghost use Rattle.ebr_worker.specs.Paced.{IsSession, Paced};
-ghost use Rattle.ebr_worker.specs.Rehearsal.{AllEnded, AllStand, Faultless, scripts_of};
+ghost use Rattle.ebr_worker.specs.Rehearsal.{AllEnded, AllStand, scripts_of};
 ghost use Rattle.ebr_worker.specs.inside.Rehearsal.{Rehearses, TurnedAt, goes_on};
 
 use crate::worker::Worker;
@@ -13,7 +15,8 @@ use ebr_outside::Sink;
 use ebr_record::Keep;
 
 /// Runs the sessions of an engine by a written order, in which each number is a turn of that session, and then each to its end, the first one
-/// first. A turn makes one entry; that of a session that has ended is skipped.
+/// first. A turn makes one entry; that of a session that has ended is skipped. What became of the keeper goes by what was answered: it
+/// grew by all records that the asks make, or the engine gave up, and each record of an ask that was answered before is kept.
 pub fn rehearse_core<K: Keep, S: Sink>(
     engine: &mut Engine<K>,
     workers: &mut [Worker<S>],
@@ -27,7 +30,7 @@ pub fn rehearse_core<K: Keep, S: Sink>(
     ensures scripts { scripts_of workers.new ≡ scripts_of workers.old }
     ensures sessions { length engine.new.books ≡ length engine.old.books }
     ensures recovered { engine.new.recovered ≡ engine.old.recovered }
-    ensures faultless { Faultless K.as_keeper engine.old engine.new }
+    ensures kept { Kept (K.as_keeper engine.old.keeper) (K.as_keeper engine.new.keeper) (first_of engine.new) engine.new.history }
 {
     take_turns(engine, workers, order);
     while let Some(at) = first_working(workers) {

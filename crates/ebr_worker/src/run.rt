@@ -1,6 +1,9 @@
-//! Scripts that are run from an empty database.
+//! Scripts that are run as sessions of an engine.
 
 ghost use Rattle.std.specs.Prelude.{◌≡◌, ◌≤◌, [], All, IfOk, IfErr, IsSome, None, length};
+ghost use Rattle.ebr_core.specs.History.{Legal};
+ghost use Rattle.ebr_core.specs.Kept.{Kept};
+ghost use Rattle.ebr_core.specs.Machine.{Build};
 ghost use Rattle.ebr_session.specs.Has.{most_bytes};
 ghost use Rattle.ebr_worker.specs.Paced.{IsSession, Paced};
 ghost use Rattle.ebr_worker.specs.Runs.{AreEnds, IsUnwritten, RanAlone};
@@ -14,46 +17,98 @@ use ebr_asks::Entry;
 use ebr_base::{Bytes, List, NoMemory, SessionId};
 use ebr_core::Engine;
 use ebr_outside::Sink;
-use ebr_record::Keep;
+use ebr_record::{Keep, Record};
 use ebr_report::SessionEnd;
 use ebr_session::Session;
 use std::alloc::Global;
+use std::marker::Model;
 
-/// What sessions came to, in the order of their scripts, and all asks in the order in which they were answered.
+/// Sessions that have just begun, one for each of these scripts, each with a sink of its own, and room for their ends.
 #[derive(Drop)]
-pub struct Rehearsed<S> {
-    pub ends: List<SessionEnd<S>>,
-    pub history: List<Entry>,
+pub struct Sessions<S: Sink> {
+    workers: Vec<Worker<S>>,
+    ends: Vec<SessionEnd<S>>,
 }
 
-/// Runs scripts as the sessions of an empty database by a written order, and then each to its end, the first one first. What a
-/// session prints goes to its sink. Want of memory is answered where no session has begun.
-pub fn run_sessions<S: Sink>(
+impl<S: Sink> Model for Sessions<S> {
+    ghost use Rattle.std.specs.Prelude.{ℕ, List, vec_capacity};
+    ghost use Rattle.ebr_worker.specs.Rehearsal.{scripts_of};
+    ghost use Rattle.ebr_worker.specs.inside.Rehearsal.{AreReady};
+
+    ghost Value = { List (List ℕ) };
+
+    ghost view = { λ s. scripts_of s.workers.items };
+
+    ghost invariant = { λ s. AreReady s.workers.items s.ends.items (vec_capacity s.ends) };
+}
+
+impl<S: Sink> Sessions<S> {
+    /// How many there are.
+    pub fn len(&self) -> usize
+        ensures { result ≡ length self.now }
+    {
+        self.workers.len()
+    }
+}
+
+/// What sessions came to, in the order of their scripts; the records of the database with which they began; all asks in the order
+/// in which they were answered; and the keeper.
+#[derive(Drop)]
+pub struct Rehearsed<K: Keep, S> {
+    pub ends: List<SessionEnd<S>>,
+    pub recovered: List<Record>,
+    pub history: List<Entry>,
+    pub keeper: K,
+}
+
+/// Begins the sessions of scripts, and takes all memory that running them takes, but for what their asks do.
+pub fn sessions_of<S: Sink>(
     alloc: Global,
     scripts: &[Bytes],
     sinks: Vec<S>,
-    order: &[SessionId],
-) -> Result<Rehearsed<S>, NoMemory>
+) -> Result<Sessions<S>, NoMemory>
     requires few { length scripts.now ≤ 32 }
     requires short { All (λ script. length script ≤ most_bytes) scripts.now }
     requires sinks { length sinks.items ≡ length scripts.now }
     requires unwritten { All (IsUnwritten S.held S.faults) sinks.items }
-    requires order { All (IsSession (length scripts.now)) order.now }
-    ensures ends { IfOk result (λ r. AreEnds S.held S.faults scripts.now r.history r.ends) }
-    ensures paced { IfOk result (λ r. Paced (length scripts.now) order.now r.history) }
+    ensures { IfOk result (λ s. s ≡ scripts.now) }
 {
-    let mut ends = Vec::with_capacity(alloc, scripts.len())?;
-    let mut workers = workers_of(alloc, scripts, sinks)?;
-    let mut engine = empty_engine(alloc, scripts.len() as u32)?;
+    let ends = Vec::with_capacity(alloc, scripts.len())?;
+    let workers = workers_of(alloc, scripts, sinks)?;
+    Ok(Sessions { workers, ends })
+}
+
+/// Runs sessions over an engine by a written order, and then each to its end, the first one first. What a session prints goes to its
+/// sink. A session that finds no memory leaves, and its end says so.
+pub fn run_sessions<K: Keep, S: Sink>(
+    sessions: Sessions<S>,
+    mut engine: Engine<K>,
+    order: &[SessionId],
+) -> Rehearsed<K, S>
+    requires first { engine.history ≡ [] }
+    requires seats { length engine.books ≡ length sessions }
+    requires order { All (IsSession (length sessions)) order.now }
+    ensures legal { Legal (Build engine.recovered (length sessions)) result.history }
+    ensures ends { AreEnds S.held S.faults sessions result.history result.ends }
+    ensures paced { Paced (length sessions) order.now result.history }
+    ensures recovered { result.recovered ≡ engine.recovered }
+    ensures kept { Kept (K.as_keeper engine.keeper) (K.as_keeper result.keeper) (Build engine.recovered (length sessions)) result.history }
+{
+    let Sessions {
+        mut workers,
+        mut ends,
+    } = sessions;
     rehearse_core(&mut engine, workers.as_mut_slice(), order);
     for worker in workers {
         ends.push_reserved(worker.into_end());
     }
-    let (history, _) = engine.into_parts();
-    Ok(Rehearsed {
+    let (recovered, history, keeper) = engine.into_parts();
+    Rehearsed {
         ends: List::from_vec(ends),
+        recovered,
         history,
-    })
+        keeper,
+    }
 }
 
 /// The workers of the sessions, in the order of their scripts.
@@ -98,7 +153,7 @@ pub fn run_alone<S: Sink>(
     };
     let mut worker = Worker::new(session, sink);
     run_out(&mut engine, &mut worker);
-    let (history, _) = engine.into_parts();
+    let (_, history, _) = engine.into_parts();
     Ok((worker.into_end(), history))
 }
 

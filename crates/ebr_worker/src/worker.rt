@@ -1,18 +1,16 @@
 //! A session at work: what it asks is asked of the engine, and what it prints is written to its sink.
 
-ghost use Rattle.std.specs.Prelude.{◌≡◌, ◌≤◌, [], None, Some, IfSome, IsSome, cond, length};
+ghost use Rattle.std.specs.Prelude.{◌≡◌, ◌≤◌, [], false, true, None, Some, IfSome, IsSome, cond, length};
 ghost use Rattle.std.specs.List.{count_by};
-ghost use Rattle.ebr_core.specs.Engine.{database_of};
-ghost use Rattle.ebr_core.specs.History.{IsLive};
-ghost use Rattle.ebr_session.specs.Has.{IsFit, quitting};
+ghost use Rattle.ebr_units.specs.Served.{served};
+ghost use Rattle.ebr_session.specs.Has.{Suits, is_leaving, quitting};
 ghost use Rattle.ebr_worker.specs.Ends.{is_refused};
-ghost use Rattle.ebr_worker.specs.Paced.{IsSession};
-ghost use Rattle.ebr_worker.specs.Work.{IsEndOf, Stands, Turned, Works};
-ghost use Rattle.ebr_worker.specs.inside.Worker.{Advanced, Asked, Flushed, Left, MayLeave, Stepped, end_of};
+ghost use Rattle.ebr_worker.specs.Work.{IsEndOf, Runs, Stands, Turned};
+ghost use Rattle.ebr_worker.specs.inside.Worker.{Advanced, Flushed, HasGoneOn, LeavesNow, Quits, Settles, end_by, end_of, if_ended, why_by};
 
 use crate::engine::answer;
 use ebr_asks::{Answer, Ask, Exchange};
-use ebr_base::{MAX_COUNT, NoMemory};
+use ebr_base::{MAX_COUNT, NoMemory, SessionId, Shared};
 use ebr_core::Engine;
 use ebr_outside::Sink;
 use ebr_record::Keep;
@@ -21,12 +19,14 @@ use ebr_session::{NextAsk, Session};
 use ebr_units::Book;
 use std::marker::Model;
 
-/// A session, its sink, how much of what it printed is written, and how it has ended.
+/// A session, its sink, how much of what it printed is written, why it leaves, and how it has ended.
 #[derive(Drop)]
 pub struct Worker<S: Sink> {
     session: Session<Book>,
     sink: S,
     written: usize,
+    /// Why the session leaves before its script has ended.
+    why: Option<EndKind>,
     end: Option<EndKind>,
 }
 
@@ -41,7 +41,7 @@ impl<S: Sink> Model for Worker<S> {
 
     ghost coded = { Prim.hlevel (codes, a.the_row.coded, x.the_row.coded) };
 
-    ghost view = { λ w. record { session = w.session; written = take w.written w.session.printed; held = S.held w.sink; faults = S.faults w.sink; end = w.end } };
+    ghost view = { λ w. record { session = w.session; written = take w.written w.session.printed; held = S.held w.sink; faults = S.faults w.sink; why = w.why; end = w.end } };
 
     ghost invariant = { λ w. (w.written ≤ length w.session.printed) × IfSome (S.held w.sink) (λ bytes. bytes ≡ take w.written w.session.printed) };
 }
@@ -50,12 +50,13 @@ impl<S: Sink> Worker<S> {
     /// A session that has printed nothing, with its sink.
     pub fn new(session: Session<Book>, sink: S) -> Worker<S>
         requires empty { IfSome (S.held sink) (λ bytes. bytes ≡ []) }
-        ensures { result ≡ record { session = session; written = []; held = S.held sink; faults = S.faults sink; end = None } }
+        ensures { result ≡ record { session = session; written = []; held = S.held sink; faults = S.faults sink; why = None; end = None } }
     {
         Worker {
             session,
             sink,
             written: 0,
+            why: None,
             end: None,
         }
     }
@@ -67,8 +68,9 @@ impl<S: Sink> Worker<S> {
         self.end
     }
 
-    /// One turn: the session goes on to its next ask, what it newly printed is written, and the ask is answered. Where it finds no memory, or
-    /// its sink fails, it quits, and the turn makes its Leave. That of a session that has ended does nothing.
+    /// One turn: the session goes on to its next ask, what it newly printed is written, and the ask is answered. Where it finds no
+    /// memory, or its sink fails, it quits, and the turn makes its Leave. Behind an answer that there is no memory the next turn makes
+    /// its Leave. That of a session that has ended does nothing.
     pub fn turn<K: Keep>(&mut self, engine: &mut Engine<K>)
         requires { Stands self.old engine.old }
         ensures { Turned K.as_keeper self.old self.new engine.old engine.new }
@@ -76,27 +78,32 @@ impl<S: Sink> Worker<S> {
         if self.end.is_some() {
             return;
         }
-        self.end = self.step(engine);
+        let ask = self.go_on();
+        let (answer, book) = answer(engine, self.id(), ask);
+        self.settle(answer, book);
     }
 
-    /// One turn of a session that runs. Gives how it ended, where it has.
-    fn step<K: Keep>(&mut self, engine: &mut Engine<K>) -> Option<EndKind>
-        requires { Works self.old engine.old }
-        ensures { Stepped K.as_keeper result self.old self.new engine.old engine.new }
+    /// The session goes on to its next ask, and what it newly printed is written. Where that can't be, it quits, and the ask is Leave.
+    fn go_on(&mut self) -> Ask
+        requires runs { Runs self.old }
+        requires no_end { self.old.end ≡ None }
+        ensures { HasGoneOn result self.old self.new }
     {
+        if self.why.is_some() {
+            return self.leave();
+        }
         if self.session.transcript().len() >= MAX_COUNT - 1 {
-            return Some(self.leave(engine, EndKind::NoMemory));
+            return self.quit(EndKind::NoMemory);
         }
         match self.advance() {
             Ok(NextAsk::Ask(ask)) => {
                 if self.flush() {
-                    self.ask(engine, ask)
-                } else {
-                    Some(self.leave(engine, EndKind::SinkFault))
+                    return ask;
                 }
+                self.quit(EndKind::SinkFault)
             }
-            Ok(NextAsk::Done) => Some(EndKind::Ended),
-            Err(NoMemory) => Some(self.leave(engine, EndKind::NoMemory)),
+            Ok(NextAsk::Done) => self.quit(EndKind::NoMemory),
+            Err(NoMemory) => self.quit(EndKind::NoMemory),
         }
     }
 
@@ -119,46 +126,54 @@ impl<S: Sink> Worker<S> {
         true
     }
 
-    /// Has the ask answered that is out. Gives how the session ended, where the answer ends it.
-    fn ask<K: Keep>(&mut self, engine: &mut Engine<K>, ask: Ask) -> Option<EndKind>
-        requires seat { IsSession (length engine.old.books) self.old.session.session }
-        requires live { IsLive (database_of engine.old) self.old.session.session }
-        requires out { self.old.session.out ≡ Some ask }
-        requires fit { IsFit ask }
-        ensures { Asked K.as_keeper ask result self.old self.new engine.old engine.new }
-    {
-        let (answer, book) = answer(engine, self.session.id(), ask);
-        let end = end_of(&answer);
-        self.session.take(answer, book);
-        if self.session.has_ended() {
-            Some(end)
-        } else {
-            None
-        }
-    }
-
     /// The session quits: it leaves in place of its next ask.
-    fn leave<K: Keep>(&mut self, engine: &mut Engine<K>, end: EndKind) -> EndKind
-        requires { MayLeave self.old.session self.old.written engine.old }
-        ensures end { result ≡ end }
-        ensures left { Left K.as_keeper self.old self.new engine.old engine.new }
+    fn quit(&mut self, why: EndKind) -> Ask
+        requires { self.old.session.ended ≡ false }
+        ensures { Quits why result self.old self.new }
     {
-        self.quit();
+        self.drop_ask(why);
+        self.leave()
+    }
+
+    /// The session drops its ask, for this cause.
+    fn drop_ask(&mut self, why: EndKind)
+        ensures { self.new ≡ record self.old { session = quitting self.old.session.ended self.old.session; why = Some why } }
+    {
+        self.why = Some(why);
+        self.session.quit();
+    }
+
+    /// Leave, the next ask of a session that is to leave.
+    fn leave(&mut self) -> Ask
+        requires goes_on { self.old.session.ended ≡ false }
+        requires leaves { is_leaving self.old.session ≡ true }
+        ensures { LeavesNow result self.old self.new }
+    {
         match self.advance() {
-            Ok(NextAsk::Ask(ask)) => {
-                self.ask(engine, ask);
-                end
-            }
-            Ok(NextAsk::Done) => end,
-            Err(NoMemory) => end,
+            Ok(NextAsk::Ask(ask)) => ask,
+            // Neither comes here.
+            Ok(NextAsk::Done) => Ask::Leave,
+            Err(NoMemory) => Ask::Leave,
         }
     }
 
-    /// The session drops its ask.
-    fn quit(&mut self)
-        ensures { self.new ≡ record self.old { session = quitting self.old.session.ended self.old.session } }
+    /// The session takes the answer to the ask that is out.
+    fn settle(&mut self, answer: Answer, book: Option<Shared<Book>>)
+        requires out { IsSome self.old.session.out }
+        requires suits { Suits (λ v e. served v) answer book }
+        ensures { Settles answer self.old self.new }
     {
-        self.session.quit();
+        let end = end_by(self.why, &answer);
+        self.why = why_by(self.why, &answer);
+        self.session.take(answer, book);
+        self.end = if_ended(self.session.has_ended(), end);
+    }
+
+    /// The number of the session.
+    fn id(&self) -> SessionId
+        ensures { result ≡ self.now.session.session }
+    {
+        self.session.id()
     }
 
     /// What a session that has ended came to, with its sink.
@@ -208,7 +223,17 @@ fn refusals(exchange: &Exchange) -> usize
     }
 }
 
-/// How a session ends that an answer ends.
+/// How a session ends with an answer that ends it, which leaves for this cause, if it has one.
+fn end_by(why: Option<EndKind>, answer: &Answer) -> EndKind
+    ensures { result ≡ end_by why answer.now }
+{
+    match why {
+        Some(why) => why,
+        None => end_of(answer),
+    }
+}
+
+/// How a session ends that an answer ends, and that leaves for no other cause.
 fn end_of(answer: &Answer) -> EndKind
     ensures { result ≡ end_of answer.now }
 {
@@ -217,4 +242,32 @@ fn end_of(answer: &Answer) -> EndKind
         Answer::NoMemory => EndKind::NoMemory,
         _ => EndKind::Ended,
     }
+}
+
+/// Why a session leaves behind an answer.
+fn why_by(why: Option<EndKind>, answer: &Answer) -> Option<EndKind>
+    ensures { result ≡ why_by why answer.now }
+{
+    match why {
+        Some(why) => Some(why),
+        None => why_of(answer),
+    }
+}
+
+fn why_of(answer: &Answer) -> Option<EndKind>
+    ensures { result ≡ why_by None answer.now }
+{
+    match answer {
+        Answer::NoMemory => Some(EndKind::NoMemory),
+        _ => None,
+    }
+}
+
+fn if_ended(ended: bool, end: EndKind) -> Option<EndKind>
+    ensures { result ≡ if_ended ended end }
+{
+    if ended {
+        return Some(end);
+    }
+    None
 }

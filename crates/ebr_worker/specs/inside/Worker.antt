@@ -1,34 +1,24 @@
--- What the parts of a turn do.
-use Rattle.std.specs.Prelude.{ℕ, ◌≡◌, ◌<◌, ◌≤◌, Bool, true, false, if◌then◌else◌, List, length, Option, Some, None, Result}
+-- What the parts of a turn do: the session goes on to its next ask, and takes the answer. Neither needs the engine.
+use Rattle.std.specs.Prelude.{◌≡◌, ◌+◌, ◌<◌, ◌⊎◌, Bool, true, false, length, Option, Some, None, Result}
 use Rattle.std.specs.Bool.{OnTrue}
 use Rattle.ebr_base.specs.declared.clone_in.NoMemory as memory
 use Rattle.ebr_base.specs.declared.numbers.TheConstants.{MAX_COUNT}
-use Rattle.ebr_ast.specs.declared.view.EditionView.{EditionView}
 use Rattle.ebr_asks.specs.declared.ask.Ask.{Ask}
+use Rattle.ebr_asks.specs.declared.ask.Ask.TheVariants as ask
 use Rattle.ebr_asks.specs.declared.answer.Answer.{Answer}
 use Rattle.ebr_asks.specs.declared.answer.Answer.TheVariants as answer
-use Rattle.ebr_asks.specs.declared.entry.Entry.{Entry}
 use Rattle.ebr_outside.specs.Sink.{faults_after}
-use Rattle.ebr_record.specs.Keeper.{Keeper}
 use Rattle.ebr_report.specs.declared.ends.EndKind.{EndKind}
 use Rattle.ebr_report.specs.declared.ends.EndKind.TheVariants as ending
 use Rattle.ebr_calls.specs.Courses.{AllContinue}
 use Rattle.ebr_session.specs.declared.next.NextAsk.{NextAsk}
-use Rattle.ebr_session.specs.Has.{Advances, Follows, IsPrefix, Progress, answered, answers, ends}
+use Rattle.ebr_session.specs.Has.{Advances, Follows, IsFit, IsPrefix, IsShort, Progress, answered, answers, is_short}
 use Rattle.ebr_session.specs.Sessions.{Printed}
-use Rattle.ebr_core.specs.Engine.{EngineState, database_of}
-use Rattle.ebr_core.specs.History.{IsLive, Mine}
-use Rattle.ebr_worker.specs.Paced.{is_over}
-use Rattle.ebr_worker.specs.Ends.{Quit, printed_before_last}
-use Rattle.ebr_worker.specs.Work.{Adds, Seated, StandsBy, Work}
-use Rattle.ebr_worker.specs.inside.Engine.{Replies}
+use Rattle.ebr_worker.specs.Paced.{has_ended}
+use Rattle.ebr_worker.specs.Ends.{printed_before_last}
+use Rattle.ebr_worker.specs.Work.{HasCome, Runs, Work}
 
--- What a turn of a session that runs has come to: how it ended, if it has.
-pub record Stepped {K : Type 0} (as_keeper : K → Keeper) (end : Option EndKind) (old new : Work) (e e' : EngineState K) : Type 0 where
-  pub session : new.session.session ≡ old.session.session
-  pub script : new.session.script ≡ old.session.script
-  pub came : StandsBy end new e'
-  pub makes : (x : Entry) × Adds as_keeper old.session.session x e e'
+-- ---- it goes on
 
 -- The session went on, and nothing was written.
 pub record Advanced (r : Result NextAsk memory.NoMemory) (old new : Work) : Type 0 where
@@ -43,44 +33,114 @@ pub record Flushed (all : Bool) (old new : Work) : Type 0 where
   pub part : IsPrefix new.written new.session.printed
   pub whole : OnTrue all (new.written ≡ new.session.printed)
   pub counted : new.faults ≡ faults_after all old.faults
+  pub why : new.why ≡ old.why
+  pub end : new.end ≡ old.end
 
--- how a session ends that an answer ends
+-- with Leave out
+abbrev pub with_leave : Progress → Progress
+with_leave s = record s { out = Some ask.Leave }
+
+-- It is to leave, and Leave is out now.
+pub record LeavesNow (q : Ask) (old new : Work) : Type 0 where
+  pub leave : q ≡ ask.Leave
+  pub is : new ≡ record old { session = with_leave old.session }
+  pub follows : Follows new.session
+
+-- It has quit for this cause, and Leave is out.
+abbrev pub having_quit : EndKind → Work → Work
+having_quit why w = record w { session = record w.session { quit = Some (length w.session.transcript); out = Some ask.Leave }; why = Some why }
+
+pub record Quits (why : EndKind) (q : Ask) (old new : Work) : Type 0 where
+  pub leave : q ≡ ask.Leave
+  pub is : new ≡ having_quit why old
+  pub follows : Follows new.session
+
+-- ---- an ask is out
+
+-- It has quit. Of what its script prints for its answers this much is written at least, and at most.
+pub record HasQuit (w : Work) : Type 0 where
+  pub quit : w.session.quit ≡ Some (length w.session.transcript)
+  pub went_on : AllContinue (answers w.session.transcript)
+  pub most : IsPrefix w.written (Printed w.session.script (answers w.session.transcript))
+  pub least : IsPrefix (printed_before_last w.session.script (answers w.session.transcript)) w.written
+
+-- all that it had printed is written
+pub record HasQuitWhole (w : Work) : Type 0 where
+  pub quit : HasQuit w
+  pub whole : w.written ≡ printed_before_last w.session.script (answers w.session.transcript)
+
+-- It leaves since it was answered that there is no memory.
+pub record IsLeaving (w : Work) : Type 0 where
+  pub no_quit : w.session.quit ≡ None
+  pub short : IsShort w.session.transcript
+  pub written : w.written ≡ w.session.printed
+
+-- It runs, and all that it printed is written.
+pub record GoesOn (w : Work) : Type 0 where
+  pub no_quit : w.session.quit ≡ None
+  pub went_on : AllContinue (answers w.session.transcript)
+  pub written : w.written ≡ w.session.printed
+  pub unfailed : w.faults ≡ 0
+  pub few : length w.session.transcript + 1 < MAX_COUNT
+
+-- by why it leaves
+abbrev pub AsksBy : Option EndKind → Ask → Work → Type 0
+AsksBy None q w = GoesOn w
+AsksBy (Some ending.NoMemory) q w = (q ≡ ask.Leave) × (w.faults ≡ 0) × (HasQuitWhole w ⊎ IsLeaving w)
+AsksBy (Some ending.SinkFault) q w = (q ≡ ask.Leave) × (w.faults ≡ 1) × HasQuit w
+AsksBy (Some ending.Ended) q w = ⊥
+AsksBy (Some ending.Stopped) q w = ⊥
+
+-- This ask is out.
+pub record Asks (q : Ask) (w : Work) : Type 0 where
+  pub goes_on : w.session.ended ≡ false
+  pub out : w.session.out ≡ Some q
+  pub follows : Follows w.session
+  pub not_over : has_ended w.session.transcript ≡ false
+  pub few : length w.session.transcript < MAX_COUNT
+  pub fit : IsFit q
+  pub short : is_short w.session.transcript ≡ true → q ≡ ask.Leave
+  pub by : AsksBy w.why q w
+  pub no_end : w.end ≡ None
+
+-- The session has come to this ask.
+pub record HasGoneOn (q : Ask) (old new : Work) : Type 0 where
+  pub asks : Asks q new
+  pub session : new.session.session ≡ old.session.session
+  pub script : new.session.script ≡ old.session.script
+  pub transcript : new.session.transcript ≡ old.session.transcript
+
+-- ---- its answer
+
+-- how a session ends that an answer ends, and that leaves for no other cause
 abbrev pub end_of : Answer → EndKind
 end_of answer.DiskFault = ending.Stopped
 end_of answer.NoMemory = ending.NoMemory
 end_of answer.Stopped = ending.Stopped
 end_of x = ending.Ended
 
--- The engine answered the ask that was out, and the session took the answer.
-pub record Asked {K : Type 0} (as_keeper : K → Keeper) (q : Ask) (end : Option EndKind) (old new : Work) (e e' : EngineState K) : Type 0 where
-  pub answer : Answer
-  pub book : Option EditionView
-  pub replies : Replies as_keeper e e' old.session.session q answer book
-  pub took : new ≡ record old { session = answered (Some q) answer old.session }
+abbrev pub end_by : Option EndKind → Answer → EndKind
+end_by None x = end_of x
+end_by (Some why) x = why
+
+-- why it leaves, behind an answer
+abbrev pub why_by : Option EndKind → Answer → Option EndKind
+why_by None answer.NoMemory = Some ending.NoMemory
+why_by why x = why
+
+abbrev pub if_ended : Bool → EndKind → Option EndKind
+if_ended true k = Some k
+if_ended false k = None
+
+-- It took an answer.
+abbrev pub settled : Answer → Work → Work
+settled x w = record w { session = answered w.session.out x w.session; why = why_by w.why x; end = if_ended (answered w.session.out x w.session).ended (end_by w.why x) }
+
+pub record Settles (x : Answer) (old new : Work) : Type 0 where
+  pub is : new ≡ settled x old
   pub follows : Follows new.session
-  pub ended : end ≡ (if ends q answer then Some (end_of answer) else None)
 
--- A session may leave in place of its next ask, of which this is written: at least what it had printed at its last ask.
-pub record MayLeave {K : Type 0} (s : Progress) (written : List ℕ) (e : EngineState K) : Type 0 where
-  pub goes_on : s.ended ≡ false
-  pub went_on : AllContinue (answers s.transcript)
-  pub seated : Seated s e
-  pub not_over : is_over e.history s.session ≡ false
-  pub few : length s.transcript < MAX_COUNT
-  pub live : IsLive (database_of e) s.session
-  pub most : IsPrefix written (Printed s.script (answers s.transcript))
-  pub least : IsPrefix (printed_before_last s.script (answers s.transcript)) written
-
--- It has quit and left, behind the answers that it had taken.
-pub record Left {K : Type 0} (as_keeper : K → Keeper) (old new : Work) (e e' : EngineState K) : Type 0 where
-  pub quit : Quit old.session.script (Mine e'.history old.session.session) old.written
-  pub behind : answers quit.before ≡ answers old.session.transcript
-  pub makes : (x : Entry) × Adds as_keeper old.session.session x e e'
-  pub seated : Seated new.session e'
-  pub over : is_over e'.history old.session.session ≡ true
-  pub ended : new.session.ended ≡ true
-  pub few : length new.session.transcript ≤ MAX_COUNT
-  pub session : new.session.session ≡ old.session.session
-  pub script : new.session.script ≡ old.session.script
-  pub written : new.written ≡ old.written
-  pub faults : new.faults ≡ old.faults
+-- The session runs, or has ended so.
+abbrev pub IsBy : Option EndKind → Work → Type 0
+IsBy None w = Runs w
+IsBy (Some k) w = HasCome k w

@@ -8,7 +8,7 @@ use Rattle.ebr_worker.proofs.run.run_alone.Goals as goal
 pub run_out-requires-clause-works : goal.run_out-requires-clause-works
 run_out-requires-clause-works g c =
     works_alone _ _ _ _ c.args.script.now c.in-Ok-empty_engine.ensures c.in-Ok.ensures.begins c.in-Ok.ensures.follows (ap (λ (w : Work). w.session) c.new-worker.ensures) (ap (λ (w : Work). w.written) c.new-worker.ensures)
-    (ap (λ (w : Work). w.faults) c.new-worker.ensures ∙ c.requires.unwritten.1) (ap (λ (w : Work). w.end) c.new-worker.ensures)
+    (ap (λ (w : Work). w.faults) c.new-worker.ensures ∙ c.requires.unwritten.1) (ap (λ (w : Work). w.why) c.new-worker.ensures) (ap (λ (w : Work). w.end) c.new-worker.ensures)
 
 pub into_end-requires-clause-few : goal.into_end-requires-clause-few
 into_end-requires-clause-few g c = alone_few as_keeper _ _ _ _ c.run_out.ensures.alone c.run_out.ensures.ended

@@ -8,8 +8,8 @@ use Rattle.ebr_worker.proofs.run.run_sessions.Given as goal
 abbrev pub invariant-loop-worker : goal.invariant-loop-worker
 invariant-loop-worker g l = record {
   left : into_iter_len l.worker-iterator ≡ length (into_iter_items l.worker-iterator);
-  count : length l.ends.items + length (into_iter_items l.worker-iterator) ≡ length l.scripts;
-  room : length l.scripts ≤ vec_capacity l.ends;
-  workers : AllFrom (EndsAt l.scripts l.engine) (length l.ends.items) (into_iter_items l.worker-iterator);
-  ended : AllFrom (IsEndAt g.S.Sink.held g.S.Sink.faults l.scripts l.engine.history) 0 l.ends.items;
+  count : length l.ends.items + length (into_iter_items l.worker-iterator) ≡ length l.fn.sessions;
+  room : length l.fn.sessions ≤ vec_capacity l.ends;
+  workers : AllFrom (EndsAt l.fn.sessions l.engine) (length l.ends.items) (into_iter_items l.worker-iterator);
+  ended : AllFrom (IsEndAt g.S.Sink.held g.S.Sink.faults l.fn.sessions l.engine.history) 0 l.ends.items;
 }
