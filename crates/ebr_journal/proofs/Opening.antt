@@ -5,12 +5,13 @@ use Rattle.ebr_outside.specs.Disk.{Medium, LeavesLess, LeavesNow, Stands, Syncs}
 use Rattle.ebr_journal.specs.Journal.{none_yet, IsBlank, Ends, HasRecords}
 use Rattle.ebr_journal.specs.Keeper.{last_gate, IsSettled}
 use Rattle.ebr_journal.specs.Found.{begun, Counts, IsFound}
-use Rattle.ebr_journal.specs.Start.{IsFresh, Makes, IsAsRead, RestsSince, NeverRests, IsOpened, Opened, why_of}
+use Rattle.ebr_journal.specs.Start.{AsStarted, IsFresh, Makes, IsAsRead, RestsSince, NeverRests, IsOpened, Opened, why_of}
 use Rattle.ebr_journal.specs.declared.start.StartWhy.{StartWhy}
 use Rattle.ebr_journal.specs.declared.read.Walked.{Walked}
 use Rattle.ebr_journal.specs.declared.found.Found as found
 use Rattle.ebr_outside.specs.declared.disk.DiskErr.TheVariants as disk
 use Rattle.ebr_journal.proofs.Moments.{told_after}
+use Rattle.ebr_journal.proofs.Reading.{begun_counts}
 
 -- what is left from the first sync on is less
 pub rests_weaker : (old new : Medium) (P Q : List ℕ → Type 0) → RestsSince old new P → ((image : List ℕ) → P image → Q image) → RestsSince old new Q
@@ -62,13 +63,16 @@ module _ (m0 : Medium) (told : IsTrue m0.tells) (law : LeavesLess m0) where
       same = inr same;
     }
 
-    pub rests_found : (w : Walked) → IsFound m0.reads w → RestsSince m0 m2 (λ image. HasRecords image w.found.records)
-    rests_found w whole = rests_weaker m0 m2 (λ image. image ≡ m0.reads) (λ image. HasRecords image w.found.records) rests_read
-        (λ image is. inr (record {
-          layout = whole.layout;
-          ends = subst (λ (f : List ℕ). Ends f whole.layout) (sym is) whole.safe.ends;
-          are = ap (λ (f : found.Found). f.records) whole.laid.found;
-        }))
+    pub rests_found : (w : Walked) → IsFound m0.reads w → RestsSince m0 m2 (AsStarted m0.reads w.found.records)
+    rests_found w whole = rests_weaker m0 m2 (λ image. image ≡ m0.reads) (AsStarted m0.reads w.found.records) rests_read
+        (λ image is. (
+          inr (record {
+            layout = whole.layout;
+            ends = subst (λ (f : List ℕ). Ends f whole.layout) (sym is) whole.safe.ends;
+            are = ap (λ (f : found.Found). f.records) whole.laid.found;
+          }),
+          inr is,
+        ))
 
     -- a journal was being made of a blank file
     pub rests_made : IsBlank m0.reads → (a : Result (Unit {0}) DiskErr) (m3 : Medium) → Makes m2 a m3 → RestsSince m0 m3 (λ image. HasRecords image [])
@@ -103,7 +107,8 @@ opened_blank m0 m w is blank settled = subst (λ (x : Walked). IsOpened m0 m x) 
 })
 
 pub begun_gate : (w : Walked) → w ≡ begun → Counts w × (w.gate ≤ last_gate w.form)
-begun_gate w is = subst (λ (x : Walked). Counts x × (x.gate ≤ last_gate x.form)) (sym is) (record { some = omega arith; room = omega arith; small = omega arith; few = omega arith }, omega arith)
+begun_gate w is = subst (λ (x : Walked). Counts x × (x.gate ≤ last_gate x.form)) (sym is) (begun_counts, omega arith)
 
-pub begun_rests : (m0 m : Medium) (w : Walked) → w ≡ begun → RestsSince m0 m (λ image. HasRecords image []) → RestsSince m0 m (λ image. HasRecords image w.found.records)
-begun_rests m0 m w is rests = subst (λ (x : Walked). RestsSince m0 m (λ image. HasRecords image x.found.records)) (sym is) rests
+pub begun_rests : (m0 m : Medium) (w : Walked) → w ≡ begun → IsBlank m0.reads → RestsSince m0 m (λ image. HasRecords image []) → RestsSince m0 m (AsStarted m0.reads w.found.records)
+begun_rests m0 m w is blank rests =
+    subst (λ (x : Walked). RestsSince m0 m (AsStarted m0.reads x.found.records)) (sym is) (rests_weaker m0 m (λ image. HasRecords image []) (AsStarted m0.reads []) rests (λ image now. (now, inl blank)))

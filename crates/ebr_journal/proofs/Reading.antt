@@ -1,15 +1,18 @@
 -- What stands at a gate, and where records lead.
 use Rattle.std.proofs.Common.{◌≡◌, ◌≢◌, ⊎_elim, ℕ, ◌+◌, ◌-◌, ◌<◌, ◌≤◌, IsTrue, List, [], ◌∷◌, ◌++◌, length, take, drop, get_or, Option, Some, None, refl, sym, ◌∙◌, ap, subst, arith, append_assoc, length-append, take-append-drop, take-add}
+use Rattle.std.specs.Prelude.{All}
+use Rattle.std.proofs.lemmas.List.Elements.{All-nil, All-push}
 use Rattle.std.proofs.lemmas.List.{take_at, drop_at, drop_more, drop-drop}
 use Rattle.std.specs.Int.{w32, w64, from_be_bytes}
 use Rattle.std.proofs.lemmas.Nat.{from_be_bytes-to_be_bytes_4, from_be_bytes-to_be_bytes_8}
 use Rattle.ebr_outside.specs.Disk.{Medium}
 use Rattle.ebr_record.specs.declared.record.Record.{Record}
 use Rattle.ebr_record.specs.Keeper.{max_journal, share, used_by}
-use Rattle.ebr_record.specs.Payload.{payload}
+use Rattle.ebr_record.specs.Payload.{HasPayload, IsOfFew, payload}
+use Rattle.ebr_record.specs.declared.record.Record.TheVariants as made
 use Rattle.ebr_encoding.specs.declared.form.Form.{Form}
 use Rattle.ebr_encoding.specs.declared.form.Form.TheVariants.{Short, Long}
-use Rattle.ebr_encoding.specs.Spelled.{most_bytes}
+use Rattle.ebr_encoding.specs.Spelled.{changes_of, most_bytes, most_changes}
 use Rattle.ebr_journal.specs.declared.read.Gate.{Gate}
 use Rattle.ebr_journal.specs.declared.read.Gate.TheVariants.{Closed, Open, Mark, Broken}
 use Rattle.ebr_journal.specs.declared.read.Walked.{Walked}
@@ -17,7 +20,7 @@ use Rattle.ebr_journal.specs.declared.found.Found as found
 use Rattle.ebr_journal.specs.Journal.{entry, share_in, size_bytes, mark, MayStand, Layout, none_yet, form_of, front, records_in, found_in, AreSpelled, Ends}
 use Rattle.ebr_journal.specs.Keeper.{beside, last_gate}
 use Rattle.ebr_journal.specs.Crash.{added_to, added, marked}
-use Rattle.ebr_journal.specs.Found.{begun, head, size_limit, mark_payload, short_one, with_one, with_mark, Counts, HasCome, IsBrokenAt, IsNoJournal, IsRead, IsRecordAt, LeadsTo, LiesWithin, StandsAt, StandsWhole, WalksTo}
+use Rattle.ebr_journal.specs.Found.{begun, head, size_limit, mark_payload, short_one, with_one, with_mark, Counts, AreFit, HasCome, IsBrokenAt, IsNoJournal, IsRead, IsRecordAt, LeadsTo, LiesWithin, StandsAt, StandsWhole, WalksTo}
 use Rattle.ebr_journal.proofs.Records.{length-entry, some_bytes}
 use Rattle.ebr_journal.proofs.Layouts.{added_form, added_front, added_records, added_spelled, marked_front, share_head, used_more}
 
@@ -140,6 +143,16 @@ gate_lies form q place size len long room Mark read =
     (read.0, omega (arith, subst (λ (f : Form). place + head f + size < len) read.0 room, counts))
 gate_lies form q place size len long room Broken read = tt
 
+-- ---- what may stand has a payload
+
+few_changes : (form : Form) (r : Record) → changes_of r ≤ most_changes form → IsOfFew r
+few_changes Short (made.Commit changes) few = omega (arith, few)
+few_changes Long (made.Commit changes) few = few
+few_changes form r few = tt
+
+pub may_payload : (form : Form) (r : Record) → MayStand form r → HasPayload r
+may_payload form r may = record { lists = may.spelled.lists; short = may.spelled.short; few = few_changes form r may.fits.few }
+
 -- ---- from gate to gate
 
 -- the first gate
@@ -192,17 +205,35 @@ module _ (b : List ℕ) (w : Walked) where
         laid = record { found = come.laid.found; counts = come.laid.counts; follows = refl };
       }
 
-  pub counts_more : (r : Record) → Counts w → Counts (with_one w r)
-  counts_more r c = by w.form c.room
+  pub counts_more : (r : Record) → w.gate < max_journal → MayStand w.form r → Counts w → Counts (with_one w r)
+  counts_more r early may c =
+      by w.form c.room (ap (λ (n : ℕ). n + share r) c.counted ∙ sym (used_more w.found.records r)) (All-push HasPayload w.found.records r c.payloads (may_payload w.form r may))
     where
-      by : (f : Form) → w.gate + beside f ≤ w.used → Counts (record { found = record { records = w.found.records ++ r ∷ []; short = w.found.short + short_one f }; gate = w.gate + share_in f r; used = w.used + share r; form = f })
-      by Short room = record { some = omega (arith, c.some); room = omega (arith, room); small = omega (arith, c.small); few = omega (arith, c.few, some_bytes r) }
-      by Long room = record { some = omega (arith, c.some); room = omega (arith, room); small = omega (arith, c.small); few = omega (arith, c.few) }
+      by : (f : Form) → w.gate + beside f ≤ w.used → w.used + share r ≡ used_by (w.found.records ++ r ∷ []) → All HasPayload (w.found.records ++ r ∷ [])
+          → Counts (record { found = record { records = w.found.records ++ r ∷ []; short = w.found.short + short_one f }; gate = w.gate + share_in f r; used = w.used + share r; form = f })
+      by Short room counted payloads = record {
+        some = omega (arith, c.some);
+        early = omega (arith, early, may.spelled.short);
+        room = omega (arith, room);
+        small = omega (arith, c.small);
+        few = omega (arith, c.few, some_bytes r);
+        counted = counted;
+        payloads = payloads;
+      }
+      by Long room counted payloads = record {
+        some = omega (arith, c.some);
+        early = omega (arith, early, may.spelled.short);
+        room = omega (arith, room);
+        small = omega (arith, c.small);
+        few = omega (arith, c.few);
+        counted = counted;
+        payloads = payloads;
+      }
 
-  pub counts_marked : w.form ≡ Short → Counts w → Counts (with_mark w)
-  counts_marked is_short c =
+  pub counts_marked : w.gate < max_journal → w.form ≡ Short → Counts w → Counts (with_mark w)
+  counts_marked early is_short c =
       let room : w.gate + 8 ≤ w.used = subst (λ (f : Form). w.gate + beside f ≤ w.used) is_short c.room in
-      record { some = omega (arith, c.some); room = omega (arith, room); small = omega (arith, c.small); few = omega (arith, c.few) }
+      record { some = omega (arith, c.some); early = omega (arith, early); room = omega (arith, room); small = omega (arith, c.small); few = omega (arith, c.few); counted = c.counted; payloads = c.payloads }
 
 pub leads_end : (b : List ℕ) (l : Layout) (at : ℕ) → LeadsTo b l at → get_or b at 0 ≢ 1 → Ends b l
 leads_end b l at leads closed = record {
@@ -215,9 +246,19 @@ leads_end b l at leads closed = record {
 
 -- ---- the walk
 
+-- the records that were found have payloads, and are counted in few bytes
+pub fit_of : (w : Walked) → Counts w → AreFit w.found
+fit_of w c = record { payloads = c.payloads; small = omega (arith, c.early, c.small, c.few, c.counted) }
+
+pub begun_counts : Counts begun
+begun_counts = record { some = omega arith; early = omega arith; room = omega arith; small = omega arith; few = omega arith; counted = refl; payloads = All-nil HasPayload }
+
+pub begun_fit : (w : Walked) → w ≡ begun → AreFit w.found
+begun_fit w is = subst (λ (x : Walked). AreFit x.found) (sym is) (fit_of begun begun_counts)
+
 pub walks_start : (m : Medium) (len : ℕ) (w : Walked) → w ≡ begun → 1 < len → (IsTrue m.tells → len ≡ length m.reads) → WalksTo m len w
 walks_start m len w is some long = subst (WalksTo m len) (sym is) (record {
-  counts = record { some = omega arith; room = omega arith; small = omega arith; few = omega arith };
+  counts = begun_counts;
   within = some;
   told = λ told first. record {
     layout = none_yet;
@@ -227,16 +268,16 @@ walks_start m len w is some long = subst (WalksTo m len) (sym is) (record {
 })
 
 module _ (m : Medium) (len : ℕ) (w w' : Walked) (walks : WalksTo m len w) where
-  pub walks_more : (r : Record) (next : ℕ) → w' ≡ with_one w r → LiesWithin w.gate len w.form (Open r next) → (IsTrue m.tells → IsRecordAt m.reads w.gate w.form r) → WalksTo m len w'
-  walks_more r next is lies there = subst (WalksTo m len) (sym is) (record {
-    counts = counts_more m.reads w r walks.counts;
+  pub walks_more : (r : Record) (next : ℕ) → w.gate < max_journal → w' ≡ with_one w r → LiesWithin w.gate len w.form (Open r next) → (IsTrue m.tells → IsRecordAt m.reads w.gate w.form r) → WalksTo m len w'
+  walks_more r next early is lies there = subst (WalksTo m len) (sym is) (record {
+    counts = counts_more m.reads w r early lies.0 walks.counts;
     within = omega (arith, lies.1, lies.2);
     told = λ told first. comes_more m.reads w r (walks.told told first) (there told);
   })
 
-  pub walks_marked : w' ≡ with_mark w → LiesWithin w.gate len w.form Mark → (IsTrue m.tells → StandsWhole m.reads w.gate mark) → WalksTo m len w'
-  walks_marked is lies there = subst (WalksTo m len) (sym is) (record {
-    counts = counts_marked m.reads w lies.0 walks.counts;
+  pub walks_marked : w.gate < max_journal → w' ≡ with_mark w → LiesWithin w.gate len w.form Mark → (IsTrue m.tells → StandsWhole m.reads w.gate mark) → WalksTo m len w'
+  walks_marked early is lies there = subst (WalksTo m len) (sym is) (record {
+    counts = counts_marked m.reads w early lies.0 walks.counts;
     within = lies.1;
     told = λ told first. comes_marked m.reads w (walks.told told first) lies.0 (there told);
   })

@@ -12,6 +12,7 @@ use Rattle.ebr_journal.specs.Start.{Opened, IsOpened}
 use Rattle.ebr_journal.specs.Begun.{Started}
 use Rattle.ebr_journal.proofs.Gates.{has_front}
 use Rattle.ebr_journal.proofs.Keeping.{at_rest, kept_is}
+use Rattle.ebr_journal.proofs.Reading.{fit_of}
 
 told_some : (b : Bool) (x y : List Record) → IsTrue b → x ≡ y → (if b then Some x else None) ≡ Some y
 told_some true x y told same = ap (λ (l : List Record). Some l) same
@@ -49,6 +50,8 @@ module _ (m0 m : Medium) (w : Walked) (goes : Goes m0 m) (opened : Opened m0 (Ok
     goes = goes;
     running = refl;
     at_rest = at_rest m w.gate w.used w.form false law sound;
+    counted = opened.gate.0.counted;
+    fit = fit_of w opened.gate.0;
     told = λ told. let o = is_open told in record {
       holds = o.holds;
       kept = told_some m.tells (kept m.reads w.gate) w.found.records (subst IsTrue (sym goes.tells) told)

@@ -1,9 +1,9 @@
 -- What an upgrade does, at each of its exits.
-use Rattle.std.proofs.Common.{◌≡◌, inl, ℕ, ◌+◌, Bool, true, false, IsTrue, List, [], ◌∷◌, ◌++◌, Option, Some, None, IfSome, Ok, Err, refl, sym, ◌∙◌, subst, arith}
+use Rattle.std.proofs.Common.{◌≡◌, inl, inr, ⊎_elim, ℕ, ◌+◌, Bool, true, false, IsTrue, if◌then◌else◌, List, [], ◌∷◌, ◌++◌, Option, Some, None, IfSome, Ok, Err, refl, sym, ◌∙◌, subst, arith}
 use mathlib.Core.Bool.{true≢false}
 use Rattle.ebr_faults.specs.Faults.{Rises}
 use Rattle.ebr_outside.specs.declared.disk.DiskErr.{DiskErr}
-use Rattle.ebr_outside.specs.Disk.{Medium, LeavesNow, Goes}
+use Rattle.ebr_outside.specs.Disk.{Medium, LeavesNow, Goes, Passes}
 use Rattle.ebr_record.specs.declared.keep.JournalFault.{JournalFault}
 use Rattle.ebr_record.specs.declared.keep.JournalFault.TheVariants as fault
 use Rattle.ebr_record.specs.declared.record.Record.{Record}
@@ -11,9 +11,9 @@ use Rattle.ebr_record.specs.Keeper.{Keeper, LeavesJust}
 use Rattle.ebr_record.specs.Keeper as keeper
 use Rattle.ebr_encoding.specs.declared.form.Form.{Form}
 use Rattle.ebr_encoding.specs.declared.form.Form.TheVariants.{Short, Long}
-use Rattle.ebr_journal.specs.Journal.{Layout, mark_body}
-use Rattle.ebr_journal.specs.Keeper.{kept, keeper_of, AreThese, HasFront, IsSettled, IsSound, Keeps, Upgrades}
-use Rattle.ebr_journal.specs.Crash.{IsNext, Puts, marked}
+use Rattle.ebr_journal.specs.Journal.{Layout, HasRecords, mark_body, records_in}
+use Rattle.ebr_journal.specs.Keeper.{kept, keeper_of, AreThese, HasThese, HasFront, IsSettled, IsSound, Keeps, Upgrades}
+use Rattle.ebr_journal.specs.Crash.{IsBeforeOrAfter, IsNext, Puts, marked}
 use Rattle.ebr_journal.proofs.Gates.{has_front}
 use Rattle.ebr_journal.proofs.Layouts.{marked_next}
 use Rattle.ebr_journal.proofs.Keeping.{at_rest, kept_is, same_told, passes_same}
@@ -29,6 +29,25 @@ module _ (m : Medium) (gate used : ℕ) (form : Form) (stopped : Bool) (sound : 
     rest = at_rest m gate used form stopped law sound;
     moments = λ told. record { moment = refl; same = λ t l. (λ x. x, λ x. x) };
   }
+
+-- what is told is so where nothing is told
+told_or_not : (b : Bool) (x : List Record) (P : List Record → Type 0) → P x → IfSome (if b then Some x else None) P
+told_or_not true x P h = h
+told_or_not false x P h = tt
+
+-- an image in front of the mark has the records, and so has one behind it
+marks_images : (m new : Medium) (gate : ℕ) (l : Layout) → HasFront m.reads gate l → Passes m new (IsBeforeOrAfter l (marked l)) → Passes m new (HasThese (if m.tells then Some (kept m.reads gate) else None))
+marks_images m new gate l front time = record {
+  later = time.later;
+  only = λ t image le left. ⊎_elim
+      (λ was. inl was)
+      (λ ends. inr (told_or_not m.tells (kept m.reads gate) (λ records. HasRecords image records) (⊎_elim
+      (λ before. inr (record { layout = l; ends = before; are = kept_is m.reads gate l front }))
+      (λ after. inr (record { layout = marked l; ends = after; are = kept_is m.reads gate l front }))
+      ends)))
+      (time.only t image le left);
+  keeps = time.keeps;
+}
 
 -- a keeper that rests leaves its list
 these : (o : Option (List Record)) (k : Keeper) (l : List Record) → IfSome o (LeavesJust k) → k.may_leave k.moment l → AreThese o l
@@ -87,6 +106,9 @@ module _ (m : Medium) (gate used : ℕ) (stopped : Bool) (law : IsTrue m.tells �
             record { layout = marked k'.layout; front = front (back told'); counts = k'.counts; follows = refl; settled = λ e. settled (back told') };
       }
 
+      pub marked_images : IsTrue m.tells → Passes m new (HasThese k0.records)
+      marked_images told = let k' = sound.kept told in marks_images m new gate k'.layout k'.front (done told).time
+
       pub is_marked : Upgrades k0 (keeper_of new gate' used false) (Ok tt)
       is_marked = record {
         why = going;
@@ -138,6 +160,9 @@ module _ (m : Medium) (gate used : ℕ) (stopped : Bool) (law : IsTrue m.tells �
       time : IsTrue m.tells → keeper.Passes k0 (keeper_of new gate used true) (AreThese k0.records)
       time told = let k' = sound.kept told in
           passes_same m new gate used gate used stopped true k'.layout (marked k'.layout) (k'.settled going) (failed told).time k'.front refl
+
+      pub failed_images : IsTrue m.tells → Passes m new (HasThese k0.records)
+      failed_images told = let k' = sound.kept told in marks_images m new gate k'.layout k'.front (failed told).time
 
       pub disk_failed : Rises m.faults new.faults → Upgrades k0 (keeper_of new gate used true) (Err fault.DiskFault)
       disk_failed rises = record { why = (going, rises); after = keeps fault.DiskFault; rest = at_rest new gate used Short true law' broken; moments = time }

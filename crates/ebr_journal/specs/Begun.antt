@@ -2,10 +2,10 @@
 use Rattle.std.specs.Prelude.{◌≡◌, ◌⊎◌, false, IsTrue, Some}
 use Rattle.ebr_faults.specs.Faults.{Rises}
 use Rattle.ebr_outside.specs.Disk.{Medium, Goes}
-use Rattle.ebr_record.specs.Keeper.{Keeper, IsAtRest}
-use Rattle.ebr_journal.specs.Journal.{IsBlank, HasRecords}
-use Rattle.ebr_journal.specs.Found.{Holds}
-use Rattle.ebr_journal.specs.Start.{IsLeft, IsAsRead, RestsSince, NeverRests}
+use Rattle.ebr_record.specs.Keeper.{Keeper, IsAtRest, used_by}
+use Rattle.ebr_journal.specs.Journal.{IsBlank}
+use Rattle.ebr_journal.specs.Found.{AreFit, Holds}
+use Rattle.ebr_journal.specs.Start.{AsStarted, BeforeDamage, IsLeft, IsAsRead, RestsSince, NeverRests}
 use Rattle.ebr_journal.specs.declared.found.Found.{Found}
 use Rattle.ebr_journal.specs.declared.start.StartWhy.{StartWhy}
 use Rattle.ebr_journal.specs.declared.start.StartWhy.TheVariants.{DiskFault, Damaged, NoMemory}
@@ -16,12 +16,15 @@ pub record Begins (old new : Medium) (k : Keeper) (found : Found) : Type 0 where
   pub holds : Holds old.reads found
   pub kept : k.records ≡ Some found.records
   pub same : IsBlank old.reads ⊎ (new.reads ≡ old.reads)
-  pub rests : RestsSince old new (λ image. HasRecords image found.records)
+  pub rests : RestsSince old new (AsStarted old.reads found.records)
 
+-- The journal has begun. What is counted of the records is so whether the disk tells or not.
 pub record Started (old new : Medium) (k : Keeper) (found : Found) : Type 0 where
   pub goes : Goes old new
   pub running : k.stopped ≡ false
   pub at_rest : IsAtRest k
+  pub counted : k.used ≡ used_by found.records
+  pub fit : AreFit found
   pub told : IsTrue old.tells → Begins old new k found
 
 -- what is told of a start that failed, by its cause
@@ -33,4 +36,5 @@ Fails old NoMemory new = NeverRests old new ⊎ RestsSince old new (IsAsRead old
 pub record Refused (old : Medium) (why : StartWhy) (new : Medium) : Type 0 where
   pub goes : Goes old new
   pub failed : why ≡ DiskFault → Rises old.faults new.faults
+  pub fit : BeforeDamage AreFit why
   pub told : IsTrue old.tells → Fails old why new

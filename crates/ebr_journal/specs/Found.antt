@@ -1,8 +1,9 @@
 -- What is found in a file: its records, or where it is damaged.
-use Rattle.std.specs.Prelude.{◌≡◌, ◌≢◌, ◌⊎◌, ℕ, ◌+◌, ◌*◌, ◌^◌, ◌<◌, ◌≤◌, IsTrue, List, [], ◌∷◌, ◌++◌, length, take, drop, slice_index}
+use Rattle.std.specs.Prelude.{◌≡◌, ◌≢◌, ◌⊎◌, ℕ, ◌+◌, ◌*◌, ◌^◌, ◌<◌, ◌≤◌, IsTrue, All, List, [], ◌∷◌, ◌++◌, length, take, drop, slice_index}
 use Rattle.ebr_outside.specs.Disk.{Medium}
 use Rattle.ebr_record.specs.declared.record.Record.{Record}
 use Rattle.ebr_record.specs.Keeper.{max_journal, share, used_by}
+use Rattle.ebr_record.specs.Payload.{HasPayload}
 use Rattle.ebr_encoding.specs.Spelled.{HasForm, Spells}
 use Rattle.ebr_encoding.specs.declared.form.Form.{Form}
 use Rattle.ebr_encoding.specs.declared.form.Form.TheVariants.{Short, Long}
@@ -163,9 +164,12 @@ pub record IsLaidOut (w : Walked) (l : Layout) : Type 0 where
 -- how a walk counts
 pub record Counts (w : Walked) : Type 0 where
   pub some : 1 ≤ w.gate
+  pub early : w.gate ≤ 671088649
   pub room : w.gate + beside w.form ≤ w.used
   pub small : w.used ≤ w.gate + 8 + 4 * w.found.short
   pub few : 6 * w.found.short < w.gate
+  pub counted : w.used ≡ used_by w.found.records
+  pub payloads : All HasPayload w.found.records
 
 -- the gate that it has come to
 pub record HasCome (bytes : List ℕ) (w : Walked) : Type 0 where
@@ -180,6 +184,12 @@ pub record IsFound (bytes : List ℕ) (w : Walked) : Type 0 where
   pub place : w.gate ≡ length (front layout)
   pub laid : IsLaidOut w layout
 
+-- What is so of the records of a file, whether its disk tells what it holds or not: each has a payload, and their bytes are
+-- counted in few.
+pub record AreFit (found : Found) : Type 0 where
+  pub payloads : All HasPayload found.records
+  pub small : used_by found.records < 2147483648
+
 -- what is told of a file by what it is
 abbrev pub Are : List ℕ → Contents → Type 0
 Are bytes Blank = IsBlank bytes
@@ -190,7 +200,7 @@ Are bytes (Damaged at before) = IsDamaged bytes at before
 abbrev pub HasPlace : Contents → Type 0
 HasPlace Blank = Unit {0}
 HasPlace (Journal w) = Counts w × (w.gate ≤ last_gate w.form)
-HasPlace (Damaged at before) = Unit {0}
+HasPlace (Damaged at before) = AreFit before
 
 pub record ContentsAre (m : Medium) (c : Contents) : Type 0 where
   pub place : HasPlace c

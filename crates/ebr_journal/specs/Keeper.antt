@@ -116,6 +116,10 @@ pub record Keeps (old new : Keeper) (answer : Result (Unit {0}) JournalFault) : 
   pub moment : old.moment ≤ new.moment
   pub tells : new.tells ≡ old.tells
 
+-- the image has these records, where they are told
+abbrev pub HasThese : Option (List Record) → List ℕ → Type 0
+HasThese records image = IfSome records (λ kept. HasRecords image kept)
+
 -- at each moment of an upgrade a stop leaves just the kept list
 abbrev pub AreThese : Option (List Record) → List Record → Type 0
 AreThese records l = IfSome records (λ kept. l ≡ kept)

@@ -5,7 +5,8 @@ use Rattle.ebr_outside.specs.declared.disk.DiskErr.TheVariants as disk
 use Rattle.ebr_outside.specs.Disk.{Medium, LeavesNow, Passes}
 use Rattle.ebr_journal.specs.Journal.{Layout, none_yet, IsBlank, HasRecords}
 use Rattle.ebr_journal.specs.Keeper.{IsSettled, last_gate}
-use Rattle.ebr_journal.specs.Found.{Counts, Holds, IsDamaged, IsLaidOut}
+use Rattle.ebr_journal.specs.Found.{AreFit, Counts, Holds, IsDamaged, IsLaidOut}
+use Rattle.ebr_record.specs.declared.record.Record.{Record}
 use Rattle.ebr_journal.specs.declared.found.Found.{Found}
 use Rattle.ebr_journal.specs.declared.read.Walked.{Walked}
 use Rattle.ebr_journal.specs.declared.start.StartWhy.{StartWhy}
@@ -46,6 +47,10 @@ pub record Makes (old : Medium) (answer : Result (Unit {0}) DiskErr) (new : Medi
 abbrev pub IsAsRead : List ℕ → List ℕ → Type 0
 IsAsRead bytes image = (image ≡ bytes) ⊎ (IsBlank bytes × HasRecords image [])
 
+-- what a crash leaves once one that succeeded had: these records, in the file as it was read, unless that was blank
+abbrev pub AsStarted : List ℕ → List Record → List ℕ → Type 0
+AsStarted bytes records image = HasRecords image records × (IsBlank bytes ⊎ (image ≡ bytes))
+
 -- The first sync ended at a moment. Whatever a crash left before it was left at the entry; whatever it leaves from there on is P.
 pub record RestsSince (old new : Medium) (P : List ℕ → Type 0) : Type 0 where
   pub synced : ℕ
@@ -73,15 +78,20 @@ pub record IsLeft (old new : Medium) (at : ℕ) (before : Found) : Type 0 where
 
 -- what was found, where a disk tells what it holds
 abbrev pub Finds : Medium → Result Walked StartWhy → Medium → Type 0
-Finds old (Ok w) new = IsOpened old new w × RestsSince old new (λ image. HasRecords image w.found.records)
+Finds old (Ok w) new = IsOpened old new w × RestsSince old new (AsStarted old.reads w.found.records)
 Finds old (Err (Damaged at before)) new = IsLeft old new at before × RestsSince old new (λ image. image ≡ old.reads)
 Finds old (Err DiskFault) new = NeverRests old new ⊎ RestsSince old new (IsAsRead old.reads)
 Finds old (Err NoMemory) new = NeverRests old new ⊎ RestsSince old new (IsAsRead old.reads)
 
+-- what is so of the records in front of a damage
+abbrev pub BeforeDamage : (Found → Type 0) → StartWhy → Type 0
+BeforeDamage P (Damaged at before) = P before
+BeforeDamage P why = Unit {0}
+
 -- the gate lies within a journal
 abbrev pub HasGate : Result Walked StartWhy → Type 0
 HasGate (Ok w) = Counts w × (w.gate ≤ last_gate w.form)
-HasGate (Err why) = Unit {0}
+HasGate (Err why) = BeforeDamage AreFit why
 
 pub record Opened (old : Medium) (answer : Result Walked StartWhy) (new : Medium) : Type 0 where
   pub gate : HasGate answer

@@ -1,11 +1,12 @@
 //! The journal of a disk.
 
 ghost use Rattle.std.specs.Prelude.{◌≡◌, ◌↔◌, false, IsTrue, IfOk, IfErr, OnOk};
+ghost use Rattle.ebr_outside.specs.Disk.{Passes};
 ghost use Rattle.ebr_record.specs.Keeper.{IsAtRest};
 ghost use Rattle.ebr_record.specs.Payload.{HasPayload};
 ghost use Rattle.ebr_encoding.specs.declared.form.Form.TheVariants.{Long, Short};
 ghost use Rattle.ebr_encoding.specs.Spelled.{HasForm};
-ghost use Rattle.ebr_journal.specs.Keeper.{Appends, Upgrades, as_keeper};
+ghost use Rattle.ebr_journal.specs.Keeper.{Appends, HasThese, Upgrades, as_keeper};
 ghost use Rattle.ebr_journal.specs.Begun.{Refused, Started};
 
 use crate::found::{Found, MAX_JOURNAL, head};
@@ -111,11 +112,12 @@ impl<D: Disk> Journal<D> {
     }
 
     /// Writes the mark by the same four calls, where it isn't there: from then on records are kept in the long form. The records
-    /// stay as they are, at each moment.
+    /// stay as they are, at each moment: each image that a crash leaves has them.
     ///
     /// It never answers `Full`, and its other faults are those of `append`, which stop this and each later call of either.
     pub fn upgrade(&mut self) -> Result<(), JournalFault>
         ensures upgrades { Upgrades (as_keeper D.as_medium self.old) (as_keeper D.as_medium self.new) result }
+        ensures images { IsTrue (D.as_medium self.old.disk).tells → Passes (D.as_medium self.old.disk) (D.as_medium self.new.disk) (HasThese (as_keeper D.as_medium self.old).records) }
         ensures marked { OnOk result (self.new.form ≡ Long) }
         ensures there { self.old.form ≡ Long → self.new ≡ self.old }
     {
@@ -133,6 +135,7 @@ impl<D: Disk> Journal<D> {
         requires running { self.old.stopped ≡ false }
         requires unmarked { self.old.form ≡ Short }
         ensures upgrades { Upgrades (as_keeper D.as_medium self.old) (as_keeper D.as_medium self.new) result }
+        ensures images { IsTrue (D.as_medium self.old.disk).tells → Passes (D.as_medium self.old.disk) (D.as_medium self.new.disk) (HasThese (as_keeper D.as_medium self.old).records) }
         ensures marked { OnOk result (self.new.form ≡ Long) }
     {
         self.stopped = true;

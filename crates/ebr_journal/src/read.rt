@@ -103,6 +103,7 @@ impl Walked {
 }
 
 /// Reads what a file is.
+#[tactic(auto, using(crate::proofs::Reading::begun_fit))]
 pub fn found<D: Disk>(alloc: Global, disk: &mut D) -> Result<Contents, DiskErr>
     ensures stands { Stands (D.as_medium disk.old) (D.as_medium disk.new) }
     ensures failed { IsErrOf result DiskErr.Failed → Rises (D.as_medium disk.old).faults (D.as_medium disk.new).faults }
@@ -124,6 +125,7 @@ pub fn found<D: Disk>(alloc: Global, disk: &mut D) -> Result<Contents, DiskErr>
 }
 
 /// Reads the records from place 1 on, from gate to gate.
+#[tactic(auto, using(crate::proofs::Reading::fit_of))]
 fn walk<D: Disk>(
     alloc: Global,
     disk: &mut D,
@@ -150,6 +152,7 @@ fn walk<D: Disk>(
 }
 
 /// A file whose records end at a closed gate. That gate may lie too late for the mark, or the file may be too long.
+#[tactic(auto, using(crate::proofs::Reading::fit_of))]
 fn whole(walked: Walked, len: u64) -> Contents
     requires counts { Counts walked }
     requires early { walked.gate < max_journal }

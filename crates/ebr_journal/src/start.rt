@@ -1,9 +1,10 @@
 //! How a journal begins.
 
-ghost use Rattle.std.specs.Prelude.{◌≡◌, IsTrue, IsErrOf};
+ghost use Rattle.std.specs.Prelude.{◌≡◌, IfErr, IfOk, IsTrue, IsErrOf};
 ghost use Rattle.ebr_faults.specs.Faults.{Rises};
 ghost use Rattle.ebr_outside.specs.Disk.{Goes, Stands};
-ghost use Rattle.ebr_journal.specs.Start.{IsFresh, Makes, Opened, Scans};
+ghost use Rattle.ebr_journal.specs.Found.{AreFit};
+ghost use Rattle.ebr_journal.specs.Start.{BeforeDamage, IsFresh, Makes, Opened, Scans};
 
 use crate::found::Found;
 use crate::read::{Contents, Walked, found};
@@ -37,10 +38,13 @@ impl From<DiskErr> for StartWhy {
 /// Reads the records of a file, and writes nothing.
 ///
 /// `Damaged` comes exactly where the file is damaged, and `DiskFault` only where the disk counted a fault in this call.
+#[tactic(auto, using(crate::proofs::Reading::fit_of, crate::proofs::Reading::begun_fit))]
 pub fn scan<D: Disk>(alloc: Global, disk: &mut D) -> Result<Found, StartWhy>
     ensures stands { Stands (D.as_medium disk.old) (D.as_medium disk.new) }
     ensures failed { IsErrOf result StartWhy.DiskFault → Rises (D.as_medium disk.old).faults (D.as_medium disk.new).faults }
     ensures scans { IsTrue (D.as_medium disk.old).tells → Scans (D.as_medium disk.old).reads result }
+    ensures fit { IfOk result AreFit }
+    ensures damaged { IfErr result (BeforeDamage AreFit) }
 {
     match found(alloc, disk)? {
         Contents::Blank => Ok(Walked::begin(alloc).found),

@@ -3,7 +3,7 @@ use Rattle.std.specs.Prelude.{ℕ, Bool, true, false, not, ◌&&◌, if◌then�
 use Rattle.std.specs.List.{list_all, list_any}
 use Rattle.std.specs.Str.{bytes_eq}
 use Rattle.ebr_words.specs.declared.words.Command.{Command}
-use Rattle.ebr_words.specs.declared.words.Command.TheVariants.{Try, Rehearse}
+use Rattle.ebr_words.specs.declared.words.Command.TheVariants.{Try, Rehearse, Dump}
 
 abbrev pub is_empty : List ℕ → Bool
 is_empty [] = true
@@ -39,4 +39,5 @@ abbrev pub command_of : List (List ℕ) → Option Command
 command_of [] = None
 command_of (w ∷ names) =
     if bytes_eq w (codes "try") && is_one_name names then Some Try
-    else (if bytes_eq w (codes "rehearse") && is_rehearsal names then Some Rehearse else None)
+    else (if bytes_eq w (codes "dump") && is_one_name names then Some Dump
+    else (if bytes_eq w (codes "rehearse") && is_rehearsal names then Some Rehearse else None))

@@ -14,8 +14,10 @@ const MAX_SCRIPTS: usize = 32;
 pub enum Command {
     /// `try S`: the script S as one session, whose replies go to the report.
     Try,
-    /// `rehearse J ORDER S..`: the scripts as sessions side by side, in the order that ORDER writes.
+    /// `rehearse J ORDER S..`: the scripts as sessions side by side over the journal J, in the order that ORDER writes.
     Rehearse,
+    /// `dump J`: a line for each record of the journal J.
+    Dump,
 }
 
 /// The command of the words, where they are one.
@@ -28,6 +30,9 @@ pub fn command_of(words: &[Bytes]) -> Option<Command>
     if command.as_slice() == b"try".as_slice() && is_one_name(names) {
         return Some(Command::Try);
     }
+    if command.as_slice() == b"dump".as_slice() && is_one_name(names) {
+        return Some(Command::Dump);
+    }
     if command.as_slice() == b"rehearse".as_slice() && is_rehearsal(names) {
         return Some(Command::Rehearse);
     }
@@ -39,7 +44,7 @@ fn is_one_name(names: &[Bytes]) -> bool
     ensures { result ≡ spec.is_one_name names.now }
 {
     match names {
-        [script] => !script.is_empty(),
+        [name] => !name.is_empty(),
         _ => false,
     }
 }

@@ -23,7 +23,7 @@ loop-walked-preserved-in-Mark g c =
     record {
       stands = stands_still m0 m1 (g.D.Disk.as_medium c.at_gate.new.disk) inv.stands c.at_gate.ensures.stands;
       shows = c.in_ok-at_gate.ensures.shows;
-      walks = walks_marked m0 c.args.len w c.pass_mark.new.self inv.walks c.pass_mark.ensures (subst (LiesWithin w.gate c.args.len w.form) c.in-Mark.is c.in_ok-at_gate.ensures.lies)
+      walks = walks_marked m0 c.args.len w c.pass_mark.new.self inv.walks c.loop-walked-test.true c.pass_mark.ensures (subst (LiesWithin w.gate c.args.len w.form) c.in-Mark.is c.in_ok-at_gate.ensures.lies)
           (λ told. subst (λ (b : List _). StandsAt b w.gate w.form Mark) inv.stands.reads (subst (StandsAt m1.reads w.gate w.form) c.in-Mark.is (c.in_ok-at_gate.ensures.gate (told_after m0 m1 inv.stands.goes told))));
     }
 
@@ -37,6 +37,6 @@ loop-walked-preserved g c =
     record {
       stands = stands_still m0 m1 (g.D.Disk.as_medium c.at_gate.new.disk) inv.stands c.at_gate.ensures.stands;
       shows = c.in_ok-at_gate.ensures.shows;
-      walks = walks_more m0 c.args.len w c.add.new.self inv.walks r c.in-Open.next c.in_ok-add-in-Open.ensures (subst (LiesWithin w.gate c.args.len w.form) c.in-Open.is c.in_ok-at_gate.ensures.lies)
+      walks = walks_more m0 c.args.len w c.add.new.self inv.walks r c.in-Open.next c.loop-walked-test.true c.in_ok-add-in-Open.ensures (subst (LiesWithin w.gate c.args.len w.form) c.in-Open.is c.in_ok-at_gate.ensures.lies)
           (λ told. subst (λ (b : List _). StandsAt b w.gate w.form (Open r c.in-Open.next)) inv.stands.reads (subst (StandsAt m1.reads w.gate w.form) c.in-Open.is (c.in_ok-at_gate.ensures.gate (told_after m0 m1 inv.stands.goes told))));
     }

@@ -49,7 +49,7 @@ returns-in-Damaged-clause-opened g c =
     let still = c.found.ensures.stands in
     let are = subst (ContentsAre m1) c.in-Damaged.is c.in_ok-found.ensures.contents in
     record {
-      gate = tt;
+      gate = are.place;
       finds = λ told.
           let w = subst (λ (f : List ℕ). Are f (Damaged c.in-Damaged.at c.in-Damaged.before)) (s.reads told) (are.told (told_after m0 m1 s.goes told)) in
           (record { damaged = w; same = same m0 told law _ m1 s m2 still }, rests_read m0 told law _ m1 s m2 still);
@@ -85,5 +85,5 @@ returns-in_ok-make-in-Blank-clause-opened g c =
       finds = λ told.
           let blank = subst (λ (f : List ℕ). Are f Blank) (s.reads told) (are.told (told_after m0 m1 s.goes told)) in
           let makes = c.in_ok-make-in-Blank.ensures.makes (told2 m0 told law _ m1 s m2 still) (is_fresh m0 told law _ m1 s m2 still blank) in
-          (opened_blank m0 m3 c.begin.result c.begin.ensures blank makes.made, begun_rests m0 m3 c.begin.result c.begin.ensures (rests_made m0 told law _ m1 s m2 still blank _ m3 makes));
+          (opened_blank m0 m3 c.begin.result c.begin.ensures blank makes.made, begun_rests m0 m3 c.begin.result c.begin.ensures blank (rests_made m0 told law _ m1 s m2 still blank _ m3 makes));
     }

@@ -1,8 +1,9 @@
-use Rattle.std.proofs.Common.{◌≡◌, ◌+◌, true, false, Ok, Err, refl, sym, ◌∙◌, ap, subst, rules}
+use Rattle.std.proofs.Common.{◌≡◌, ◌+◌, true, false, IsTrue, Ok, Err, refl, sym, ◌∙◌, ap, subst, rules}
 use Rattle.ebr_record.specs.declared.keep.JournalFault.TheVariants as fault
 use Rattle.ebr_encoding.specs.declared.form.Form.TheVariants.{Short}
-use Rattle.ebr_journal.specs.Keeper.{as_keeper, keeper_of, IsSound, Upgrades}
-use Rattle.ebr_journal.proofs.Upgrading.{is_marked, longer, broken, disk_failed, no_memory}
+use Rattle.ebr_outside.specs.Disk.{Passes}
+use Rattle.ebr_journal.specs.Keeper.{as_keeper, keeper_of, HasThese, IsSound, Upgrades}
+use Rattle.ebr_journal.proofs.Upgrading.{is_marked, longer, broken, disk_failed, failed_images, marked_images, no_memory}
 use Rattle.ebr_journal.proofs.journal.Journal.add_mark.Goals as goal
 
 pub invariant_of-self : goal.invariant_of-self
@@ -60,3 +61,33 @@ invariant_of-self-in-Err-NoMemory g c =
     let unmarked : i.form ≡ Short = ap (λ j. j.form) c.self.view_is ∙ c.requires.unmarked in
     subst (λ f. IsSound new i.gate i.used f true) (sym unmarked)
     (broken m i.gate i.used i.stopped (g.met.D.Disk.read_is_left i.disk) going (subst (λ f. IsSound m i.gate i.used f i.stopped) unmarked c.self.invariant) new c.in-Err-NoMemory.ensures.goes (g.met.D.Disk.read_is_left c.put.new.disk) _ c.in-Err-NoMemory.ensures.puts)
+
+pub returns-in-Ok-clause-images : goal.returns-in-Ok-clause-images
+returns-in-Ok-clause-images g c =
+    let i = c.self.inside in
+    let m = g.D.Disk.as_medium i.disk in
+    let new = g.D.Disk.as_medium c.put.new.disk in
+    let going : i.stopped ≡ false = ap (λ j. j.stopped) c.self.view_is ∙ c.requires.running in
+    let sound = subst (λ f. IsSound m i.gate i.used f i.stopped) (ap (λ j. j.form) c.self.view_is ∙ c.requires.unmarked) c.self.invariant in
+    subst (λ j. IsTrue (g.D.Disk.as_medium j.disk).tells → Passes (g.D.Disk.as_medium j.disk) new (HasThese (as_keeper g.D.Disk.as_medium j).records)) c.self.view_is
+    (marked_images m i.gate i.used i.stopped (g.met.D.Disk.read_is_left i.disk) going sound new c.in-Ok.ensures.goes (g.met.D.Disk.read_is_left c.put.new.disk) (i.gate + 7) refl c.in-Ok.ensures.puts)
+
+pub returns-in-Err-Failed-clause-images : goal.returns-in-Err-Failed-clause-images
+returns-in-Err-Failed-clause-images g c =
+    let i = c.self.inside in
+    let m = g.D.Disk.as_medium i.disk in
+    let new = g.D.Disk.as_medium c.put.new.disk in
+    let going : i.stopped ≡ false = ap (λ j. j.stopped) c.self.view_is ∙ c.requires.running in
+    let sound = subst (λ f. IsSound m i.gate i.used f i.stopped) (ap (λ j. j.form) c.self.view_is ∙ c.requires.unmarked) c.self.invariant in
+    subst (λ j. IsTrue (g.D.Disk.as_medium j.disk).tells → Passes (g.D.Disk.as_medium j.disk) new (HasThese (as_keeper g.D.Disk.as_medium j).records)) c.self.view_is
+    (failed_images m i.gate i.used i.stopped (g.met.D.Disk.read_is_left i.disk) going sound new c.in-Err-Failed.ensures.goes (g.met.D.Disk.read_is_left c.put.new.disk) _ c.in-Err-Failed.ensures.puts)
+
+pub returns-in-Err-NoMemory-clause-images : goal.returns-in-Err-NoMemory-clause-images
+returns-in-Err-NoMemory-clause-images g c =
+    let i = c.self.inside in
+    let m = g.D.Disk.as_medium i.disk in
+    let new = g.D.Disk.as_medium c.put.new.disk in
+    let going : i.stopped ≡ false = ap (λ j. j.stopped) c.self.view_is ∙ c.requires.running in
+    let sound = subst (λ f. IsSound m i.gate i.used f i.stopped) (ap (λ j. j.form) c.self.view_is ∙ c.requires.unmarked) c.self.invariant in
+    subst (λ j. IsTrue (g.D.Disk.as_medium j.disk).tells → Passes (g.D.Disk.as_medium j.disk) new (HasThese (as_keeper g.D.Disk.as_medium j).records)) c.self.view_is
+    (failed_images m i.gate i.used i.stopped (g.met.D.Disk.read_is_left i.disk) going sound new c.in-Err-NoMemory.ensures.goes (g.met.D.Disk.read_is_left c.put.new.disk) _ c.in-Err-NoMemory.ensures.puts)
