@@ -1,0 +1,6 @@
+mod Gates
+mod Walking
+mod Resting
+mod Opening
+mod Steps
+mod Reading

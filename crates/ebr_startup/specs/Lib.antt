@@ -1,0 +1,4 @@
+pub mod Damage
+pub mod Opened
+pub mod Read
+pub mod inside
