@@ -1,5 +1,5 @@
 -- The calls of the host, by the steps of the order of work.
-use Rattle.std.proofs.Common.{ℕ, zero, suc, ◌≡◌, ◌+◌, ◌-◌, ◌<◌, ◌≤◌, false, List, [], ◌∷◌, ◌++◌, length, Option, Some, None, arith, refl, sym, ◌∙◌, ap, subst, append_assoc, append-nil}
+use Rattle.std.proofs.Common.{ℕ, zero, suc, ◌≡◌, ◌+◌, ◌-◌, ◌<◌, ◌≤◌, true, false, List, [], ◌∷◌, ◌++◌, length, Option, Some, None, arith, refl, sym, ◌∙◌, ap, subst, append_assoc, append-nil}
 use Rattle.std.specs.Prelude.{map}
 use Rattle.std.proofs.lemmas.List.{map-append}
 use Rattle.ebr_outside.specs.HostCalls.{with_call}
@@ -7,8 +7,10 @@ use Rattle.ebr_outside.specs.declared.host_call.HostCall.{HostCall}
 use Rattle.ebr_words.specs.declared.words.Command.TheVariants.{Rehearse}
 use Rattle.ebr_server.specs.declared.exit.ExitCode.{ExitCode}
 use Rattle.ebr_server.specs.declared.exit.ExitCode.TheVariants as code
-use Rattle.ebr_server.specs.Program.{CallsInOrder, InOrder, LastFails, Step, call_of, fault_at, order_of_work, own_fault, sink_at, source_at, steps_from}
-use Rattle.ebr_server.specs.inside.Opened.{OrderStops, with_steps}
+use Rattle.ebr_server.specs.Program.{CallsInOrder, InOrder, LastFails, Step, before_disk, call_of, disk_at, fault_at, journal_place, order_of_work, own_fault, sink_at, source_at, steps_from}
+use Rattle.ebr_startup.specs.declared.why.OpenWhy.{OpenWhy}
+use Rattle.ebr_startup.specs.declared.why.OpenWhy.TheVariants as why
+use Rattle.ebr_server.specs.inside.Opened.{OrderStops, code_of_open, with_steps}
 
 abbrev Calls : Type 0
 Calls = Option (List HostCall)
@@ -46,6 +48,12 @@ none_called None new work fault same none = same
 none_called (Some calls) new work fault same none =
     let nothing : InOrder work None [] = record { done = []; left = work; work_is = refl; last = []; calls_are = refl; last_fails = refl } in
     ([], same ∙ ap Some (sym (append-nil calls)), subst (λ f. InOrder work f []) (sym none) nothing)
+
+-- the one step of a run failed
+pub one_failed : (o new : Calls) (s : Step) → new ≡ with_call o (call_of true s) → CallsInOrder o new (s ∷ []) (Some s.place)
+one_failed None new s called = called
+one_failed (Some calls) new s called =
+    (call_of true s ∷ [], called, record { done = []; left = s ∷ []; work_is = refl; last = call_of true s ∷ []; calls_are = refl; last_fails = (refl, refl) })
 
 -- more steps are left
 fails_more : (fault : Option ℕ) (left rest : List Step) (calls : List HostCall) → LastFails fault left calls → LastFails fault (left ++ rest) calls
@@ -90,7 +98,9 @@ pub order_faultless : (n : ℕ) (order : List ℕ) (c : ExitCode) → OrderStops
 order_faultless n order code.Done stops = absurd stops
 order_faultless n order code.Usage stops = absurd stops
 order_faultless n order (code.HostFault w) stops = absurd stops
+order_faultless n order code.DiskFault stops = absurd stops
 order_faultless n order code.SinkFault stops = absurd stops
+order_faultless n order (code.Damaged at) stops = absurd stops
 order_faultless n order code.NoMemory stops = refl
 order_faultless n order (code.BadOrder at) stops = refl
 order_faultless n order (code.TooLong w) stops = absurd stops
@@ -138,8 +148,9 @@ module _ (words : List (List ℕ)) (old : Calls) where
   abbrev sinks : List Step
   sinks = steps_from (sink_at words) 3 n
 
+  -- what is done before the disk is opened
   abbrev work : List Step
-  work = order_of_work (Some Rehearse) words
+  work = before_disk words
 
   pub order_called : (new : Calls) (fault : Option ℕ) → CallsInOrder old new (source_at words 2 ∷ []) fault → CallsInOrder old new work fault
   order_called new fault called = called_first old new (source_at words 2 ∷ []) (scripts ++ sinks) work fault called refl
@@ -156,3 +167,27 @@ module _ (words : List (List ℕ)) (old : Calls) where
   pub all_opened : (mid last new : Calls) → mid ≡ with_steps old (source_at words 2 ∷ []) → last ≡ with_steps mid scripts → new ≡ with_steps last sinks → new ≡ with_steps old work
   all_opened mid last new first second third =
       with_more old last new (source_at words 2 ∷ scripts) sinks (with_more old mid last (source_at words 2 ∷ []) scripts first second) third
+
+  -- ---- and then the disk
+
+  abbrev disk : List Step
+  disk = disk_at words journal_place ∷ []
+
+  pub before_called : (new : Calls) (fault : Option ℕ) → CallsInOrder old new work fault → CallsInOrder old new (order_of_work (Some Rehearse) words) fault
+  before_called new fault called = called_first old new work disk (order_of_work (Some Rehearse) words) fault called refl
+
+  pub disk_called : (mid new : Calls) (fault : Option ℕ) → mid ≡ with_steps old work → CallsInOrder mid new disk fault → CallsInOrder old new (order_of_work (Some Rehearse) words) fault
+  disk_called mid new fault first called =
+      called_behind old mid new work disk [] (order_of_work (Some Rehearse) words) fault first called (ap (λ xs. work ++ xs) (sym (append-nil disk)))
+
+  pub disk_opened : (mid new : Calls) → mid ≡ with_steps old work → new ≡ with_steps mid disk → new ≡ with_steps old (order_of_work (Some Rehearse) words)
+  disk_opened mid new first second = with_more old mid new work disk first second
+
+-- why no engine is opened is no fault of the host
+pub open_faultless : (cause : OpenWhy) (c : ExitCode) → c ≡ code_of_open cause → fault_at c ≡ None
+open_faultless cause c is = ap fault_at is ∙ by cause
+  where
+    by : (w : OpenWhy) → fault_at (code_of_open w) ≡ None
+    by why.DiskFault = refl
+    by (why.Damaged at) = refl
+    by why.NoMemory = refl

@@ -1,8 +1,12 @@
 -- Scripts and sinks in the order of their words.
-use Rattle.std.proofs.Common.{ℕ, zero, suc, ◌≡◌, ◌+◌, ◌-◌, ◌<◌, ◌≤◌, ◌⊎◌, inl, inr, List, [], ◌∷◌, ◌++◌, length, Option, Some, None, arith, refl, sym, ◌∙◌, ap, subst, length-append, get_or}
+use Rattle.std.proofs.Common.{ℕ, zero, suc, ◌≡◌, ◌+◌, ◌-◌, ◌<◌, ◌≤◌, ◌⊎◌, inl, inr, Bool, true, false, ◌&&◌, nat_le, if◌then◌else◌, codes, drop, length-drop, List, [], ◌∷◌, ◌++◌, length, Option, Some, None, arith, refl, sym, ◌∙◌, ap, subst, length-append, get_or}
 use Rattle.std.specs.Prelude.{All, IfSome, slice_get}
 use Rattle.std.proofs.lemmas.Option.{slice_get-get_or}
 use Rattle.std.proofs.lemmas.List.Elements.{All-nil, All-push}
+use Rattle.std.specs.Str.{bytes_eq}
+use Rattle.std.proofs.lemmas.Bool.{and_parts, leb-true}
+use Rattle.ebr_words.specs.Words.{command_of, is_one_name, is_rehearsal}
+use Rattle.ebr_words.specs.declared.words.Command.TheVariants.{Dump, Rehearse, Try}
 use Rattle.ebr_faults.specs.Faults.{Rises}
 use Rattle.ebr_worker.specs.Runs.{IsUnwritten}
 use Rattle.ebr_server.specs.declared.exit.ExitCode.{ExitCode}
@@ -85,7 +89,9 @@ fails_here bytes words at P old mid new (code.TooLong w) from within short grown
 fails_here bytes words at P old mid new code.NoMemory from within short grown fails = tt
 fails_here bytes words at P old mid new code.Done from within short grown fails = absurd fails
 fails_here bytes words at P old mid new code.Usage from within short grown fails = absurd fails
+fails_here bytes words at P old mid new code.DiskFault from within short grown fails = absurd fails
 fails_here bytes words at P old mid new code.SinkFault from within short grown fails = absurd fails
+fails_here bytes words at P old mid new (code.Damaged p) from within short grown fails = absurd fails
 fails_here bytes words at P old mid new (code.BadOrder p) from within short grown fails = absurd fails
 
 pub fails_on : (bytes mid_bytes : Told) (words : List (List ℕ)) (at : ℕ) (scripts : List (List ℕ)) (P : Type 0) (old mid new : ℕ) (c : ExitCode) → ((w : List ℕ) → mid_bytes w ≡ bytes w) → AreScripts bytes words 3 at scripts
@@ -111,5 +117,26 @@ makes_since words old mid new code.NoMemory grown fails = tt
 makes_since words old mid new (code.TooLong w) grown fails = absurd fails
 makes_since words old mid new code.Done grown fails = absurd fails
 makes_since words old mid new code.Usage grown fails = absurd fails
+makes_since words old mid new code.DiskFault grown fails = absurd fails
 makes_since words old mid new code.SinkFault grown fails = absurd fails
+makes_since words old mid new (code.Damaged p) grown fails = absurd fails
 makes_since words old mid new (code.BadOrder p) grown fails = absurd fails
+
+-- ---- the words of a rehearsal
+
+pub rehearse_long : (words : List (List ℕ)) → command_of words ≡ Some Rehearse → 3 ≤ length words
+rehearse_long [] is = absurd cc
+rehearse_long (w ∷ names) is =
+    by (bytes_eq w (codes "try") && is_one_name names) (bytes_eq w (codes "dump") && is_one_name names) (bytes_eq w (codes "rehearse") && is_rehearsal names) refl is
+  where
+    long : is_rehearsal names ≡ true → 3 ≤ length (w ∷ names)
+    long is =
+        let count = (and_parts (nat_le 1 (length (drop 2 names)) && nat_le (length (drop 2 names)) 32) _ is).0 in
+        let some : 1 ≤ length (drop 2 names) = leb-true 1 (length (drop 2 names)) (and_parts (nat_le 1 (length (drop 2 names))) (nat_le (length (drop 2 names)) 32) count).0 in
+        omega (arith, some, length-drop 2 names)
+
+    by : (a b c : Bool) → (bytes_eq w (codes "rehearse") && is_rehearsal names) ≡ c → (if a then Some Try else (if b then Some Dump else (if c then Some Rehearse else None))) ≡ Some Rehearse → 3 ≤ length (w ∷ names)
+    by true b c e is = absurd cc
+    by false true c e is = absurd cc
+    by false false true e is = long (and_parts (bytes_eq w (codes "rehearse")) (is_rehearsal names) e).1
+    by false false false e is = absurd cc

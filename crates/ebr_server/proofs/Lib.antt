@@ -1,8 +1,12 @@
 mod Calls
 mod Causes
+mod Dumping
 mod InTurns
+mod Rehearsing
 mod InWords
 mod Opening
 mod ReadBytes
 mod Replies
 mod Serving
+mod Staying
+mod Surviving

@@ -1,5 +1,5 @@
 -- What was read of what a word names.
-use Rattle.std.proofs.Common.{ℕ, ◌≡◌, ◌<◌, ◌≤◌, List, [], length, take, get_or, false, ◌∷◌, Option, Some, None, min, arith, refl, sym, ◌∙◌, ap, subst}
+use Rattle.std.proofs.Common.{ℕ, ◌≡◌, ◌<◌, ◌≤◌, List, [], length, take, get_or, false, ◌∷◌, Option, Some, None, min, true, arith, refl, sym, ◌∙◌, ap, subst}
 use Rattle.std.specs.Prelude.{IfSome, unwrap_or}
 use Rattle.std.proofs.lemmas.List.{take_all, length-take}
 use Rattle.std.proofs.lemmas.Option.{slice_get-get_or}
@@ -8,9 +8,11 @@ use Rattle.ebr_outside.specs.declared.host_call.HostCall.{HostCall}
 use Rattle.ebr_outside.specs.declared.host_call.HostMethod.TheVariants as method
 use Rattle.ebr_server.specs.declared.exit.ExitCode.{ExitCode}
 use Rattle.ebr_server.specs.declared.exit.ExitCode.TheVariants as code
-use Rattle.ebr_server.specs.Program.{IsLong, source_at, told_at, word_at}
+use Rattle.ebr_outside.specs.Disk.{HoldsJust, Medium}
+use Rattle.ebr_server.specs.Disks.{IsEntry}
+use Rattle.ebr_server.specs.Program.{CallsInOrder, IsLong, disk_at, source_at, told_at, word_at}
 use Rattle.ebr_server.specs.inside.Opened.{Fails, WasRead, with_steps}
-use Rattle.ebr_server.proofs.Calls.{one_step}
+use Rattle.ebr_server.proofs.Calls.{one_failed, one_step}
 
 abbrev pub word_is : (words : List (List ℕ)) (at : ℕ) (w d : List ℕ) → at < length words → w ≡ get_or words at d → word_at words at ≡ w
 word_is words at w d within is = ap (λ o. unwrap_or o []) (slice_get-get_or words at d within) ∙ sym is
@@ -54,3 +56,22 @@ module _ (bytes : List ℕ → Option (List ℕ)) (words : List (List ℕ)) (at 
   too_long fails c long is_code =
       let there : (at ≡ at) × IsLong bytes words at = (refl, read_long (told_at bytes words at) text 1048577 1048576 read_here long) in
       subst (Fails bytes words at fails) (sym is_code) there
+
+-- ---- a disk
+
+-- what the host tells of it
+pub entry_so : {D : Type 0} (as_medium : D → Medium) (disks : List ℕ → Option (List ℕ)) (words : List (List ℕ)) (at : ℕ) (w d : List ℕ) (disk : D) → at < length words → w ≡ get_or words at d → IfSome (disks w) (HoldsJust (as_medium disk)) → (as_medium disk).faults ≡ 0
+    → IsEntry as_medium (disks (word_at words at)) disk
+entry_so as_medium disks words at w d disk within is holds fresh = record {
+  holds = subst (λ v. IfSome (disks v) (HoldsJust (as_medium disk))) (sym (word_is words at w d within is)) holds;
+  fresh = fresh;
+}
+
+-- the one step of opening it, which came through, or failed
+pub disk_so : (words : List (List ℕ)) (at : ℕ) (w d : List ℕ) (o new : Option (List HostCall)) → at < length words → w ≡ get_or words at d → new ≡ with_call o (record { method = method.Disk; word = w; failed = false }) → new ≡ with_steps o (disk_at words at ∷ [])
+disk_so words at w d o new within is called =
+    called ∙ ap (λ v. with_call o (record { method = method.Disk; word = v; failed = false })) (sym (word_is words at w d within is)) ∙ one_step o (disk_at words at)
+
+pub disk_not : (words : List (List ℕ)) (at : ℕ) (w d : List ℕ) (o new : Option (List HostCall)) → at < length words → w ≡ get_or words at d → new ≡ with_call o (record { method = method.Disk; word = w; failed = true }) → CallsInOrder o new (disk_at words at ∷ []) (Some at)
+disk_not words at w d o new within is called =
+    one_failed o new (disk_at words at) (called ∙ ap (λ v. with_call o (record { method = method.Disk; word = v; failed = true })) (sym (word_is words at w d within is)))

@@ -1,7 +1,8 @@
 -- The program: what it reads, what it writes last, and what it serves (own).
-use Rattle.std.specs.Prelude.{ℕ, zero, suc, ◌≡◌, ◌+◌, ◌-◌, ◌<◌, ◌≤◌, Bool, true, false, ◌||◌, if◌then◌else◌, List, [], ◌∷◌, ◌++◌, length, map, take, All, codes, Option, Some, None, IfSome, IsSomeAnd, slice_get, unwrap_or, ◌⊎◌}
+use Rattle.std.specs.Prelude.{ℕ, zero, suc, ◌≡◌, ◌==◌, ◌+◌, ◌-◌, ◌<◌, ◌≤◌, Bool, true, false, ◌||◌, if◌then◌else◌, List, [], ◌∷◌, ◌++◌, length, map, take, All, codes, Option, Some, None, IfSome, IsSomeAnd, slice_get, unwrap_or, ◌⊎◌}
 use Rattle.std.specs.List.{list_any}
 use Rattle.std.specs.Fmt.{decimal}
+use Rattle.ebr_outside.specs.Disk.{Medium}
 use Rattle.ebr_outside.specs.declared.host_call.HostCall.{HostCall}
 use Rattle.ebr_outside.specs.declared.host_call.HostMethod.{HostMethod}
 use Rattle.ebr_outside.specs.declared.host_call.HostMethod.TheVariants as method
@@ -15,12 +16,19 @@ use Rattle.ebr_report.specs.declared.ends.SessionEnd.{SessionEnd}
 use Rattle.ebr_report.specs.Lines.{line_of}
 use Rattle.ebr_report.specs.Summary.{Summary}
 use Rattle.ebr_asks.specs.declared.entry.Entry.{Entry}
+use Rattle.ebr_record.specs.declared.record.Record.{Record}
+use Rattle.ebr_core.specs.History.{Legal}
+use Rattle.ebr_core.specs.Machine.{Build}
+use Rattle.ebr_dump.specs.Dump.{Dump}
+use Rattle.ebr_startup.specs.Damage.{IsDamagedAt}
+use Rattle.ebr_startup.specs.declared.why.OpenWhy.{OpenWhy}
 use Rattle.ebr_worker.specs.Ends.{CameTo}
-use Rattle.ebr_worker.specs.Matches.{has_stop}
+use Rattle.ebr_worker.specs.Matches.{has_fault, has_stop}
 use Rattle.ebr_worker.specs.Paced.{Paced}
-use Rattle.ebr_worker.specs.Runs.{AreEnds, IsHistory, nth_session}
+use Rattle.ebr_worker.specs.Runs.{AreEnds, nth_session}
 use Rattle.ebr_server.specs.declared.exit.ExitCode.{ExitCode}
 use Rattle.ebr_server.specs.declared.exit.ExitCode.TheVariants as code
+use Rattle.ebr_server.specs.Disks.{DiskStops, Leaves, RanOver, WasReadOff}
 
 -- the word at a place
 abbrev pub word_at : List (List ℕ) → ℕ → List ℕ
@@ -36,16 +44,35 @@ most = 1048576
 abbrev pub order_place : ℕ
 order_place = 2
 
+-- the place of a journal's word
+abbrev pub journal_place : ℕ
+journal_place = 1
+
 -- how many sessions there are, each with a script of its own
 abbrev pub sessions_of : Command → List (List ℕ) → ℕ
 sessions_of command.Try words = 1
+sessions_of command.Dump words = 0
 sessions_of command.Rehearse words = length words - 3
 
--- The command opens the word at a place: `try` its script's, `rehearse` its order's and each script's.
+-- The command reads the word at a place: `try` its script's, `rehearse` its order's and each script's.
+abbrev pub Reads : Option Command → List (List ℕ) → ℕ → Type 0
+Reads None words at = ⊥
+Reads (Some command.Try) words at = at ≡ 1
+Reads (Some command.Dump) words at = ⊥
+Reads (Some command.Rehearse) words at = (order_place ≤ at) × (at < length words)
+
+-- The command opens the word at a place: it reads it, or opens its disk.
 abbrev pub Opens : Option Command → List (List ℕ) → ℕ → Type 0
 Opens None words at = ⊥
 Opens (Some command.Try) words at = at ≡ 1
-Opens (Some command.Rehearse) words at = (order_place ≤ at) × (at < length words)
+Opens (Some command.Dump) words at = at ≡ journal_place
+Opens (Some command.Rehearse) words at = (journal_place ≤ at) × (at < length words)
+
+-- When a word's turn comes: the words in their order, but a journal behind all others.
+abbrev pub turn_of : Command → List (List ℕ) → ℕ → ℕ
+turn_of command.Try words at = at
+turn_of command.Dump words at = at
+turn_of command.Rehearse words at = if at == journal_place then length words else at
 
 -- the bytes behind the word at a place, where the host tells them
 abbrev pub told_at : (List ℕ → Option (List ℕ)) → List (List ℕ) → ℕ → Option (List ℕ)
@@ -65,14 +92,19 @@ IsShort bytes words at = IfSome (told_at bytes words at) (λ told. length told �
 abbrev pub OrderWrong : (List ℕ → Option (List ℕ)) → List (List ℕ) → Option ℕ → Type 0
 OrderWrong bytes words place = IfSome (told_at bytes words order_place) (λ told. wrong_at (sessions_of command.Rehearse words) told ≡ place)
 
--- All that `rehearse` reads before the word at a place is right; `try` reads one word alone.
+-- All that `rehearse` reads before a turn is right; `try` reads one word alone, and `dump` none.
 pub record OrderBefore (bytes : List ℕ → Option (List ℕ)) (words : List (List ℕ)) (at : ℕ) : Type 0 where
   pub short : (v : ℕ) → order_place ≤ v → v < at → IsShort bytes words v
   pub order : order_place < at → OrderWrong bytes words None
 
 abbrev pub RightBefore : Command → (List ℕ → Option (List ℕ)) → List (List ℕ) → ℕ → Type 0
 RightBefore command.Try bytes words at = Unit {0}
+RightBefore command.Dump bytes words at = Unit {0}
 RightBefore command.Rehearse bytes words at = OrderBefore bytes words at
+
+-- all that a command reads is right
+abbrev pub AllRead : Command → (List ℕ → Option (List ℕ)) → List (List ℕ) → Type 0
+AllRead c bytes words = RightBefore c bytes words (length words)
 
 -- ---- the order of work
 
@@ -90,17 +122,25 @@ source_at words at = record { method = method.Source; word = word_at words at; p
 abbrev pub sink_at : List (List ℕ) → ℕ → Step
 sink_at words at = record { method = method.Sink; word = out_word (word_at words at); place = at }
 
+-- the disk of the word at a place
+abbrev pub disk_at : List (List ℕ) → ℕ → Step
+disk_at words at = record { method = method.Disk; word = word_at words at; place = at }
+
 -- a step at each of so many places, from one on
 abbrev pub steps_from : (ℕ → Step) → ℕ → ℕ → List Step
 steps_from step at zero = []
 steps_from step at (suc n) = step at ∷ steps_from step (at + 1) n
 
--- What a command opens, in this order: `try` its script; `rehearse` its order, the scripts, and then a sink for each script.
+-- What a command opens, in this order: `try` its script; `rehearse` its order, the scripts, then a sink for each script, and then the
+-- journal's disk; `dump` that alone.
+abbrev pub before_disk : List (List ℕ) → List Step
+before_disk words = source_at words order_place ∷ (steps_from (source_at words) 3 (length words - 3) ++ steps_from (sink_at words) 3 (length words - 3))
+
 abbrev pub order_of_work : Option Command → List (List ℕ) → List Step
 order_of_work None words = []
 order_of_work (Some command.Try) words = source_at words 1 ∷ []
-order_of_work (Some command.Rehearse) words =
-    source_at words order_place ∷ (steps_from (source_at words) 3 (length words - 3) ++ steps_from (sink_at words) 3 (length words - 3))
+order_of_work (Some command.Dump) words = disk_at words journal_place ∷ []
+order_of_work (Some command.Rehearse) words = before_disk words ++ disk_at words journal_place ∷ []
 
 -- the call of a step
 abbrev pub call_of : Bool → Step → HostCall
@@ -143,7 +183,9 @@ abbrev pub last_line : ExitCode → List (List ℕ) → List ℕ
 last_line code.Done words = []
 last_line code.Usage words = line_of (codes "usage")
 last_line (code.HostFault at) words = line_of (codes "host fault: " ++ word_at words at)
+last_line code.DiskFault words = line_of (codes "disk fault")
 last_line code.SinkFault words = line_of (codes "sink fault")
+last_line (code.Damaged at) words = line_of (codes "damaged at " ++ decimal at)
 last_line code.NoMemory words = line_of (codes "out of memory")
 last_line (code.BadOrder at) words = line_of (codes "bad order at " ++ decimal at)
 last_line (code.TooLong at) words = line_of (codes "too long: " ++ word_at words at)
@@ -164,25 +206,59 @@ pub record BrokenOff (held text : List ℕ) : Type 0 where
   pub count : ℕ
   pub part : held ≡ take count text
 
+-- ---- what a run is given, and what it hands back
+
+-- What the host tells of words: the bytes behind them, and those of their disks; and what is told of the sinks and the disks that it makes.
+pub record Outside (S D : Type 0) : Type 1 where
+  pub bytes : List ℕ → Option (List ℕ)
+  pub disks : List ℕ → Option (List ℕ)
+  pub sink_held : S → Option (List ℕ)
+  pub sink_faults : S → ℕ
+  pub as_medium : D → Medium
+
+abbrev pub outside : {S D : Type 0} → (List ℕ → Option (List ℕ)) → (List ℕ → Option (List ℕ)) → (S → Option (List ℕ)) → (S → ℕ) → (D → Medium) → Outside S D
+outside bytes disks sink_held sink_faults as_medium = record { bytes = bytes; disks = disks; sink_held = sink_held; sink_faults = sink_faults; as_medium = as_medium }
+
+-- What is handed back: the code; the records with which the history began, the history, and what the sessions came to; the disk; how many writes of the report
+-- have failed, and what it holds, where it tells.
+pub record Handed (S D : Type 0) : Type 0 where
+  pub code : ExitCode
+  pub recovered : List Record
+  pub history : List Entry
+  pub ends : List (SessionEnd S)
+  pub disk : Option D
+  pub faults : ℕ
+  pub held : Option (List ℕ)
+
+-- the bytes of the journal's disk, where they are told
+abbrev pub journal_bytes : {S D : Type 0} → Outside S D → List (List ℕ) → Option (List ℕ)
+journal_bytes o words = o.disks (word_at words journal_place)
+
 -- ---- runs whose sessions have not begun
 
--- Why a run ended before its sessions began: of a host or a source that failed, of a script or an order that is too long, or of a
--- wrong order, all that is read before is right. Want of memory alone is free. `fails` tells that a call of the host has failed, or
--- one of the source that is handed back.
+-- Why a run ended before its sessions began: of a host or a source that failed, of a script or an order that is too long, of a wrong order,
+-- or of a disk that failed or is damaged, all that is read before is right. Want of memory alone is free.
 abbrev pub Stops : Option Command → (List ℕ → Option (List ℕ)) → List (List ℕ) → Type 0 → ExitCode → Type 0
 Stops None bytes words fails code.Usage = Unit {0}
-Stops (Some c) bytes words fails (code.HostFault at) = Opens (Some c) words at × RightBefore c bytes words at × fails
-Stops (Some c) bytes words fails (code.TooLong at) = Opens (Some c) words at × RightBefore c bytes words at × IsLong bytes words at
+Stops (Some c) bytes words fails (code.HostFault at) = Opens (Some c) words at × RightBefore c bytes words (turn_of c words at) × fails
+Stops (Some c) bytes words fails (code.TooLong at) = Reads (Some c) words at × RightBefore c bytes words at × IsLong bytes words at
 Stops (Some command.Rehearse) bytes words fails (code.BadOrder at) = IsShort bytes words order_place × OrderWrong bytes words (Some at)
+Stops (Some command.Rehearse) bytes words fails (code.Damaged at) = AllRead command.Rehearse bytes words
+Stops (Some command.Rehearse) bytes words fails code.DiskFault = AllRead command.Rehearse bytes words
+Stops (Some command.Dump) bytes words fails (code.Damaged at) = Unit {0}
+Stops (Some command.Dump) bytes words fails code.DiskFault = Unit {0}
 Stops (Some c) bytes words fails code.NoMemory = Unit {0}
 Stops c bytes words fails x = ⊥
 
-pub record NoneRan {S : Type 0} (stops : ExitCode → Type 0) (words : List (List ℕ)) (c : ExitCode) (history : List Entry) (ends : List (SessionEnd S)) (faults : ℕ) (held : Option (List ℕ)) : Type 0 where
-  pub stop : stops c
-  pub no_entry : history ≡ []
-  pub no_end : ends ≡ []
-  pub failed : LineFailed c faults
-  pub report : IfSome held (λ bytes. Reported faults bytes [] (last_line c words))
+-- No session ran. What became of the disk goes by the code: it stays as it was, so that nothing is lost.
+pub record NoneRan {S D : Type 0} (stops : ExitCode → Type 0) (Left : Medium → OpenWhy → Medium → Type 0) (o : Outside S D) (words : List (List ℕ)) (run : Handed S D) : Type 0 where
+  pub stop : stops run.code
+  pub no_record : run.recovered ≡ []
+  pub no_entry : run.history ≡ []
+  pub no_end : run.ends ≡ []
+  pub disk : DiskStops Left o.as_medium (journal_bytes o words) run.code run.disk
+  pub failed : LineFailed run.code run.faults
+  pub report : IfSome run.held (λ bytes. Reported run.faults bytes [] (last_line run.code words))
 
 -- ---- runs whose sessions have ended
 
@@ -198,39 +274,46 @@ sink_failed k = false
 abbrev pub any_end : {S : Type 0} → (EndKind → Bool) → List (SessionEnd S) → Bool
 any_end {S = S} p ends = list_any (λ (e : SessionEnd S). p e.end) ends
 
--- The code of sessions that have ended, the first that applies: want of memory, which stops other sessions too; a sink that failed, or
--- a summary that wasn't written.
-abbrev pub code_of_ends : {S : Type 0} → List (SessionEnd S) → Bool → ExitCode
-code_of_ends ends unwritten =
-    if any_end wants_memory ends then code.NoMemory
-    else (if any_end sink_failed ends || unwritten then code.SinkFault else code.Done)
+-- The code of sessions that have ended, the first that applies: a disk that failed; want of memory, which stops other sessions too; a sink
+-- that failed, or a report that wasn't written.
+abbrev pub code_of_ends : {S : Type 0} → List Entry → List (SessionEnd S) → Bool → ExitCode
+code_of_ends history ends unwritten =
+    if has_fault history then code.DiskFault
+    else (if any_end wants_memory ends then code.NoMemory else (if any_end sink_failed ends || unwritten then code.SinkFault else code.Done))
 
 -- The line behind the replies of `try`: none where the report has failed.
 abbrev pub behind_replies : ExitCode → List (List ℕ) → List ℕ
 behind_replies code.SinkFault words = []
 behind_replies c words = last_line c words
 
--- A script was run as the one session of a database without records. The report is its sink: where that failed, nothing was written
--- behind it.
-pub record ScriptRan {S : Type 0} (script : List ℕ) (words : List (List ℕ)) (c : ExitCode) (history : List Entry) (ends : List (SessionEnd S)) (faults : ℕ) (held : Option (List ℕ)) : Type 0 where
-  pub is_history : IsHistory 1 history
-  pub no_stop : has_stop history ≡ false
+-- The history is legal from the database of these records, with so many sessions.
+abbrev pub IsLegal : List Record → ℕ → List Entry → Type 0
+IsLegal recovered n history = Legal (Build recovered n) history
+
+-- A script was run as the one session of a database without records, which nothing keeps. The report is its sink: where that failed,
+-- nothing was written behind it. Only where the session found no memory is an ask answered that the engine has stopped, its Leave.
+pub record ScriptRan {S D : Type 0} (script : List ℕ) (words : List (List ℕ)) (run : Handed S D) : Type 0 where
+  pub legal : IsLegal [] 1 run.history
+  pub no_record : run.recovered ≡ []
+  pub no_disk : run.disk ≡ None
+  pub no_fault : has_fault run.history ≡ false
   pub end : SessionEnd S
-  pub one : ends ≡ end ∷ []
+  pub one : run.ends ≡ end ∷ []
+  pub stop : has_stop run.history ≡ true → end.end ≡ ending.NoMemory
   pub no_sink : end.sink ≡ None
   pub replies : List ℕ
-  pub came_to : CameTo history script (nth_session 0) replies end
-  pub is_code : c ≡ code_of_ends ends false
-  pub failed : end.end ≡ ending.SinkFault → faults ≡ 1
-  pub line_failed : LineFailed c faults
-  pub report : IfSome held (λ b. Reported faults b replies (behind_replies c words))
+  pub came_to : CameTo run.history script (nth_session 0) replies end
+  pub is_code : run.code ≡ code_of_ends run.history run.ends false
+  pub failed : end.end ≡ ending.SinkFault → run.faults ≡ 1
+  pub line_failed : LineFailed run.code run.faults
+  pub report : IfSome run.held (λ b. Reported run.faults b replies (behind_replies run.code words))
 
 -- what `try` has come to
-pub record TryRan {S : Type 0} (bytes : List ℕ → Option (List ℕ)) (words : List (List ℕ)) (c : ExitCode) (history : List Entry) (ends : List (SessionEnd S)) (faults : ℕ) (held : Option (List ℕ)) : Type 0 where
+pub record TryRan {S D : Type 0} (o : Outside S D) (words : List (List ℕ)) (run : Handed S D) : Type 0 where
   pub script : List ℕ
-  pub is_script : IsBehind bytes words 1 script
+  pub is_script : IsBehind o.bytes words 1 script
   pub short : length script ≤ most
-  pub ran : ScriptRan script words c history ends faults held
+  pub ran : ScriptRan script words run
 
 -- the scripts of the words from one place up to another, in order
 pub record AreScripts (bytes : List ℕ → Option (List ℕ)) (words : List (List ℕ)) (first last : ℕ) (scripts : List (List ℕ)) : Type 0 where
@@ -244,45 +327,70 @@ pub record IsOrder (bytes : List ℕ → Option (List ℕ)) (words : List (List 
   pub short : length order ≤ most
   pub right : wrong_at n order ≡ None
 
--- The scripts were run by the order, each as a session of its own with a sink of its own, in one database that had no records.
-pub record SessionsRan {S : Type 0} (sink_held : S → Option (List ℕ)) (sink_faults : S → ℕ) (bytes : List ℕ → Option (List ℕ)) (words : List (List ℕ)) (history : List Entry) (ends : List (SessionEnd S)) : Type 0 where
+-- The scripts were run by the order, each as a session of its own with a sink of its own, in the database of the journal.
+pub record SessionsRan {S D : Type 0} (o : Outside S D) (words : List (List ℕ)) (recovered : List Record) (history : List Entry) (ends : List (SessionEnd S)) (now : D) : Type 0 where
   pub scripts : List (List ℕ)
-  pub are_scripts : AreScripts bytes words 3 (length words) scripts
+  pub are_scripts : AreScripts o.bytes words 3 (length words) scripts
   pub order : List ℕ
-  pub is_order : IsOrder bytes words (length scripts) order
-  pub are_ends : AreEnds sink_held sink_faults scripts history ends
+  pub is_order : IsOrder o.bytes words (length scripts) order
+  pub legal : IsLegal recovered (length scripts) history
+  pub are_ends : AreEnds o.sink_held o.sink_faults scripts history ends
   pub paced : Paced (length scripts) (turns_of order) history
+  pub disk : RanOver o.as_medium (journal_bytes o words) (length scripts) recovered history now
 
--- the summary and the last line, by whether a write of the summary failed
+-- the text and the last line, by whether a write of the text failed
 abbrev pub Summed : Bool → ℕ → List ℕ → List ℕ → List ℕ → Type 0
-Summed true faults held summary line = BrokenOff held summary
-Summed false faults held summary line = Reported faults held summary line
+Summed true faults held text line = BrokenOff held text
+Summed false faults held text line = Reported faults held text line
 
--- The code and the report of sessions that have ended. Where a write of the summary failed, nothing was written behind it.
-pub record EndsTold {S : Type 0} (words : List (List ℕ)) (c : ExitCode) (ends : List (SessionEnd S)) (faults : ℕ) (held : Option (List ℕ)) : Type 0 where
-  pub unwritten : Bool
-  pub is_code : c ≡ code_of_ends ends unwritten
+-- The report of a text and of the code's line. Where a write of the text failed, nothing was written behind it.
+pub record Tells (words : List (List ℕ)) (text : List ℕ) (unwritten : Bool) (c : ExitCode) (faults : ℕ) (held : Option (List ℕ)) : Type 0 where
   pub failed : unwritten ≡ true → faults ≡ 1
   pub line_failed : LineFailed c faults
-  pub report : IfSome held (λ b. Summed unwritten faults b (Summary ends) (last_line c words))
+  pub report : IfSome held (λ b. Summed unwritten faults b text (last_line c words))
+
+-- The code and the report of sessions that have ended.
+pub record EndsTold {S : Type 0} (words : List (List ℕ)) (history : List Entry) (c : ExitCode) (ends : List (SessionEnd S)) (faults : ℕ) (held : Option (List ℕ)) : Type 0 where
+  pub unwritten : Bool
+  pub is_code : c ≡ code_of_ends history ends unwritten
+  pub tells : Tells words (Summary ends) unwritten c faults held
 
 -- what `rehearse` has come to
-pub record RehearseRan {S : Type 0} (sink_held : S → Option (List ℕ)) (sink_faults : S → ℕ) (bytes : List ℕ → Option (List ℕ)) (words : List (List ℕ)) (c : ExitCode) (history : List Entry) (ends : List (SessionEnd S)) (faults : ℕ)
-    (held : Option (List ℕ)) : Type 0 where
-  pub ran : SessionsRan sink_held sink_faults bytes words history ends
-  pub summed : EndsTold words c ends faults held
+pub record RehearseRan {S D : Type 0} (o : Outside S D) (words : List (List ℕ)) (run : Handed S D) : Type 0 where
+  pub now : D
+  pub disk_is : run.disk ≡ Some now
+  pub ran : SessionsRan o words run.recovered run.history run.ends now
+  pub summed : EndsTold words run.history run.code run.ends run.faults run.held
+
+-- the code of lines that were written or not
+abbrev pub code_of_lines : Bool → ExitCode
+code_of_lines unwritten = if unwritten then code.SinkFault else code.Done
+
+-- What `dump` has come to: the lines of the journal's records were written, and the disk is as it was.
+pub record DumpRan {S D : Type 0} (o : Outside S D) (words : List (List ℕ)) (run : Handed S D) : Type 0 where
+  pub no_record : run.recovered ≡ []
+  pub no_entry : run.history ≡ []
+  pub no_end : run.ends ≡ []
+  pub now : D
+  pub disk_is : run.disk ≡ Some now
+  pub records : List Record
+  pub disk : WasReadOff o.as_medium (journal_bytes o words) records now
+  pub unwritten : Bool
+  pub is_code : run.code ≡ code_of_lines unwritten
+  pub tells : Tells words (Dump records) unwritten run.code run.faults run.held
 
 -- ---- what `serve` comes to
 
-abbrev pub Ran : {S : Type 0} → Option Command → (S → Option (List ℕ)) → (S → ℕ) → (List ℕ → Option (List ℕ)) → List (List ℕ) → ExitCode → List Entry → List (SessionEnd S) → ℕ → Option (List ℕ) → Type 0
-Ran None sink_held sink_faults bytes words c history ends faults held = ⊥
-Ran (Some command.Try) sink_held sink_faults bytes words c history ends faults held = TryRan bytes words c history ends faults held
-Ran (Some command.Rehearse) sink_held sink_faults bytes words c history ends faults held = RehearseRan sink_held sink_faults bytes words c history ends faults held
+abbrev pub Ran : {S D : Type 0} → Option Command → Outside S D → List (List ℕ) → Handed S D → Type 0
+Ran None o words run = ⊥
+Ran (Some command.Try) o words run = TryRan o words run
+Ran (Some command.Rehearse) o words run = RehearseRan o words run
+Ran (Some command.Dump) o words run = DumpRan o words run
 
--- No session has begun, or all have ended.
-abbrev pub Served : {S : Type 0} → Option Command → (List ℕ → Option (List ℕ)) → Type 0 → (S → Option (List ℕ)) → (S → ℕ) → List (List ℕ) → ExitCode → List Entry → List (SessionEnd S) → ℕ → Option (List ℕ) → Type 0
-Served asked bytes fails sink_held sink_faults words c history ends faults held =
-    NoneRan (Stops asked bytes words fails) words c history ends faults held ⊎ Ran asked sink_held sink_faults bytes words c history ends faults held
+-- It ended before its sessions began, or came to what it is for. `fails` tells that a call of the host has failed, or one of the source
+-- that is handed back.
+abbrev pub Served : {S D : Type 0} → Option Command → Outside S D → Type 0 → List (List ℕ) → Handed S D → Type 0
+Served asked o fails words run = NoneRan (Stops asked o.bytes words fails) (Leaves asked) o words run ⊎ Ran asked o words run
 
 -- ---- what a code says
 
@@ -302,13 +410,19 @@ pub record SinkFailed {S : Type 0} (sink_faults : S → ℕ) (ends : List (Sessi
 abbrev pub SinkFails : {S : Type 0} → Option Command → (S → ℕ) → List (SessionEnd S) → ℕ → Type 0
 SinkFails None sink_faults ends faults = ⊥
 SinkFails (Some command.Try) sink_faults ends faults = 0 < faults
+SinkFails (Some command.Dump) sink_faults ends faults = 0 < faults
 SinkFails (Some command.Rehearse) sink_faults ends faults = (0 < faults) ⊎ SinkFailed sink_faults ends
 
--- the codes of a run in which the sink of a session failed: want of memory comes before it
+-- the codes of a run in which the sink of a session failed: a disk that failed and want of memory come before it
 abbrev pub IsSinkStop : ExitCode → Type 0
 IsSinkStop code.SinkFault = Unit {0}
+IsSinkStop code.DiskFault = Unit {0}
 IsSinkStop code.NoMemory = Unit {0}
 IsSinkStop c = ⊥
+
+-- the disk has failed; it hasn't
+abbrev pub DiskFails : {D : Type 0} → (D → Medium) → Option D → Type 0
+DiskFails as_medium disk = IsSomeAnd disk (λ d. 0 < (as_medium d).faults)
 
 -- Each session ended as it should.
 abbrev pub AllEnded : {S : Type 0} → List (SessionEnd S) → Type 0
@@ -316,12 +430,12 @@ AllEnded {S = S} ends = All (λ (e : SessionEnd S). e.end ≡ ending.Ended) ends
 
 -- The codes that a word whose bytes are too many may have, and those that a wrong order may have: what is read before may have stopped
 -- the run.
-abbrev pub StopsBy : ℕ → ExitCode → Type 0
-StopsBy at (code.TooLong w) = w ≤ at
-StopsBy at (code.HostFault w) = w ≤ at
-StopsBy at (code.BadOrder place) = order_place < at
-StopsBy at code.NoMemory = Unit {0}
-StopsBy at c = ⊥
+abbrev pub StopsBy : Command → List (List ℕ) → ℕ → ExitCode → Type 0
+StopsBy c words at (code.TooLong w) = w ≤ at
+StopsBy c words at (code.HostFault w) = turn_of c words w ≤ at
+StopsBy c words at (code.BadOrder place) = order_place < at
+StopsBy c words at code.NoMemory = Unit {0}
+StopsBy c words at x = ⊥
 
 abbrev pub StopsBad : Option ℕ → ExitCode → Type 0
 StopsBad None c = Unit {0}
@@ -330,6 +444,19 @@ StopsBad (Some place) (code.HostFault w) = w ≡ order_place
 StopsBad (Some place) (code.TooLong w) = w ≡ order_place
 StopsBad (Some place) code.NoMemory = Unit {0}
 StopsBad (Some place) c = ⊥
+
+-- the command opens a journal
+abbrev pub OpensJournal : Option Command → Type 0
+OpensJournal None = ⊥
+OpensJournal (Some command.Try) = ⊥
+OpensJournal (Some command.Dump) = Unit {0}
+OpensJournal (Some command.Rehearse) = Unit {0}
+
+-- The codes of a run whose journal is damaged: what comes before may have stopped it.
+abbrev pub StopsDamaged : ExitCode → Type 0
+StopsDamaged code.Done = ⊥
+StopsDamaged code.SinkFault = ⊥
+StopsDamaged c = Unit {0}
 
 -- the codes of a run in which nothing outside failed
 abbrev pub IsComplete : ExitCode → Type 0
@@ -340,8 +467,16 @@ IsComplete c = ⊥
 -- What a command reads is told and right.
 abbrev pub OrderTold : Command → (List ℕ → Option (List ℕ)) → List (List ℕ) → Type 0
 OrderTold command.Try bytes words = Unit {0}
+OrderTold command.Dump bytes words = Unit {0}
 OrderTold command.Rehearse bytes words = IsSomeAnd (told_at bytes words order_place) (λ told. wrong_at (sessions_of command.Rehearse words) told ≡ None)
 
-pub record AllRight (c : Command) (bytes : List ℕ → Option (List ℕ)) (words : List (List ℕ)) : Type 0 where
-  pub texts : (at : ℕ) → Opens (Some c) words at → IsSomeAnd (told_at bytes words at) (λ told. length told ≤ most)
+-- the journal is told and not damaged
+abbrev pub JournalSound : Command → Option (List ℕ) → Type 0
+JournalSound command.Try disk = Unit {0}
+JournalSound command.Dump disk = IsSomeAnd disk (λ bytes. (at : ℕ) → IsDamagedAt bytes at → ⊥)
+JournalSound command.Rehearse disk = IsSomeAnd disk (λ bytes. (at : ℕ) → IsDamagedAt bytes at → ⊥)
+
+pub record AllRight (c : Command) (bytes disks : List ℕ → Option (List ℕ)) (words : List (List ℕ)) : Type 0 where
+  pub texts : (at : ℕ) → Reads (Some c) words at → IsSomeAnd (told_at bytes words at) (λ told. length told ≤ most)
   pub order : OrderTold c bytes words
+  pub journal : JournalSound c (told_at disks words journal_place)

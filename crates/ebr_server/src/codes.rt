@@ -1,23 +1,53 @@
-//! The code of sessions that have ended.
+//! The codes of sessions that have ended, and of a disk over which none began.
 
 ghost use Rattle.std.specs.Prelude.{◌≡◌};
 ghost use Rattle.ebr_server.specs.Program as spec;
 ghost use Rattle.ebr_server.specs.Program.{any_end, code_of_ends};
+ghost use Rattle.ebr_server.specs.inside.Opened.{code_of_open as spec_open};
+ghost use Rattle.ebr_worker.specs.Matches.{has_fault as history_has_fault, is_fault as answer_is_fault};
 
 use crate::exit::ExitCode;
+use ebr_asks::{Answer, Entry};
 use ebr_report::{EndKind, SessionEnd};
+use ebr_startup::OpenWhy;
 
-/// The code of sessions that have ended, and of a summary that was written or not.
-pub fn code_of_ends<S>(ends: &[SessionEnd<S>], unwritten: bool) -> ExitCode
-    ensures { result ≡ code_of_ends ends.now unwritten }
+/// Why no engine is opened over a disk, as a code.
+pub fn code_of_open(why: OpenWhy) -> ExitCode
+    ensures { result ≡ spec_open why }
 {
-    if any_wants_memory(ends) {
+    match why {
+        OpenWhy::DiskFault => ExitCode::DiskFault,
+        OpenWhy::Damaged { at } => ExitCode::Damaged { at },
+        OpenWhy::NoMemory => ExitCode::NoMemory,
+    }
+}
+
+/// The code of sessions that have ended, and of a report that was written or not.
+pub fn code_of_ends<S>(history: &[Entry], ends: &[SessionEnd<S>], unwritten: bool) -> ExitCode
+    ensures { result ≡ code_of_ends history.now ends.now unwritten }
+{
+    if has_fault(history) {
+        ExitCode::DiskFault
+    } else if any_wants_memory(ends) {
         ExitCode::NoMemory
     } else if any_sink_failed(ends) || unwritten {
         ExitCode::SinkFault
     } else {
         ExitCode::Done
     }
+}
+
+/// Whether an ask was answered that the disk failed.
+fn has_fault(history: &[Entry]) -> bool
+    ensures { result ≡ history_has_fault history.now }
+{
+    history.iter().any(|entry| is_fault(&entry.answer))
+}
+
+fn is_fault(answer: &Answer) -> bool
+    ensures { result ≡ answer_is_fault answer.now }
+{
+    matches!(answer, Answer::DiskFault)
 }
 
 /// Whether a session ended for want of memory, or was stopped by that of another one.

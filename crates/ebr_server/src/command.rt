@@ -1,30 +1,35 @@
 //! The one call that the program makes.
 
-ghost use Rattle.std.specs.Prelude.{◌≡◌, ◌<◌, ◌≤◌, ◌↔◌, ◌⊎◌, ℕ, List, [], length, Some, None, IfSome, IsSome, IsSomeAnd};
+ghost use Rattle.std.specs.Prelude.{◌≡◌, ◌<◌, ◌≤◌, ◌↔◌, ◌⊎◌, ℕ, List, [], length, Option, Some, None, IfSome, IsSome, IsSomeAnd};
 ghost use Rattle.ebr_faults.specs.Faults.{Rises};
 ghost use Rattle.ebr_order.specs.Order.{wrong_at};
 ghost use Rattle.ebr_words.specs.Words.{command_of};
-ghost use Rattle.ebr_words.specs.declared.words.Command.TheVariants.{Try, Rehearse};
-ghost use Rattle.ebr_worker.specs.Runs.{IsHistory, IsUnwritten};
-ghost use Rattle.ebr_server.specs.Program.{AllEnded, AllRight, CallsInOrder, IsComplete, IsHostFault, IsLong, IsSinkStop, LineFailed, Opens, OrderWrong, Reported, Served, SinkFailed, SinkFails, StopsBad, StopsBy, last_line, order_of_work, order_place, own_fault, sessions_of, told_at};
+ghost use Rattle.ebr_words.specs.declared.words.Command.TheVariants.{Dump, Rehearse, Try};
+ghost use Rattle.ebr_startup.specs.Damage.{IsDamagedAt};
+ghost use Rattle.ebr_worker.specs.Runs.{IsUnwritten};
+ghost use Rattle.ebr_server.specs.Handed.{handed};
+ghost use Rattle.ebr_server.specs.Program.{AllEnded, AllRight, CallsInOrder, DiskFails, IsComplete, IsHostFault, IsLegal, IsLong, IsSinkStop, LineFailed, Opens, OpensJournal, OrderWrong, Reads, Reported, Served, SinkFailed, SinkFails, StopsBad, StopsBy, StopsDamaged, journal_place, last_line, order_of_work, order_place, outside, own_fault, sessions_of, told_at};
 ghost use Rattle.ebr_server.specs.inside.Opened.{ScriptServed};
 
 use crate::exit::ExitCode;
-use crate::opened::{Halt, read_word, without_source};
+use crate::journal::lines;
+use crate::opened::{Halt, Stop, open_disk, read_word, without_disk, without_source};
 use crate::read::MAX_SCRIPT;
 use crate::rehearsal::rehearsed;
-use crate::report::{tell_ends, tell_replies, write_last_line};
+use crate::report::{tell_ends, tell_lines, tell_replies, write_last_line};
 use ebr_asks::Entry;
 use ebr_base::{Bytes, List};
-use ebr_outside::{Host, Sink};
+use ebr_outside::{Disk, Host, Sink};
+use ebr_record::Record;
 use ebr_report::SessionEnd;
+use ebr_startup::a_database_is_not_damaged;
 use ebr_words::{Command, command_of};
 use ebr_worker::run_alone;
 use std::alloc::Global;
 
 /// What a run hands back.
 #[derive(Drop)]
-pub struct Outcome<C, S, R> {
+pub struct Outcome<C, S, R, D> {
     pub code: ExitCode,
     /// The source whose read failed.
     pub source: Option<C>,
@@ -32,25 +37,32 @@ pub struct Outcome<C, S, R> {
     /// What the sessions came to, in the order of their scripts; none where no session has begun. In `rehearse` each has its
     /// sink; that of `try` is the report.
     pub ends: List<SessionEnd<S>>,
+    /// The records with which the history began: those of the journal, where sessions ran over one.
+    pub recovered: List<Record>,
     /// All asks in the order in which they were answered.
     pub history: List<Entry>,
+    /// The journal's disk, where it was opened.
+    pub disk: Option<D>,
 }
 
 /// A run that ends before its sessions begin.
-fn stopped<C: Drop, S: Drop, R: Sink>(
+fn stopped<C: Drop, S: Drop, R: Sink, D: Drop>(
     alloc: Global,
     words: &[Bytes],
-    halt: Halt<C>,
+    stop: Stop<C, D>,
     report: R,
-) -> Outcome<C, S, R>
+) -> Outcome<C, S, R, D>
     requires empty { IsUnwritten R.held R.faults report }
-    ensures code { result.code ≡ halt.code }
-    ensures source { result.source ≡ halt.source }
+    ensures code { result.code ≡ stop.halt.code }
+    ensures source { result.source ≡ stop.halt.source }
+    ensures disk { result.disk ≡ stop.disk }
     ensures ends { result.ends ≡ [] }
+    ensures recovered { result.recovered ≡ [] }
     ensures history { result.history ≡ [] }
-    ensures failed { LineFailed halt.code (R.faults result.report) }
-    ensures report { IfSome (R.held result.report) (λ bytes. Reported (R.faults result.report) bytes [] (last_line halt.code words.now)) }
+    ensures failed { LineFailed stop.halt.code (R.faults result.report) }
+    ensures report { IfSome (R.held result.report) (λ bytes. Reported (R.faults result.report) bytes [] (last_line stop.halt.code words.now)) }
 {
+    let Stop { halt, disk } = stop;
     let Halt { code, source } = halt;
     let mut report = report;
     let _ = write_last_line(&mut report, code, words);
@@ -59,8 +71,30 @@ fn stopped<C: Drop, S: Drop, R: Sink>(
         source,
         report,
         ends: List::new(alloc),
+        recovered: List::new(alloc),
         history: List::new(alloc),
+        disk,
     }
+}
+
+/// A run that ends so before a disk was opened, where no read has failed.
+fn stopped_by<C: Drop, S: Drop, R: Sink, D: Drop>(
+    alloc: Global,
+    words: &[Bytes],
+    code: ExitCode,
+    report: R,
+) -> Outcome<C, S, R, D>
+    requires empty { IsUnwritten R.held R.faults report }
+    ensures code { result.code ≡ code }
+    ensures source { result.source ≡ None }
+    ensures disk { result.disk ≡ None }
+    ensures ends { result.ends ≡ [] }
+    ensures recovered { result.recovered ≡ [] }
+    ensures history { result.history ≡ [] }
+    ensures failed { LineFailed code (R.faults result.report) }
+    ensures report { IfSome (R.held result.report) (λ bytes. Reported (R.faults result.report) bytes [] (last_line code words.now)) }
+{
+    stopped(alloc, words, without_disk(without_source(code)), report)
 }
 
 /// The end of a session apart from its sink.
@@ -87,34 +121,37 @@ fn without_sink<S: Drop, R: Drop>(ended: SessionEnd<R>) -> (SessionEnd<S>, R)
 }
 
 /// Runs a script as the one session of an empty database. The replies go to the report.
-fn run_script<C: Drop, S: Drop, R: Sink>(
+fn run_script<C: Drop, S: Drop, R: Sink, D: Disk>(
     alloc: Global,
     words: &[Bytes],
     script: &[u8],
     report: R,
-) -> Outcome<C, S, R>
+) -> Outcome<C, S, R, D>
     requires short { length script.now ≤ MAX_SCRIPT }
     requires empty { IsUnwritten R.held R.faults report }
-    ensures served { ScriptServed script.now words.now result.code result.history result.ends (R.faults result.report) (R.held result.report) }
+    ensures served { (bytes disks : List ℕ → Option (List ℕ)) (sink_held : S → Option (List ℕ)) (sink_faults : S → ℕ)
+        → ScriptServed (outside bytes disks sink_held sink_faults D.as_medium) script.now words.now (handed R.faults R.held result) }
     ensures source { result.source ≡ None }
 {
     let Ok(mut ends) = Vec::with_capacity(alloc, 1) else {
-        return stopped(alloc, words, without_source(ExitCode::NoMemory), report);
+        return stopped_by(alloc, words, ExitCode::NoMemory, report);
     };
     match run_alone(alloc, script, report) {
         Ok((ended, history)) => {
             let (end, mut report) = without_sink(ended);
             ends.push_reserved(end);
-            let code = tell_replies(&mut report, words, ends.as_slice());
+            let code = tell_replies(&mut report, words, history.as_slice(), ends.as_slice());
             Outcome {
                 code,
                 source: None,
                 report,
                 ends: List::from_vec(ends),
+                recovered: List::new(alloc),
                 history,
+                disk: None,
             }
         }
-        Err(report) => stopped(alloc, words, without_source(ExitCode::NoMemory), report),
+        Err(report) => stopped_by(alloc, words, ExitCode::NoMemory, report),
     }
 }
 
@@ -124,17 +161,16 @@ fn try_script<H: Host>(
     words: &[Bytes],
     host: &mut H,
     report: H::Report,
-) -> Outcome<H::Source, H::Sink, H::Report>
+) -> Outcome<H::Source, H::Sink, H::Report, H::Disk>
     requires some { 2 ≤ length words.now }
     requires empty { IsUnwritten H.Report.held H.Report.faults report }
-    ensures served { Served (Some Try) (H.bytes host.old) (Rises (H.faults host.old) (H.faults host.new) ⊎ IsSomeAnd result.source (λ s. 0 < H.Source.faults s))
-        H.Sink.held H.Sink.faults words.now result.code result.history result.ends (H.Report.faults result.report) (H.Report.held result.report) }
+    ensures served { Served (Some Try) (outside (H.bytes host.old) (H.disk_bytes host.old) H.Sink.held H.Sink.faults H.Disk.as_medium) (Rises (H.faults host.old) (H.faults host.new) ⊎ IsSomeAnd result.source (λ s. 0 < H.Source.faults s)) words.now (handed H.Report.faults H.Report.held result) }
     ensures source { IfSome result.source (λ s. IsHostFault result.code × (0 < H.Source.faults s)) }
     ensures called { CallsInOrder (H.calls host.old) (H.calls host.new) (order_of_work (Some Try) words.now) (own_fault result.code result.source) }
 {
     match read_word(alloc, words, 1, host) {
         Ok(script) => run_script(alloc, words, script.as_slice(), report),
-        Err(halt) => stopped(alloc, words, halt, report),
+        Err(halt) => stopped(alloc, words, without_disk(halt), report),
     }
 }
 
@@ -144,28 +180,69 @@ fn rehearse<H: Host>(
     words: &[Bytes],
     host: &mut H,
     report: H::Report,
-) -> Outcome<H::Source, H::Sink, H::Report>
+) -> Outcome<H::Source, H::Sink, H::Report, H::Disk>
     requires some { 3 ≤ length words.now }
     requires few { length words.now ≤ 35 }
     requires empty { IsUnwritten H.Report.held H.Report.faults report }
-    ensures served { Served (Some Rehearse) (H.bytes host.old) (Rises (H.faults host.old) (H.faults host.new) ⊎ IsSomeAnd result.source (λ s. 0 < H.Source.faults s))
-        H.Sink.held H.Sink.faults words.now result.code result.history result.ends (H.Report.faults result.report) (H.Report.held result.report) }
+    ensures served { Served (Some Rehearse) (outside (H.bytes host.old) (H.disk_bytes host.old) H.Sink.held H.Sink.faults H.Disk.as_medium) (Rises (H.faults host.old) (H.faults host.new) ⊎ IsSomeAnd result.source (λ s. 0 < H.Source.faults s)) words.now (handed H.Report.faults H.Report.held result) }
     ensures source { IfSome result.source (λ s. IsHostFault result.code × (0 < H.Source.faults s)) }
     ensures called { CallsInOrder (H.calls host.old) (H.calls host.new) (order_of_work (Some Rehearse) words.now) (own_fault result.code result.source) }
 {
     match rehearsed(alloc, words, host) {
-        Ok(rehearsed) => {
+        Ok(rehearsal) => {
             let mut report = report;
-            let code = tell_ends(&mut report, words, rehearsed.ends.as_slice());
+            let code = tell_ends(
+                &mut report,
+                words,
+                rehearsal.history.as_slice(),
+                rehearsal.ends.as_slice(),
+            );
             Outcome {
                 code,
                 source: None,
                 report,
-                ends: rehearsed.ends,
-                history: rehearsed.history,
+                ends: rehearsal.ends,
+                recovered: rehearsal.recovered,
+                history: rehearsal.history,
+                disk: Some(rehearsal.disk),
             }
         }
-        Err(halt) => stopped(alloc, words, halt, report),
+        Err(stop) => stopped(alloc, words, stop, report),
+    }
+}
+
+/// Does `dump`.
+fn dump_journal<H: Host>(
+    alloc: Global,
+    words: &[Bytes],
+    host: &mut H,
+    report: H::Report,
+) -> Outcome<H::Source, H::Sink, H::Report, H::Disk>
+    requires some { 2 ≤ length words.now }
+    requires empty { IsUnwritten H.Report.held H.Report.faults report }
+    ensures served { Served (Some Dump) (outside (H.bytes host.old) (H.disk_bytes host.old) H.Sink.held H.Sink.faults H.Disk.as_medium) (Rises (H.faults host.old) (H.faults host.new) ⊎ IsSomeAnd result.source (λ s. 0 < H.Source.faults s)) words.now (handed H.Report.faults H.Report.held result) }
+    ensures source { IfSome result.source (λ s. IsHostFault result.code × (0 < H.Source.faults s)) }
+    ensures called { CallsInOrder (H.calls host.old) (H.calls host.new) (order_of_work (Some Dump) words.now) (own_fault result.code result.source) }
+{
+    let disk = match open_disk(words, host) {
+        Ok(disk) => disk,
+        Err(code) => return stopped_by(alloc, words, code, report),
+    };
+    match lines(alloc, disk) {
+        Ok((lines, disk)) => {
+            let mut report = report;
+            let code = tell_lines(&mut report, words, lines.as_slice());
+            Outcome {
+                code,
+                source: None,
+                report,
+                ends: List::new(alloc),
+                recovered: List::new(alloc),
+                history: List::new(alloc),
+                disk: Some(disk),
+            }
+        }
+        Err(stop) => stopped(alloc, words, stop, report),
     }
 }
 
@@ -175,40 +252,41 @@ fn do_command<H: Host>(
     words: &[Bytes],
     host: &mut H,
     report: H::Report,
-) -> Outcome<H::Source, H::Sink, H::Report>
+) -> Outcome<H::Source, H::Sink, H::Report, H::Disk>
     requires empty { IsUnwritten H.Report.held H.Report.faults report }
-    ensures served { Served (command_of words.now) (H.bytes host.old) (Rises (H.faults host.old) (H.faults host.new) ⊎ IsSomeAnd result.source (λ s. 0 < H.Source.faults s))
-        H.Sink.held H.Sink.faults words.now result.code result.history result.ends (H.Report.faults result.report) (H.Report.held result.report) }
+    ensures served { Served (command_of words.now) (outside (H.bytes host.old) (H.disk_bytes host.old) H.Sink.held H.Sink.faults H.Disk.as_medium) (Rises (H.faults host.old) (H.faults host.new) ⊎ IsSomeAnd result.source (λ s. 0 < H.Source.faults s)) words.now (handed H.Report.faults H.Report.held result) }
     ensures source { IfSome result.source (λ s. IsHostFault result.code × (0 < H.Source.faults s)) }
     ensures called { CallsInOrder (H.calls host.old) (H.calls host.new) (order_of_work (command_of words.now) words.now) (own_fault result.code result.source) }
 {
     match command_of(words) {
         Some(Command::Try) => try_script(alloc, words, host, report),
         Some(Command::Rehearse) => rehearse(alloc, words, host, report),
-        None => stopped(alloc, words, without_source(ExitCode::Usage), report),
+        Some(Command::Dump) => dump_journal(alloc, words, host, report),
+        None => stopped_by(alloc, words, ExitCode::Usage, report),
     }
 }
 
 /// Serves a command. `try S` runs the script of word 1 as one session on a fresh database in memory, and gives its replies
-/// to the host's report. `rehearse J ORDER S..` runs the scripts from word 3 on as sessions side by side, by the order that
-/// word 2 names: each number is a turn of that session, and behind the order the first one runs to its end, then the next.
-/// Each prints to a sink of its own, and the report is a summary. Word 1 isn't opened. Any other words are `Usage`.
+/// to the host's report. `rehearse J ORDER S..` runs the scripts from word 3 on as sessions side by side over the journal that word 1
+/// names, by the order that word 2 names: each number is a turn of that session, and behind the order the first one runs to its end,
+/// then the next. Each prints to a sink of its own, and the report is a summary. `dump J` writes a line for each record of the journal
+/// that word 1 names, and leaves it as it is. Any other words are `Usage`.
 ///
-/// What is wrong first, in the order in which words are opened and read, has the code; of sessions that have ended, want of memory
-/// comes before a sink that failed. The report ends with the code's last line, unless a write of it failed.
+/// What is wrong first, in the order in which words are opened and read, has the code; the journal comes behind all others. Of sessions
+/// that have ended, a disk that failed comes before want of memory, and that before a sink that failed. The report ends with the code's
+/// last line, unless a write of it failed.
 pub fn serve<H: Host>(
     alloc: Global,
     words: &[Bytes],
     host: &mut H,
-) -> Outcome<H::Source, H::Sink, H::Report>
+) -> Outcome<H::Source, H::Sink, H::Report, H::Disk>
     // What the sessions came to, what the sinks and the report hold, and where none has begun, why. The history's asks are just
-    // those of the scripts, each session's in order.
-    ensures served { Served (command_of words.now) (H.bytes host.old) (Rises (H.faults host.old) (H.faults host.new) ⊎ IsSomeAnd result.source (λ s. 0 < H.Source.faults s))
-        H.Sink.held H.Sink.faults words.now result.code result.history result.ends (H.Report.faults result.report) (H.Report.held result.report) }
+    // those of the scripts, each session's in order. What a crash at each moment leaves of the journal.
+    ensures served { Served (command_of words.now) (outside (H.bytes host.old) (H.disk_bytes host.old) H.Sink.held H.Sink.faults H.Disk.as_medium) (Rises (H.faults host.old) (H.faults host.new) ⊎ IsSomeAnd result.source (λ s. 0 < H.Source.faults s)) words.now (handed H.Report.faults H.Report.held result) }
 
-    // Each answer of the history is the machine's, in the database that the entries before it leave, up to one, if any, that there was
-    // no memory, behind which all are Stopped. None is that a disk failed.
-    ensures legal { IfSome (command_of words.now) (λ c. IsHistory (sessions_of c words.now) result.history) }
+    // Each answer of the history is the machine's, in the database that the entries before it leave, which begins with the recovered
+    // records, up to one, if any, that the disk failed or that there was no memory, behind which all are Stopped.
+    ensures legal { IfSome (command_of words.now) (λ c. IsLegal result.recovered (sessions_of c words.now) result.history) }
 
     // When each code comes. Want of memory alone is free.
     ensures done { result.code ≡ ExitCode.Done → AllEnded result.ends × (H.Report.faults result.report ≡ 0) }
@@ -216,9 +294,12 @@ pub fn serve<H: Host>(
     ensures host_fault { (w : ℕ) → result.code ≡ ExitCode.HostFault w
         → Opens (command_of words.now) words.now w × (Rises (H.faults host.old) (H.faults host.new) ⊎ IsSomeAnd result.source (λ s. 0 < H.Source.faults s)) }
     ensures source { IfSome result.source (λ s. IsHostFault result.code × (0 < H.Source.faults s)) }
+    ensures disk_fault { result.code ≡ ExitCode.DiskFault → DiskFails H.Disk.as_medium result.disk }
+    ensures damaged { (at : ℕ) → result.code ≡ ExitCode.Damaged at
+        → OpensJournal (command_of words.now) × IfSome (told_at (H.disk_bytes host.old) words.now journal_place) (λ bytes. IsDamagedAt bytes at) }
     ensures sink_fault { result.code ≡ ExitCode.SinkFault → SinkFails (command_of words.now) H.Sink.faults result.ends (H.Report.faults result.report) }
     ensures sink_stops { SinkFailed H.Sink.faults result.ends → IsSinkStop result.code }
-    ensures too_long { (w : ℕ) → result.code ≡ ExitCode.TooLong w → Opens (command_of words.now) words.now w × IsLong (H.bytes host.old) words.now w }
+    ensures too_long { (w : ℕ) → result.code ≡ ExitCode.TooLong w → Reads (command_of words.now) words.now w × IsLong (H.bytes host.old) words.now w }
     ensures bad_order { (at : ℕ) → result.code ≡ ExitCode.BadOrder at → (command_of words.now ≡ Some Rehearse) × OrderWrong (H.bytes host.old) words.now (Some at) }
 
     // What the host was asked to open, and in which order. A call of it failed exactly where the code is a host fault that no source has,
@@ -228,17 +309,20 @@ pub fn serve<H: Host>(
     // One write of the report at most has failed, so none was tried behind it.
     ensures once { H.Report.faults result.report ≤ 1 }
 
-    // A word whose bytes are too many stops the run, and so does an order that is wrong.
-    ensures stops_long { (w : ℕ) → Opens (command_of words.now) words.now w
-        → IfSome (told_at (H.bytes host.old) words.now w) (λ bytes. MAX_SCRIPT < length bytes → StopsBy w result.code) }
+    // A word whose bytes are too many stops the run, and so does an order that is wrong, and a damaged journal.
+    ensures stops_long { (w : ℕ) → Reads (command_of words.now) words.now w
+        → IfSome (told_at (H.bytes host.old) words.now w) (λ bytes. MAX_SCRIPT < length bytes → IfSome (command_of words.now) (λ c. StopsBy c words.now w result.code)) }
     ensures stops_bad { command_of words.now ≡ Some Rehearse
         → IfSome (told_at (H.bytes host.old) words.now order_place) (λ bytes. StopsBad (wrong_at (sessions_of Rehearse words.now) bytes) result.code) }
+    ensures stops_damaged { OpensJournal (command_of words.now)
+        → IfSome (told_at (H.disk_bytes host.old) words.now journal_place) (λ bytes. (at : ℕ) → IsDamagedAt bytes at → StopsDamaged result.code) }
 
-    // Where the words and what they name are right and no count rises, the scripts are run.
-    ensures complete { IfSome (command_of words.now) (λ c. AllRight c (H.bytes host.old) words.now
-        → ¬ Rises (H.faults host.old) (H.faults host.new) → IfSome result.source (λ s. ¬ (0 < H.Source.faults s))
+    // Where the words and what they name are right and no count rises, the scripts are run, or the lines are written.
+    ensures complete { IfSome (command_of words.now) (λ c. AllRight c (H.bytes host.old) (H.disk_bytes host.old) words.now
+        → ¬ Rises (H.faults host.old) (H.faults host.new) → IfSome result.source (λ s. ¬ (0 < H.Source.faults s)) → IfSome result.disk (λ d. ¬ (0 < (H.Disk.as_medium d).faults))
         → ¬ (0 < H.Report.faults result.report) → ¬ SinkFailed H.Sink.faults result.ends → IsComplete result.code) }
 {
+    a_database_is_not_damaged();
     let report = host.report();
     do_command(alloc, words, host, report)
 }

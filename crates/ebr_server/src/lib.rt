@@ -1,10 +1,11 @@
 //! The server: the one call `serve`, which joins the parts. It tells the command of the words (`ebr_words`), reads the order
-//! (`ebr_order`) and the scripts, makes the sinks, has the sessions run (`ebr_worker`), and writes the summary (`ebr_report`)
-//! and the last line.
+//! (`ebr_order`) and the scripts, makes the sinks, opens the journal (`ebr_startup`), has the sessions run (`ebr_worker`), and writes
+//! the summary (`ebr_report`), or the lines of a journal (`ebr_dump`), and the last line.
 //!
 //! The program uses `serve`, whose contract is the headline: the history is legal, each session's asks are those of its
 //! script, and its sink, which for `try` is the report, holds what the script prints, or a part of it where a write failed or
-//! the session left early.
+//! the session left early; and a crash at any moment leaves the journal's records and the first of those that were made, among
+//! them each that was acknowledged.
 //!
 //! That calls succeed with ample memory is tested alone (`ebr_servertests`, `ebr_cases`).
 #![tactic(auto)]
@@ -12,6 +13,7 @@
 mod codes;
 mod command;
 mod exit;
+mod journal;
 mod opened;
 mod read;
 mod rehearsal;

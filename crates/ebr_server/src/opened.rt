@@ -1,15 +1,19 @@
-//! Opens what the words of a command name.
+//! Opens what the words of a command name: a source or a disk.
 
-ghost use Rattle.std.specs.Prelude.{◌≡◌, ◌<◌, ◌≤◌, ◌⊎◌, ℕ, List, [], ◌∷◌, None, length, IfErr, IfOk, IfSome, IsSomeAnd, OnOk};
+ghost use Rattle.std.specs.Prelude.{◌≡◌, ◌<◌, ◌≤◌, ◌⊎◌, ℕ, List, [], ◌∷◌, None, Some, length, IfErr, IfOk, IfSome, IsSomeAnd, OnOk};
 ghost use Rattle.ebr_faults.specs.Faults.{Rises};
-ghost use Rattle.ebr_server.specs.Program.{CallsInOrder, IsHostFault, own_fault, source_at};
-ghost use Rattle.ebr_server.specs.inside.Opened.{Fails, WasRead, with_steps};
+ghost use Rattle.ebr_server.specs.Disks.{IsEntry};
+ghost use Rattle.ebr_server.specs.Program.{CallsInOrder, IsHostFault, disk_at, fault_at, journal_place, own_fault, source_at, word_at};
+ghost use Rattle.ebr_server.specs.inside.Opened.{Fails, OpensNone, WasRead, with_steps};
 
 use crate::exit::ExitCode;
 use crate::read::{MAX_SCRIPT, ReadErr, read_bytes};
 use ebr_base::Bytes;
 use ebr_outside::{Host, HostErr};
 use std::alloc::Global;
+
+/// The place of a journal's word.
+const JOURNAL: u32 = 1;
 
 /// Why a run ends before its sessions begin.
 #[derive(Drop)]
@@ -27,6 +31,49 @@ pub fn without_source<C: Drop>(code: ExitCode) -> Halt<C>
     Halt { code, source: None }
 }
 
+/// A run that ends before its sessions begin, and the disk, where it was opened.
+#[derive(Drop)]
+pub struct Stop<C, D> {
+    pub halt: Halt<C>,
+    pub disk: Option<D>,
+}
+
+/// A run that ends so before a disk was opened.
+pub fn without_disk<C: Drop, D: Drop>(halt: Halt<C>) -> Stop<C, D>
+    ensures halt { result.halt ≡ halt }
+    ensures disk { result.disk ≡ None }
+{
+    Stop { halt, disk: None }
+}
+
+/// A run that ends with a disk that was opened.
+pub fn with_disk<C: Drop, D: Drop>(code: ExitCode, disk: D) -> Stop<C, D>
+    ensures code { result.halt.code ≡ code }
+    ensures source { result.halt.source ≡ None }
+    ensures disk { result.disk ≡ Some disk }
+{
+    Stop {
+        halt: without_source(code),
+        disk: Some(disk),
+    }
+}
+
+/// Opens the disk of the journal's word.
+pub fn open_disk<H: Host>(words: &[Bytes], host: &mut H) -> Result<H::Disk, ExitCode>
+    requires some { 2 ≤ length words.now }
+    ensures entry { IfOk result (λ disk. IsEntry H.Disk.as_medium (H.disk_bytes host.old (word_at words.now journal_place)) disk) }
+    ensures fails { IfErr result (λ code. OpensNone (Rises (H.faults host.old) (H.faults host.new)) code) }
+    ensures counted { H.faults host.old ≤ H.faults host.new }
+    ensures opened { OnOk result (H.calls host.new ≡ with_steps (H.calls host.old) (disk_at words.now journal_place ∷ [])) }
+    ensures called { IfErr result (λ code. CallsInOrder (H.calls host.old) (H.calls host.new) (disk_at words.now journal_place ∷ []) (fault_at code)) }
+{
+    match host.disk(&words[JOURNAL as usize]) {
+        Ok(disk) => Ok(disk),
+        Err(HostErr::Failed) => Err(ExitCode::HostFault { word: JOURNAL }),
+        Err(HostErr::NoMemory) => Err(ExitCode::NoMemory),
+    }
+}
+
 /// Reads the bytes behind a word.
 pub fn read_word<H: Host>(
     alloc: Global,
@@ -39,6 +86,7 @@ pub fn read_word<H: Host>(
     ensures fails { IfErr result (λ halt. Fails (H.bytes host.old) words.now word (Rises (H.faults host.old) (H.faults host.new) ⊎ IsSomeAnd halt.source (λ s. 0 < H.Source.faults s)) halt.code) }
     ensures source { IfErr result (λ halt. IfSome halt.source (λ s. IsHostFault halt.code × (0 < H.Source.faults s))) }
     ensures same { (w : List ℕ) → H.bytes host.new w ≡ H.bytes host.old w }
+    ensures same_disks { (w : List ℕ) → H.disk_bytes host.new w ≡ H.disk_bytes host.old w }
     ensures counted { H.faults host.old ≤ H.faults host.new }
     ensures opened { OnOk result (H.calls host.new ≡ with_steps (H.calls host.old) (source_at words.now word ∷ [])) }
     ensures called { IfErr result (λ halt. CallsInOrder (H.calls host.old) (H.calls host.new) (source_at words.now word ∷ []) (own_fault halt.code halt.source)) }

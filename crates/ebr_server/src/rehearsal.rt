@@ -1,38 +1,94 @@
-//! A rehearsal: its order and its scripts are read, its sinks made and its sessions run.
+//! A rehearsal: its order and its scripts are read, its sinks made, its journal opened and its sessions run.
 
-ghost use Rattle.std.specs.Prelude.{◌≡◌, ◌-◌, ◌<◌, ◌≤◌, ◌⊎◌, ℕ, List, [], ◌∷◌, None, Some, length, IfErr, IfOk, IfSome, IsSomeAnd, OnOk};
+ghost use Rattle.std.specs.Prelude.{◌≡◌, ◌-◌, ◌<◌, ◌≤◌, ◌⊎◌, ℕ, List, [], ◌∷◌, None, Option, Some, length, All, IfErr, IfOk, IfSome, IsSomeAnd, OnOk};
 ghost use Rattle.ebr_faults.specs.Faults.{Rises};
 ghost use Rattle.ebr_order.specs.Order.{Order};
 ghost use Rattle.ebr_words.specs.declared.words.Command.TheVariants.{Rehearse};
-ghost use Rattle.ebr_server.specs.Program.{CallsInOrder, IsHostFault, SessionsRan, Stops, order_of_work, own_fault, source_at};
-ghost use Rattle.ebr_server.specs.inside.Opened.{AreTurns, OrderStops, with_steps};
+ghost use Rattle.ebr_startup.specs.Opened.{Unopened};
+ghost use Rattle.ebr_server.specs.Disks.{DiskStops, IsEntry, NeedsNone, RanOver};
+ghost use Rattle.ebr_server.specs.Program.{CallsInOrder, IsHostFault, SessionsRan, Stops, before_disk, journal_place, order_of_work, outside, own_fault, source_at, word_at};
+ghost use Rattle.ebr_server.specs.inside.Opened.{AreTurns, IsPrepared, OrderStops, StopsOver, with_steps};
+ghost use Rattle.ebr_worker.specs.Paced.{IsSession, Paced};
+ghost use Rattle.ebr_worker.specs.Runs.{AreEnds};
+ghost use Rattle.ebr_core.specs.History.{Legal};
+ghost use Rattle.ebr_core.specs.Machine.{Build};
 
+use crate::codes::code_of_open;
 use crate::exit::ExitCode;
-use crate::opened::{Halt, read_word, without_source};
+use crate::opened::{Halt, Stop, open_disk, read_word, with_disk, without_disk, without_source};
 use crate::read::MAX_SCRIPT;
 use crate::scripts::{make_sinks, read_scripts};
+use ebr_asks::Entry;
 use ebr_base::{Bytes, List, NoMemory, SessionId};
 use ebr_order::{OrderErr, read_order};
-use ebr_outside::Host;
-use ebr_worker::{Rehearsed, run_sessions};
+use ebr_outside::{Disk, Host, Sink};
+use ebr_record::Record;
+use ebr_report::SessionEnd;
+use ebr_startup::open;
+use ebr_worker::{Sessions, run_sessions, sessions_of};
 use std::alloc::Global;
 
 /// The place of an order's word.
 const ORDER: u32 = 2;
 
-/// Runs the scripts by the order.
+/// What a rehearsal came to.
+#[derive(Drop)]
+pub struct Rehearsal<S, D> {
+    pub ends: List<SessionEnd<S>>,
+    /// The records with which the history began.
+    pub recovered: List<Record>,
+    pub history: List<Entry>,
+    pub disk: D,
+}
+
+/// Sessions that are to run, and the turns of their order.
+#[derive(Drop)]
+pub struct Prepared<S: Sink> {
+    pub sessions: Sessions<S>,
+    pub turns: List<SessionId>,
+}
+
+/// Runs the scripts by the order, over the journal.
 pub fn rehearsed<H: Host>(
     alloc: Global,
     words: &[Bytes],
     host: &mut H,
-) -> Result<Rehearsed<H::Sink>, Halt<H::Source>>
+) -> Result<Rehearsal<H::Sink, H::Disk>, Stop<H::Source, H::Disk>>
     requires some { 3 ≤ length words.now }
     requires few { length words.now ≤ 35 }
-    ensures ran { IfOk result (λ r. SessionsRan H.Sink.held H.Sink.faults (H.bytes host.old) words.now r.history r.ends) }
+    ensures ran { IfOk result (λ r. SessionsRan (outside (H.bytes host.old) (H.disk_bytes host.old) H.Sink.held H.Sink.faults H.Disk.as_medium) words.now r.recovered r.history r.ends r.disk) }
+    ensures stops { IfErr result (λ stop. Stops (Some Rehearse) (H.bytes host.old) words.now (Rises (H.faults host.old) (H.faults host.new) ⊎ IsSomeAnd stop.halt.source (λ s. 0 < H.Source.faults s)) stop.halt.code) }
+    ensures source { IfErr result (λ stop. IfSome stop.halt.source (λ s. IsHostFault stop.halt.code × (0 < H.Source.faults s))) }
+    ensures disk { IfErr result (λ stop. DiskStops Unopened H.Disk.as_medium (H.disk_bytes host.old (word_at words.now journal_place)) stop.halt.code stop.disk) }
+    ensures opened { OnOk result (H.calls host.new ≡ with_steps (H.calls host.old) (order_of_work (Some Rehearse) words.now)) }
+    ensures called { IfErr result (λ stop. CallsInOrder (H.calls host.old) (H.calls host.new) (order_of_work (Some Rehearse) words.now) (own_fault stop.halt.code stop.halt.source)) }
+{
+    let prepared = match prepare(alloc, words, host) {
+        Ok(prepared) => prepared,
+        Err(halt) => return Err(without_disk(halt)),
+    };
+    match open_disk(words, host) {
+        Ok(disk) => run_over(alloc, prepared, disk),
+        Err(code) => Err(without_disk(without_source(code))),
+    }
+}
+
+/// Reads the order and the scripts, makes the sinks, and begins the sessions.
+fn prepare<H: Host>(
+    alloc: Global,
+    words: &[Bytes],
+    host: &mut H,
+) -> Result<Prepared<H::Sink>, Halt<H::Source>>
+    requires some { 3 ≤ length words.now }
+    requires few { length words.now ≤ 35 }
+    ensures prepared { IfOk result (λ p. IsPrepared (H.bytes host.old) words.now p.sessions p.turns) }
     ensures stops { IfErr result (λ halt. Stops (Some Rehearse) (H.bytes host.old) words.now (Rises (H.faults host.old) (H.faults host.new) ⊎ IsSomeAnd halt.source (λ s. 0 < H.Source.faults s)) halt.code) }
     ensures source { IfErr result (λ halt. IfSome halt.source (λ s. IsHostFault halt.code × (0 < H.Source.faults s))) }
-    ensures opened { OnOk result (H.calls host.new ≡ with_steps (H.calls host.old) (order_of_work (Some Rehearse) words.now)) }
-    ensures called { IfErr result (λ halt. CallsInOrder (H.calls host.old) (H.calls host.new) (order_of_work (Some Rehearse) words.now) (own_fault halt.code halt.source)) }
+    ensures no_disk { IfErr result (λ halt. NeedsNone halt.code) }
+    ensures same_disks { (w : List ℕ) → H.disk_bytes host.new w ≡ H.disk_bytes host.old w }
+    ensures counted { H.faults host.old ≤ H.faults host.new }
+    ensures opened { OnOk result (H.calls host.new ≡ with_steps (H.calls host.old) (before_disk words.now)) }
+    ensures called { IfErr result (λ halt. CallsInOrder (H.calls host.old) (H.calls host.new) (before_disk words.now) (own_fault halt.code halt.source)) }
 {
     let turns = match read_turns(alloc, words, host) {
         Ok(turns) => turns,
@@ -46,9 +102,39 @@ pub fn rehearsed<H: Host>(
         Ok(sinks) => sinks,
         Err(code) => return Err(without_source(code)),
     };
-    match run_sessions(alloc, scripts.as_slice(), sinks, turns.as_slice()) {
-        Ok(rehearsed) => Ok(rehearsed),
+    match sessions_of(alloc, scripts.as_slice(), sinks) {
+        Ok(sessions) => Ok(Prepared { sessions, turns }),
         Err(NoMemory) => Err(without_source(ExitCode::NoMemory)),
+    }
+}
+
+/// Opens an engine over the disk, and runs the sessions.
+fn run_over<C: Drop, S: Sink, D: Disk>(
+    alloc: Global,
+    prepared: Prepared<S>,
+    disk: D,
+) -> Result<Rehearsal<S, D>, Stop<C, D>>
+    requires few { length prepared.sessions ≤ 32 }
+    requires turns { All (IsSession (length prepared.sessions)) prepared.turns }
+    ensures ends { IfOk result (λ r. AreEnds S.held S.faults prepared.sessions r.history r.ends) }
+    ensures paced { IfOk result (λ r. Paced (length prepared.sessions) prepared.turns r.history) }
+    ensures legal { IfOk result (λ r. Legal (Build r.recovered (length prepared.sessions)) r.history) }
+    ensures disk { IfOk result (λ r. (told : Option (List ℕ)) → IsEntry D.as_medium told disk → RanOver D.as_medium told (length prepared.sessions) r.recovered r.history r.disk) }
+    ensures stops { IfErr result (λ stop. (told : Option (List ℕ)) → IsEntry D.as_medium told disk → StopsOver Unopened D.as_medium told stop.halt.code stop.disk) }
+    ensures source { IfErr result (λ stop. stop.halt.source ≡ None) }
+{
+    let Prepared { sessions, turns } = prepared;
+    match open(alloc, disk, sessions.len() as u32) {
+        Ok(engine) => {
+            let ran = run_sessions(sessions, engine, turns.as_slice());
+            Ok(Rehearsal {
+                ends: ran.ends,
+                recovered: ran.recovered,
+                history: ran.history,
+                disk: ran.keeper.into_journal().into_disk(),
+            })
+        }
+        Err(fault) => Err(with_disk(code_of_open(fault.why), fault.disk)),
     }
 }
 
@@ -63,7 +149,9 @@ fn read_turns<H: Host>(
     ensures read { IfOk result (λ turns. AreTurns (H.bytes host.old) words.now (length words.now - 3) turns) }
     ensures stops { IfErr result (λ halt. Stops (Some Rehearse) (H.bytes host.old) words.now (Rises (H.faults host.old) (H.faults host.new) ⊎ IsSomeAnd halt.source (λ s. 0 < H.Source.faults s)) halt.code) }
     ensures source { IfErr result (λ halt. IfSome halt.source (λ s. IsHostFault halt.code × (0 < H.Source.faults s))) }
+    ensures no_disk { IfErr result (λ halt. NeedsNone halt.code) }
     ensures same { (w : List ℕ) → H.bytes host.new w ≡ H.bytes host.old w }
+    ensures same_disks { (w : List ℕ) → H.disk_bytes host.new w ≡ H.disk_bytes host.old w }
     ensures counted { H.faults host.old ≤ H.faults host.new }
     ensures opened { OnOk result (H.calls host.new ≡ with_steps (H.calls host.old) (source_at words.now 2 ∷ [])) }
     ensures called { IfErr result (λ halt. CallsInOrder (H.calls host.old) (H.calls host.new) (source_at words.now 2 ∷ []) (own_fault halt.code halt.source)) }

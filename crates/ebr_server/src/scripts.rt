@@ -1,6 +1,6 @@
 //! Reads the scripts of a rehearsal, and makes the sinks of their sessions.
 
-ghost use Rattle.std.specs.Prelude.{◌≡◌, ◌-◌, ◌<◌, ◌≤◌, ◌⊎◌, ℕ, List, [], ◌∷◌, None, length, IfErr, IfOk, IfSome, IsSomeAnd, OnOk};
+ghost use Rattle.std.specs.Prelude.{◌≡◌, ◌-◌, ◌<◌, ◌≤◌, ◌⊎◌, ℕ, List, [], ◌∷◌, length, IfErr, IfOk, IfSome, IsSomeAnd, OnOk};
 ghost use Rattle.ebr_faults.specs.Faults.{Rises};
 ghost use Rattle.ebr_worker.specs.Runs.{IsUnwritten};
 ghost use Rattle.ebr_words.specs.Words.{out_word};
@@ -31,6 +31,7 @@ pub fn read_scripts<H: Host>(
     ensures fails { IfErr result (λ halt. FailsFrom (H.bytes host.old) words.now 3 (Rises (H.faults host.old) (H.faults host.new) ⊎ IsSomeAnd halt.source (λ s. 0 < H.Source.faults s)) halt.code) }
     ensures source { IfErr result (λ halt. IfSome halt.source (λ s. IsHostFault halt.code × (0 < H.Source.faults s))) }
     ensures same { (w : List ℕ) → H.bytes host.new w ≡ H.bytes host.old w }
+    ensures same_disks { (w : List ℕ) → H.disk_bytes host.new w ≡ H.disk_bytes host.old w }
     ensures counted { H.faults host.old ≤ H.faults host.new }
     ensures opened { OnOk result (H.calls host.new ≡ with_steps (H.calls host.old) (steps_from (source_at words.now) 3 (length words.now - 3))) }
     ensures called { IfErr result (λ halt. CallsInOrder (H.calls host.old) (H.calls host.new) (steps_from (source_at words.now) 3 (length words.now - 3)) (own_fault halt.code halt.source)) }
@@ -57,6 +58,7 @@ fn read_more<H: Host>(
     ensures fails { IfErr result (λ halt. Fails (H.bytes host.old) words.now word (Rises (H.faults host.old) (H.faults host.new) ⊎ IsSomeAnd halt.source (λ s. 0 < H.Source.faults s)) halt.code) }
     ensures source { IfErr result (λ halt. IfSome halt.source (λ s. IsHostFault halt.code × (0 < H.Source.faults s))) }
     ensures same { (w : List ℕ) → H.bytes host.new w ≡ H.bytes host.old w }
+    ensures same_disks { (w : List ℕ) → H.disk_bytes host.new w ≡ H.disk_bytes host.old w }
     ensures counted { H.faults host.old ≤ H.faults host.new }
     ensures opened { OnOk result (H.calls host.new ≡ with_steps (H.calls host.old) (source_at words.now word ∷ [])) }
     ensures called { IfErr result (λ halt. CallsInOrder (H.calls host.old) (H.calls host.new) (source_at words.now word ∷ []) (own_fault halt.code halt.source)) }
@@ -81,6 +83,7 @@ pub fn make_sinks<H: Host>(
     ensures made { IfOk result (λ sinks. AreUnwritten H.Sink.held H.Sink.faults 3 (length words.now) sinks.items) }
     ensures fails { IfErr result (λ code. MakesNone words.now 3 (Rises (H.faults host.old) (H.faults host.new)) code) }
     ensures same { (w : List ℕ) → H.bytes host.new w ≡ H.bytes host.old w }
+    ensures same_disks { (w : List ℕ) → H.disk_bytes host.new w ≡ H.disk_bytes host.old w }
     ensures counted { H.faults host.old ≤ H.faults host.new }
     ensures opened { OnOk result (H.calls host.new ≡ with_steps (H.calls host.old) (steps_from (sink_at words.now) 3 (length words.now - 3))) }
     ensures called { IfErr result (λ code. CallsInOrder (H.calls host.old) (H.calls host.new) (steps_from (sink_at words.now) 3 (length words.now - 3)) (fault_at code)) }
@@ -107,6 +110,7 @@ fn make_sink<H: Host>(
     ensures made { IfOk result (λ sink. IsUnwritten H.Sink.held H.Sink.faults sink) }
     ensures fails { IfErr result (λ code. MakesNone words.now 3 (Rises (H.faults host.old) (H.faults host.new)) code) }
     ensures same { (w : List ℕ) → H.bytes host.new w ≡ H.bytes host.old w }
+    ensures same_disks { (w : List ℕ) → H.disk_bytes host.new w ≡ H.disk_bytes host.old w }
     ensures counted { H.faults host.old ≤ H.faults host.new }
     ensures opened { OnOk result (H.calls host.new ≡ with_steps (H.calls host.old) (sink_at words.now word ∷ [])) }
     ensures called { IfErr result (λ code. CallsInOrder (H.calls host.old) (H.calls host.new) (sink_at words.now word ∷ []) (fault_at code)) }

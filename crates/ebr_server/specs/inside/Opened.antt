@@ -1,15 +1,20 @@
 -- What comes of opening what a word names.
-use Rattle.std.specs.Prelude.{ℕ, ◌≡◌, ◌+◌, ◌<◌, ◌≤◌, ◌⊎◌, All, false, List, ◌∷◌, [], ◌++◌, length, map, Option, Some, None}
+use Rattle.std.specs.Prelude.{ℕ, ◌≡◌, ◌+◌, ◌<◌, ◌≤◌, ◌⊎◌, All, Bool, false, List, ◌∷◌, [], ◌++◌, length, map, Option, Some, None}
 use Rattle.ebr_faults.specs.Faults.{one_more}
 use Rattle.ebr_outside.specs.declared.host_call.HostCall.{HostCall}
 use Rattle.ebr_server.specs.declared.exit.ExitCode.{ExitCode}
 use Rattle.ebr_server.specs.declared.exit.ExitCode.TheVariants as code
+use Rattle.ebr_words.specs.declared.words.Command.TheVariants as command
 use Rattle.ebr_order.specs.Order.{turns_of, wrong_at}
 use Rattle.ebr_base.specs.declared.numbers.SessionId.{SessionId}
 use Rattle.ebr_worker.specs.Runs.{IsUnwritten}
-use Rattle.ebr_asks.specs.declared.entry.Entry.{Entry}
-use Rattle.ebr_report.specs.declared.ends.SessionEnd.{SessionEnd}
-use Rattle.ebr_server.specs.Program.{IsBehind, IsLong, IsOrder, IsShort, NoneRan, ScriptRan, Step, call_of, most}
+use Rattle.ebr_startup.specs.declared.why.OpenWhy.{OpenWhy}
+use Rattle.ebr_startup.specs.declared.why.OpenWhy.TheVariants as why
+use Rattle.ebr_outside.specs.Disk.{Medium}
+use Rattle.ebr_record.specs.declared.record.Record.{Record}
+use Rattle.ebr_dump.specs.Dump.{Dump}
+use Rattle.ebr_server.specs.Disks.{DiskStops, Leaves, WasReadOff}
+use Rattle.ebr_server.specs.Program.{AreScripts, Handed, IsBehind, IsLong, IsOrder, IsShort, NoneRan, Outside, ScriptRan, Step, Tells, call_of, code_of_lines, journal_place, most}
 
 -- the calls, and then those of steps that came through, where they are told
 abbrev pub with_steps : Option (List HostCall) → List Step → Option (List HostCall)
@@ -51,6 +56,12 @@ MakesNone words first fails (code.HostFault w) = (first ≤ w) × (w < length wo
 MakesNone words first fails code.NoMemory = Unit {0}
 MakesNone words first fails c = ⊥
 
+-- why the journal's disk wasn't opened
+abbrev pub OpensNone : Type 0 → ExitCode → Type 0
+OpensNone fails (code.HostFault w) = (w ≡ journal_place) × fails
+OpensNone fails code.NoMemory = Unit {0}
+OpensNone fails c = ⊥
+
 -- sinks of the words from one place up to another, in which nothing is written
 pub record AreUnwritten {S : Type 0} (held : S → Option (List ℕ)) (faults : S → ℕ) (first last : ℕ) (sinks : List S) : Type 0 where
   pub count : first + length sinks ≡ last
@@ -82,5 +93,35 @@ abbrev pub WantsMemory : ExitCode → Type 0
 WantsMemory c = c ≡ code.NoMemory
 
 -- A script was run, or its session found no memory to begin.
-abbrev pub ScriptServed : {S : Type 0} → List ℕ → List (List ℕ) → ExitCode → List Entry → List (SessionEnd S) → ℕ → Option (List ℕ) → Type 0
-ScriptServed script words c history ends faults held = NoneRan WantsMemory words c history ends faults held ⊎ ScriptRan script words c history ends faults held
+abbrev pub ScriptServed : {S D : Type 0} → Outside S D → List ℕ → List (List ℕ) → Handed S D → Type 0
+ScriptServed o script words run = NoneRan WantsMemory (Leaves (Some command.Try)) o words run ⊎ ScriptRan script words run
+
+-- The lines of a journal were written, or a write of them failed.
+pub record LinesTold (words : List (List ℕ)) (lines : List ℕ) (c : ExitCode) (faults : ℕ) (held : Option (List ℕ)) : Type 0 where
+  pub unwritten : Bool
+  pub is_code : c ≡ code_of_lines unwritten
+  pub tells : Tells words lines unwritten c faults held
+
+-- The lines are those of records that were read off the disk.
+pub record ReadsOff {D : Type 0} (as_medium : D → Medium) (told : Option (List ℕ)) (lines : List ℕ) (now : D) : Type 0 where
+  pub records : List Record
+  pub read : WasReadOff as_medium told records now
+  pub lines_are : lines ≡ Dump records
+
+-- A rehearsal whose order and scripts are read, and whose sessions have sinks.
+pub record IsPrepared (bytes : List ℕ → Option (List ℕ)) (words scripts : List (List ℕ)) (turns : List SessionId) : Type 0 where
+  pub are_scripts : AreScripts bytes words 3 (length words) scripts
+  pub order : List ℕ
+  pub is_order : IsOrder bytes words (length scripts) order
+  pub turns_are : turns ≡ turns_of order
+
+-- why no engine is opened over a disk, as a code, and what became of the disk
+abbrev pub code_of_open : OpenWhy → ExitCode
+code_of_open why.DiskFault = code.DiskFault
+code_of_open (why.Damaged at) = code.Damaged at
+code_of_open why.NoMemory = code.NoMemory
+
+pub record StopsOver {D : Type 0} (Left : Medium → OpenWhy → Medium → Type 0) (as_medium : D → Medium) (told : Option (List ℕ)) (c : ExitCode) (disk : Option D) : Type 0 where
+  pub cause : OpenWhy
+  pub is_code : c ≡ code_of_open cause
+  pub stays : DiskStops Left as_medium told c disk

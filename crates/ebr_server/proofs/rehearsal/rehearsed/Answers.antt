@@ -1,37 +1,59 @@
-use Rattle.std.proofs.Common.{None, arith, rules}
-use Rattle.ebr_server.proofs.Calls.{all_called, all_opened, fault_of, order_called, scripts_called, sinks_called, without_own}
-use Rattle.ebr_server.proofs.InTurns.{sessions_ran, sink_stops, turns_fit}
-use Rattle.ebr_server.proofs.InWords.{scripts_told}
+use Rattle.std.proofs.Common.{◌<◌, ◌⊎◌, Some, sym, subst}
+use Rattle.std.specs.Prelude.{IsSomeAnd}
+use Rattle.ebr_faults.specs.Faults.{Rises}
+use Rattle.ebr_words.specs.declared.words.Command.TheVariants.{Rehearse}
+use Rattle.ebr_startup.specs.Opened.{Unopened}
+use Rattle.ebr_server.specs.Disks.{IsEntry}
+use Rattle.ebr_server.specs.Program.{CallsInOrder, IsHostFault, journal_place, order_of_work, outside, own_fault, word_at}
+use Rattle.ebr_server.proofs.Calls.{before_called, disk_opened}
+use Rattle.ebr_server.proofs.InTurns.{few_sessions, turns_fit}
+use Rattle.ebr_server.proofs.Rehearsing.{all_ran, either_opened, late_called, late_disk, late_stops, no_source, over_called, over_disk, over_stops}
 use Rattle.ebr_server.proofs.rehearsal.rehearsed.Goals as goal
 
-pub returns-in-Err-make_sinks-clause-stops : goal.returns-in-Err-make_sinks-clause-stops
-returns-in-Err-make_sinks-clause-stops g c =
-    let are = scripts_told (g.H.Host.bytes c.args.host.now) (g.H.Host.bytes c.read_turns.new.host) c.args.words.now _ _ c.read_turns.ensures.same c.in-Ok-read_scripts.ensures.read in
-    sink_stops (g.H.Host.bytes c.args.host.now) c.args.words.now _ c.in-Ok.ensures.read _ _ _ _ _ _ _ are (omega (arith, c.read_turns.ensures.counted, c.read_scripts.ensures.counted)) c.in-Err-make_sinks.ensures.fails c.without_source.ensures.code
+pub run_over-requires-clause-few : goal.run_over-requires-clause-few
+run_over-requires-clause-few g c = few_sessions _ _ _ _ c.in-Ok.ensures.prepared c.requires.few
 
-pub run_sessions-requires-clause-order : goal.run_sessions-requires-clause-order
-run_sessions-requires-clause-order g c =
-    let are = scripts_told (g.H.Host.bytes c.args.host.now) (g.H.Host.bytes c.read_turns.new.host) c.args.words.now _ _ c.read_turns.ensures.same c.in-Ok-read_scripts.ensures.read in
-    rw (c.as_slice.ensures, c.as_slice-2.ensures) (turns_fit (g.H.Host.bytes c.args.host.now) c.args.words.now _ c.in-Ok.ensures.read _ are)
-
-pub returns-in-Ok-run_sessions-clause-ran : goal.returns-in-Ok-run_sessions-clause-ran
-returns-in-Ok-run_sessions-clause-ran g c =
-    let are = scripts_told (g.H.Host.bytes c.args.host.now) (g.H.Host.bytes c.read_turns.new.host) c.args.words.now _ _ c.read_turns.ensures.same c.in-Ok-read_scripts.ensures.read in
-    sessions_ran (g.H.Host.bytes c.args.host.now) c.args.words.now _ c.in-Ok.ensures.read g.H.Sink.Sink.held g.H.Sink.Sink.faults _ _ _ are (rw c.as_slice.ensures at c.in-Ok-run_sessions.ensures.ends) (rw (c.as_slice.ensures, c.as_slice-2.ensures) at c.in-Ok-run_sessions.ensures.paced)
+pub run_over-requires-clause-turns : goal.run_over-requires-clause-turns
+run_over-requires-clause-turns g c = turns_fit _ _ _ _ c.in-Ok.ensures.prepared
 
 pub returns-in-Err-clause-called : goal.returns-in-Err-clause-called
-returns-in-Err-clause-called g c = order_called c.args.words.now _ _ _ c.in-Err.ensures.called
+returns-in-Err-clause-called g c =
+    subst (λ h. CallsInOrder (g.H.Host.calls c.args.host.now) (g.H.Host.calls c.prepare.new.host) (order_of_work (Some Rehearse) c.args.words.now) (own_fault h.code h.source)) (sym c.without_disk.ensures.halt)
+    (before_called c.args.words.now _ _ _ c.in-Err.ensures.called)
 
-pub returns-in-Err-read_scripts-clause-called : goal.returns-in-Err-read_scripts-clause-called
-returns-in-Err-read_scripts-clause-called g c = scripts_called c.args.words.now _ _ _ _ c.in-Ok.ensures.opened c.in-Err-read_scripts.ensures.called
+pub returns-in-Ok-open_disk-clause-ran : goal.returns-in-Ok-open_disk-clause-ran
+returns-in-Ok-open_disk-clause-ran g c =
+    let entry = subst (λ told. IsEntry g.H.Disk.Disk.as_medium told c.in-Ok-open_disk.disk) (c.prepare.ensures.same_disks (word_at c.args.words.now journal_place)) c.in-Ok-open_disk.ensures.entry in
+    all_ran (outside (g.H.Host.bytes c.args.host.now) (g.H.Host.disk_bytes c.args.host.now) g.H.Sink.Sink.held g.H.Sink.Sink.faults g.H.Disk.Disk.as_medium) c.args.words.now _ _ c.in-Ok.ensures.prepared c.in-Ok-open_disk.disk entry c.run_over.result c.run_over.ensures.ends c.run_over.ensures.paced c.run_over.ensures.legal c.run_over.ensures.disk
 
-pub returns-in-Err-make_sinks-clause-called : goal.returns-in-Err-make_sinks-clause-called
-returns-in-Err-make_sinks-clause-called g c =
-    without_own _ _ _ _ _ _ c.without_source.ensures.source c.without_source.ensures.code (sinks_called c.args.words.now _ _ _ _ _ c.in-Ok.ensures.opened c.in-Ok-read_scripts.ensures.opened c.in-Err-make_sinks.ensures.called)
+pub returns-in-Ok-open_disk-clause-stops : goal.returns-in-Ok-open_disk-clause-stops
+returns-in-Ok-open_disk-clause-stops g c =
+    let entry = subst (λ told. IsEntry g.H.Disk.Disk.as_medium told c.in-Ok-open_disk.disk) (c.prepare.ensures.same_disks (word_at c.args.words.now journal_place)) c.in-Ok-open_disk.ensures.entry in
+    over_stops (outside (g.H.Host.bytes c.args.host.now) (g.H.Host.disk_bytes c.args.host.now) g.H.Sink.Sink.held g.H.Sink.Sink.faults g.H.Disk.Disk.as_medium) c.args.words.now _ _ c.in-Ok.ensures.prepared c.in-Ok-open_disk.disk entry
+    (λ stop. Rises (g.H.Host.faults c.args.host.now) (g.H.Host.faults c.open_disk.new.host) ⊎ IsSomeAnd stop.halt.source (λ s. 0 < g.H.Source.Source.faults s)) c.run_over.result c.run_over.ensures.stops
 
-pub returns-in-Ok-run_sessions-clause-opened : goal.returns-in-Ok-run_sessions-clause-opened
-returns-in-Ok-run_sessions-clause-opened g c = all_opened c.args.words.now _ _ _ _ c.in-Ok.ensures.opened c.in-Ok-read_scripts.ensures.opened c.in-Ok-make_sinks.ensures.opened
+pub returns-in-Ok-open_disk-clause-source : goal.returns-in-Ok-open_disk-clause-source
+returns-in-Ok-open_disk-clause-source g c = no_source (λ s code. IsHostFault code × (0 < g.H.Source.Source.faults s)) c.run_over.result c.run_over.ensures.source
 
-pub returns-clause-called : goal.returns-clause-called
-returns-clause-called g c =
-    all_called _ _ _ _ (all_opened c.args.words.now _ _ _ _ c.in-Ok.ensures.opened c.in-Ok-read_scripts.ensures.opened c.in-Ok-make_sinks.ensures.opened) (fault_of _ _ None (search rules) (search rules))
+pub returns-in-Ok-open_disk-clause-disk : goal.returns-in-Ok-open_disk-clause-disk
+returns-in-Ok-open_disk-clause-disk g c =
+    let entry = subst (λ told. IsEntry g.H.Disk.Disk.as_medium told c.in-Ok-open_disk.disk) (c.prepare.ensures.same_disks (word_at c.args.words.now journal_place)) c.in-Ok-open_disk.ensures.entry in
+    over_disk (outside (g.H.Host.bytes c.args.host.now) (g.H.Host.disk_bytes c.args.host.now) g.H.Sink.Sink.held g.H.Sink.Sink.faults g.H.Disk.Disk.as_medium) c.args.words.now _ _ c.in-Ok.ensures.prepared c.in-Ok-open_disk.disk entry c.run_over.result c.run_over.ensures.stops
+
+pub returns-in-Ok-open_disk-clause-opened : goal.returns-in-Ok-open_disk-clause-opened
+returns-in-Ok-open_disk-clause-opened g c = either_opened c.run_over.result _ (disk_opened c.args.words.now _ _ _ c.in-Ok.ensures.opened c.in-Ok-open_disk.ensures.opened)
+
+pub returns-in-Ok-open_disk-clause-called : goal.returns-in-Ok-open_disk-clause-called
+returns-in-Ok-open_disk-clause-called g c =
+    let entry = subst (λ told. IsEntry g.H.Disk.Disk.as_medium told c.in-Ok-open_disk.disk) (c.prepare.ensures.same_disks (word_at c.args.words.now journal_place)) c.in-Ok-open_disk.ensures.entry in
+    over_called (outside (g.H.Host.bytes c.args.host.now) (g.H.Host.disk_bytes c.args.host.now) g.H.Sink.Sink.held g.H.Sink.Sink.faults g.H.Disk.Disk.as_medium) c.args.words.now _ _ c.in-Ok.ensures.prepared c.in-Ok-open_disk.disk entry _ _ _ c.run_over.result (disk_opened c.args.words.now _ _ _ c.in-Ok.ensures.opened c.in-Ok-open_disk.ensures.opened) c.run_over.ensures.source c.run_over.ensures.stops
+
+pub returns-in-Err-open_disk-clause-stops : goal.returns-in-Err-open_disk-clause-stops
+returns-in-Err-open_disk-clause-stops g c = late_stops _ _ _ c.without_disk-in-Err-open_disk.ensures.halt c.without_source.ensures.code c.without_source.ensures.source c.without_disk-in-Err-open_disk.ensures.disk (g.H.Host.bytes c.args.host.now) c.args.words.now _ _ c.in-Ok.ensures.prepared _ _ _ _ c.requires.some c.prepare.ensures.counted c.in-Err-open_disk.ensures.fails
+
+pub returns-in-Err-open_disk-clause-disk : goal.returns-in-Err-open_disk-clause-disk
+returns-in-Err-open_disk-clause-disk g c =
+    late_disk _ _ _ c.without_disk-in-Err-open_disk.ensures.halt c.without_source.ensures.code c.without_source.ensures.source c.without_disk-in-Err-open_disk.ensures.disk Unopened g.H.Disk.Disk.as_medium (g.H.Host.disk_bytes c.args.host.now (word_at c.args.words.now journal_place)) _ c.in-Err-open_disk.ensures.fails
+
+pub returns-in-Err-open_disk-clause-called : goal.returns-in-Err-open_disk-clause-called
+returns-in-Err-open_disk-clause-called g c = late_called _ _ _ c.without_disk-in-Err-open_disk.ensures.halt c.without_source.ensures.code c.without_source.ensures.source c.without_disk-in-Err-open_disk.ensures.disk c.args.words.now _ _ _ c.in-Ok.ensures.opened c.in-Err-open_disk.ensures.called

@@ -5,3 +5,6 @@ returns-in-HostFault-clause-part g c = rw (c.in-HostFault.is, ← c.word_at.ensu
 
 pub returns-in-HostFault-clause-whole : goal.returns-in-HostFault-clause-whole
 returns-in-HostFault-clause-whole g c = rw (c.in-HostFault.is, ← c.word_at.ensures) c.write_line-in-HostFault.ensures.whole
+
+pub returns-in-BadOrder-clause-whole : goal.returns-in-BadOrder-clause-whole
+returns-in-BadOrder-clause-whole g c = rw (c.in-BadOrder.is, ← c.from.ensures) c.write_numbered-in-BadOrder.ensures.whole

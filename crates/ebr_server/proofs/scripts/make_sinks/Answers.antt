@@ -21,6 +21,7 @@ loop-word-preserved g c =
       from = omega (arith, c.loop-word.invariant.from);
       sinks = sinks_more g.H.Sink.Sink.held g.H.Sink.Sink.faults c.loop-word.word _ _ c.in_ok-sink.sink c.loop-word.invariant.sinks added c.in_ok-sink.ensures.made;
       same = λ w. c.make_sink.ensures.same w ∙ c.loop-word.invariant.same w;
+      same_disks = λ w. c.make_sink.ensures.same_disks w ∙ c.loop-word.invariant.same_disks w;
       counted = omega (arith, c.loop-word.invariant.counted, c.make_sink.ensures.counted);
       called = step_more (sink_at c.args.words.now) _ _ _ c.loop-word.word c.loop-word.invariant.from c.loop-word.invariant.called c.in_ok-sink.ensures.opened;
     }

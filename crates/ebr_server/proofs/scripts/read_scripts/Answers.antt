@@ -17,6 +17,7 @@ loop-word-preserved g c = record {
   from = omega (arith, c.loop-word.invariant.from);
   scripts = scripts_more (g.H.Host.bytes c.args.host.now) (g.H.Host.bytes c.loop-word.host) c.args.words.now c.loop-word.word _ _ c.loop-word.invariant.same c.loop-word.invariant.scripts c.in_default.ensures.read;
   same = λ w. c.read_more.ensures.same w ∙ c.loop-word.invariant.same w;
+  same_disks = λ w. c.read_more.ensures.same_disks w ∙ c.loop-word.invariant.same_disks w;
   counted = omega (arith, c.loop-word.invariant.counted, c.read_more.ensures.counted);
   called = step_more (source_at c.args.words.now) _ _ _ c.loop-word.word c.loop-word.invariant.from c.loop-word.invariant.called c.in_default.ensures.opened;
 }

@@ -1,0 +1,31 @@
+//! The lines of a journal.
+
+ghost use Rattle.std.specs.Prelude.{◌≡◌, ℕ, List, None, Option, IfErr, IfOk};
+ghost use Rattle.ebr_server.specs.Disks.{IsEntry, Unread};
+ghost use Rattle.ebr_server.specs.inside.Opened.{ReadsOff, StopsOver};
+
+use crate::codes::code_of_open;
+use crate::exit::ExitCode;
+use crate::opened::{Stop, with_disk};
+use ebr_base::{Bytes, NoMemory};
+use ebr_dump::dump;
+use ebr_outside::Disk;
+use ebr_startup::read;
+use std::alloc::Global;
+
+/// The lines of the records on a disk, and the disk.
+pub fn lines<C: Drop, D: Disk>(alloc: Global, disk: D) -> Result<(Bytes, D), Stop<C, D>>
+    ensures lines { IfOk result (λ r. (told : Option (List ℕ)) → IsEntry D.as_medium told disk → ReadsOff D.as_medium told r.0 r.1) }
+    ensures stops { IfErr result (λ stop. (told : Option (List ℕ)) → IsEntry D.as_medium told disk → StopsOver Unread D.as_medium told stop.halt.code stop.disk) }
+    ensures source { IfErr result (λ stop. stop.halt.source ≡ None) }
+{
+    let mut disk = disk;
+    let records = match read(alloc, &mut disk) {
+        Ok(records) => records,
+        Err(why) => return Err(with_disk(code_of_open(why), disk)),
+    };
+    match dump(alloc, records.as_slice()) {
+        Ok(lines) => Ok((lines, disk)),
+        Err(NoMemory) => Err(with_disk(ExitCode::NoMemory, disk)),
+    }
+}
