@@ -1,5 +1,5 @@
 -- The histories of the worked scripts, which the machine replays.
-use Rattle.std.proofs.Common.{◌≡◌, ℕ, ◌+◌, ◌≤◌, true, false, codes, List, [], ◌∷◌, ◌++◌, length, map, refl, sym, ap, ◌∙◌, subst, arith}
+use Rattle.std.proofs.Common.{◌≡◌, ℕ, ◌+◌, ◌≤◌, Bool, true, false, ◌&&◌, codes, List, [], ◌∷◌, ◌++◌, length, map, refl, sym, ap, ◌∙◌, subst, arith}
 use Rattle.std.specs.Prelude.{Some, None, nat_le}
 use Rattle.ebr_base.specs.declared.numbers.EditionNo.{EditionNo}
 use Rattle.ebr_ast.specs.declared.definition.Definition.{Definition}
@@ -26,7 +26,7 @@ use Rattle.ebr_seats.specs.Ends.{unchanged}
 use Rattle.ebr_core.specs.Asked.{max_text}
 use Rattle.ebr_core.specs.Records.{catalogue_of, with_stored}
 use Rattle.ebr_core.specs.Machine.{Reply, creation_answer}
-use Rattle.ebr_core.specs.History.{Answered, IsLive, Legal}
+use Rattle.ebr_core.specs.History.{Answered, IsLive, Legal, is_light, left_by, wants}
 use Rattle.ebr_servertests.specs.WorkedScripts.{procedure, the_session, start}
 use Rattle.ebr_servertests.proofs.Databases.{outside, inside, left_from, begins, ends, sets, defines, leaves, first_fits, edition_fits, second_fits}
 use Rattle.ebr_servertests.proofs.Valid.{made_in, seeing, procedure_is_valid}
@@ -41,16 +41,21 @@ entry x = record { session = the_session; ask = x.ask; answer = x.answer }
 abbrev pub history_of : List Exchange → List Entry
 history_of before = map entry (before ++ exchanged Leave Done ∷ [])
 
-answered_so : (x reply : Answer) (on stopped : Type 0) → Continues x → x ≡ reply → on → Answered x reply on stopped
-answered_so (View v) reply on stopped goes same rest = (same, rest)
-answered_so (Rows rows) reply on stopped goes same rest = (same, rest)
-answered_so (Count n s l) reply on stopped goes same rest = (same, rest)
-answered_so Done reply on stopped goes same rest = (same, rest)
-answered_so Invalid reply on stopped goes same rest = (same, rest)
-answered_so (Refused c s l) reply on stopped goes same rest = (same, rest)
-answered_so DiskFault reply on stopped goes same rest = absurd goes
-answered_so NoMemory reply on stopped goes same rest = absurd goes
-answered_so Stopped reply on stopped goes same rest = absurd goes
+answered_so : (x reply : Answer) (light : Bool) (on stopped : Type 0) → Continues x → x ≡ reply → on → Answered (wants x && light) x reply on stopped
+answered_so (View v) reply light on stopped goes same rest = (same, rest)
+answered_so (Rows rows) reply light on stopped goes same rest = (same, rest)
+answered_so (Count n s l) reply light on stopped goes same rest = (same, rest)
+answered_so Done reply light on stopped goes same rest = (same, rest)
+answered_so Invalid reply light on stopped goes same rest = (same, rest)
+answered_so (Refused c s l) reply light on stopped goes same rest = (same, rest)
+answered_so DiskFault reply light on stopped goes same rest = absurd goes
+answered_so NoMemory reply light on stopped goes same rest = absurd goes
+answered_so Stopped reply light on stopped goes same rest = absurd goes
+
+not_idle : (x : Answer) (light : Bool) → Continues x → (wants x && light) ≡ false
+not_idle DiskFault light goes = refl
+not_idle NoMemory light goes = absurd goes
+not_idle x light goes = refl
 
 -- a history that is legal from this database on
 record Replays (db : Database) (h : List Entry) : Type 0 where
@@ -62,8 +67,12 @@ ended db = record { legal = tt }
 -- one ask that the machine answers so
 asked : {db db' : Database} {ask : Ask} {x : Answer} {records : List Record} {h : List Entry} → IsLive db the_session → Continues x
     → Reply db the_session ask ≡ record { database = db'; answer = x; records = records; questions = [] } → Replays db' h → Replays db (entry (exchanged ask x) ∷ h)
-asked {h = h} live goes is rest = record {
-  legal = (live, answered_so _ _ _ _ goes (sym (ap (λ (r : Replied). r.answer) is)) (subst (λ d. Legal d h) (sym (ap (λ (r : Replied). r.database) is)) rest.legal));
+asked {db = db} {ask = ask} {x = x} {h = h} live goes is rest = record {
+  legal = (
+    live,
+    answered_so x _ (is_light ask) _ _ goes (sym (ap (λ (r : Replied). r.answer) is))
+        (subst (λ d. Legal d h) (sym (ap (λ b. left_by b db (Reply db the_session ask).database) (not_idle x (is_light ask) goes) ∙ ap (λ (r : Replied). r.database) is)) rest.legal),
+  );
 }
 
 abbrev pub name_a : List ℕ

@@ -9,6 +9,8 @@ mod faults;
 #[cfg(test)]
 mod history;
 #[cfg(test)]
+mod journals;
+#[cfg(test)]
 mod large;
 #[cfg(test)]
 mod limits;

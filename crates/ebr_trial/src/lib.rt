@@ -1,13 +1,16 @@
 //! Runs scripts through `serve` over a host in memory, for `ebr_cases` and `ebr_servertests`.
 //!
 //! What is used above: `served` hands back what a run of one script came to, and `prints` compares a script's replies; `rehearsed` hands
-//! back what a rehearsal came to, and `came_to` compares its replies and its report. No contract is given: those above state what they
+//! back what a rehearsal came to, and `came_to` compares its replies and its report; `rehearsed_over`, `rehearsed_on` and `dumped` do so over a
+//! journal of given bytes, and `disk_is` and `dumps` compare what is left and what is written. No contract is given: those above state what they
 //! want.
 #![tactic(auto)]
 
+mod journals;
 mod rehearsals;
 mod trial;
 
+pub use journals::{DUMP, disk_is, dumped, dumps, journal, rehearsed_on, rehearsed_over};
 pub use rehearsals::{
     Stop, came_to, failing_sink, failing_source, file, rehearse_words, rehearsed, stops,
 };

@@ -1,11 +1,11 @@
 //! Runs a script over a host in memory, byte for byte.
 
 use ebr_base::{Bytes, List, NoMemory};
-use ebr_outside::{Fail, MemFile, MemHost, MemSink, MemSource};
+use ebr_outside::{Fail, MemDisk, MemFile, MemHost, MemSink, MemSource};
 use ebr_server::{ExitCode, Outcome, serve};
 use std::alloc::Global;
 
-pub type MemOutcome = Outcome<MemSource, MemSink, MemSink>;
+pub type MemOutcome = Outcome<MemSource, MemSink, MemSink, MemDisk>;
 
 /// The words of `try s.sql`.
 pub const TRY: &[&[u8]] = &[b"try", b"s.sql"];

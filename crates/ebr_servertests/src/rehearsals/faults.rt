@@ -70,12 +70,12 @@ fn host_fault(word: u32, report: &'static [u8]) -> Stop {
 fn host_stops(alloc: Global, host: Option<Fail>, stop: Stop) -> Result<bool, NoMemory> {
     let files = three_files(alloc)?;
     let outcome = rehearsed(alloc, rehearse_words(3), files, None, host)?;
-    let so = stop.is(&outcome) && outcome.source.is_none();
+    let so = stop.is(&outcome) && outcome.source.is_none() && outcome.disk.is_none();
     release(outcome);
     Ok(so)
 }
 
-/// The order is opened first, then the scripts, and then the sinks are made. A sink's word is that of its script.
+/// The order is opened first, then the scripts, then the sinks are made, and the journal is opened last. A sink's word is that of its script.
 #[test]
 fn a_host_that_fails_is_a_host_fault_of_the_word(rt: HostRuntime) -> Result<(), TestFail> {
     let alloc = rt.alloc();
@@ -86,6 +86,7 @@ fn a_host_that_fails_is_a_host_fault_of_the_word(rt: HostRuntime) -> Result<(), 
     assert!(rt; host_stops(alloc, at(5), host_fault(3, b"host fault: 1.sql\n"))?);
     assert!(rt; host_stops(alloc, at(6), host_fault(4, b"host fault: 2.sql\n"))?);
     assert!(rt; host_stops(alloc, onward(7), host_fault(5, b"host fault: 3.sql\n"))?);
+    assert!(rt; host_stops(alloc, at(8), host_fault(1, b"host fault: journal\n"))?);
     Ok(())
 }
 
@@ -133,7 +134,7 @@ fn source_stops(alloc: Global, word: &[u8], stop: Stop) -> Result<bool, NoMemory
     };
     let files = blank_files(alloc, word, fail)?;
     let outcome = rehearsed(alloc, rehearse_words(2), files, None, None)?;
-    let so = stop.is(&outcome) && outcome.source.is_some();
+    let so = stop.is(&outcome) && outcome.source.is_some() && outcome.disk.is_none();
     release(outcome);
     Ok(so)
 }

@@ -1,0 +1,5 @@
+//! Journals that are opened, stopped and continued.
+
+mod continued;
+mod damage;
+mod stops;
