@@ -8,6 +8,7 @@ ghost use Rattle.ebr_outside.specs.declared.host.HostErr.TheVariants as variants
 ghost use Rattle.ebr_outside.specs.declared.host_call.HostMethod.TheVariants as method;
 
 use crate::disk::Disk;
+use crate::gate::Gate;
 use crate::sink::Sink;
 use crate::source::Source;
 use ebr_base::{Bytes, NoMemory};
@@ -43,6 +44,8 @@ pub trait Host {
     type Report: Sink;
 
     type Disk: Disk + Send;
+
+    type Gate: Gate;
 
     /// The bytes behind a word, where the host tells them.
     ghost bytes: { Self → List ℕ → Option (List ℕ) };
@@ -110,6 +113,9 @@ pub trait Host {
         ensures same_disks { (w : List ℕ) → disk_bytes self.new w ≡ disk_bytes self.old w }
         ensures uncalled { calls self.new ≡ calls self.old }
         ensures counted { faults self.old ≤ faults self.new };
+
+    /// The gate that the sessions of a run pass.
+    fn gate(&self) -> &Self::Gate;
 
     /// The bytes behind a word are those of its disk.
     ghost disk_of_bytes: { (host : Self) (w : List ℕ) → IfSome (bytes host w) (λ b. disk_bytes host w ≡ Some b) };

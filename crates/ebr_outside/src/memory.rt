@@ -4,6 +4,7 @@ mod crash;
 mod disk;
 mod disk_call;
 mod fail;
+mod files;
 mod host;
 mod sink;
 mod source;

@@ -6,7 +6,7 @@ ghost use Rattle.ebr_words.specs.Words as spec;
 use crate::apart::are_apart;
 use ebr_base::{Bytes, rest_from};
 
-/// The most scripts of a rehearsal.
+/// The most scripts of a command.
 const MAX_SCRIPTS: usize = 32;
 
 /// A command.
@@ -14,6 +14,8 @@ const MAX_SCRIPTS: usize = 32;
 pub enum Command {
     /// `try S`: the script S as one session, whose replies go to the report.
     Try,
+    /// `run J S..`: the scripts as sessions in threads of their own over the journal J.
+    Run,
     /// `rehearse J ORDER S..`: the scripts as sessions side by side over the journal J, in the order that ORDER writes.
     Rehearse,
     /// `dump J`: a line for each record of the journal J.
@@ -36,6 +38,9 @@ pub fn command_of(words: &[Bytes]) -> Option<Command>
     if command.as_slice() == b"rehearse".as_slice() && is_rehearsal(names) {
         return Some(Command::Rehearse);
     }
+    if command.as_slice() == b"run".as_slice() && is_run(names) {
+        return Some(Command::Run);
+    }
     None
 }
 
@@ -57,6 +62,16 @@ fn is_rehearsal(names: &[Bytes]) -> bool
         return false;
     }
     are_named(names) && are_apart(names, rest_from(names, 2))
+}
+
+/// Whether these are a journal and 1 to 32 scripts, and no two of what they name are one.
+fn is_run(names: &[Bytes]) -> bool
+    ensures { result ≡ spec.is_run names.now }
+{
+    if names.len() < 2 || names.len() > 1 + MAX_SCRIPTS {
+        return false;
+    }
+    are_named(names) && are_apart(names, rest_from(names, 1))
 }
 
 /// Whether none of the words is empty.

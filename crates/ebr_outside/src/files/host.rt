@@ -7,6 +7,7 @@ use crate::files::file_number::FileNumber;
 use crate::files::out::OutSink;
 use crate::files::sink::FileSink;
 use crate::files::source::FileSource;
+use crate::gate::OpenGate;
 use crate::host::{Host, HostErr};
 use ebr_base::{Bytes, List};
 use ebr_faults::one_more;
@@ -131,6 +132,8 @@ impl Host for FileHost {
 
     type Disk = FileDisk;
 
+    type Gate = OpenGate;
+
     ghost use Rattle.ebr_outside.specs.Files.{no_faults, one_fault_more};
 
     ghost bytes = { λ h w. None };
@@ -191,6 +194,11 @@ impl Host for FileHost {
         ensures same { self.new ≡ self.old }
     {
         OutSink::new(self.rt)
+    }
+
+    /// It is always open.
+    fn gate(&self) -> &OpenGate {
+        &OpenGate
     }
 }
 

@@ -1,20 +1,20 @@
 //! A host in memory.
 
-ghost use Rattle.std.specs.Prelude.{◌≡◌, [], false, ◌⊎◌, IsTrue, IsErr, IsErrOf, IsNone, IsSomeAnd, IfOk, OnOk, Some};
-ghost use Rattle.std.specs.Option.{option_copied};
-ghost use Rattle.ebr_outside.specs.Memory.{disk_of, failing_writes, file_of, source_of};
+ghost use Rattle.std.specs.Prelude.{◌≡◌, [], ◌⊎◌, IsTrue, IsErr, IsErrOf, IsNone, IsSomeAnd, IfOk, OnOk, Some};
+ghost use Rattle.ebr_outside.specs.Memory.{file_of};
 ghost use Rattle.ebr_outside.specs.declared.host_call.HostMethod.TheVariants as method;
 
+use crate::gate::{Gate, OpenGate};
 use crate::host::{Host, HostErr};
-use crate::host_call::{HostCall, HostMethod};
+use crate::host_call::HostCall;
 use crate::memory::disk::MemDisk;
-use crate::memory::fail::{Calls, Fail};
+use crate::memory::fail::Fail;
+use crate::memory::files::Files;
 use crate::memory::sink::MemSink;
 use crate::memory::source::MemSource;
-use ebr_base::{Bytes, CloneIn, List, NoMemory};
+use ebr_base::{Bytes, List};
 use std::alloc::Global;
 use std::marker::Model;
-use std::mem;
 
 /// A word and the bytes behind it.
 #[derive(Debug, Drop)]
@@ -30,43 +30,37 @@ pub struct MemFile {
 }
 
 /// Files as a host that tells their bytes. Of two files for one word the first counts.
-#[derive(Debug, Drop)]
-pub struct MemHost {
-    alloc: Global,
-    files: List<MemFile>,
-    report: List<Fail>,
-    calls: Calls,
-    made: List<HostCall>,
+#[derive(Drop)]
+pub struct MemHost<G: Gate = OpenGate> {
+    files: Files,
+    gate: G,
 }
 
-impl Model for MemHost {
+impl<G: Gate> Model for MemHost<G> {
     ghost use Rattle.ebr_outside.specs.Memory.{HostState};
 
     ghost Value = { HostState };
 
-    ghost view = { λ h. record { files = h.files; report = h.report; calls = h.calls; made = h.made } };
+    ghost view = { λ h. h.files };
 }
 
-impl MemHost {
-    ghost use Rattle.ebr_outside.specs.Calls.{fails_next, none_made};
-    ghost use Rattle.ebr_outside.specs.Memory.{called, failed};
+impl<G: Gate> MemHost<G> {
+    ghost use Rattle.ebr_outside.specs.Calls.{none_made};
 
     /// A host of these files. The calls of `source`, `sink` and `disk`, counted together, that `failing`
-    /// names fail, and of its first report the writes that `report` names.
+    /// names fail, and of its first report the writes that `report` names. The sessions of a run pass the gate.
     pub fn new(
         alloc: Global,
         files: List<MemFile>,
         report: List<Fail>,
         failing: List<Fail>,
-    ) -> MemHost
+        gate: G,
+    ) -> MemHost<G>
         ensures { result ≡ record { files = files; report = report; calls = none_made failing; made = [] } }
     {
         MemHost {
-            alloc,
-            files,
-            report,
-            calls: Calls::new(failing),
-            made: List::new(alloc),
+            files: Files::new(alloc, files, report, failing),
+            gate,
         }
     }
 
@@ -74,34 +68,11 @@ impl MemHost {
     pub fn calls(&self) -> &[HostCall]
         ensures { result.now ≡ self.now.made }
     {
-        self.made.as_slice()
-    }
-
-    /// Makes a call: it is counted and told, and fails where it is named, and where `there` is false.
-    fn call(&mut self, method: HostMethod, word: &Bytes, there: bool) -> Result<(), HostErr>
-        ensures named { IsTrue (fails_next self.old.calls) → IsErr result }
-        ensures there { there ≡ false → IsErr result }
-        ensures fails { IsErrOf result HostErr.Failed → IsTrue (fails_next self.old.calls) ⊎ (there ≡ false) }
-        ensures ok { OnOk result (self.new ≡ called self.old method word.now) }
-        ensures failed { IsErrOf result HostErr.Failed → self.new ≡ failed self.old method word.now }
-        ensures no_memory { IsErrOf result HostErr.NoMemory → self.new ≡ self.old }
-    {
-        let failed = !there || self.calls.fails_next();
-        let word = word.clone_in(self.alloc)?;
-        self.made.push(HostCall {
-            method,
-            word,
-            failed,
-        })?;
-        self.calls.count(failed);
-        if failed {
-            return Err(HostErr::Failed);
-        }
-        Ok(())
+        self.files.calls()
     }
 }
 
-impl Host for MemHost {
+impl<G: Gate> Host for MemHost<G> {
     type Source = MemSource;
 
     type Sink = MemSink;
@@ -109,6 +80,8 @@ impl Host for MemHost {
     type Report = MemSink;
 
     type Disk = MemDisk;
+
+    type Gate = G;
 
     ghost use Rattle.ebr_outside.specs.Calls.{fails_next, none_made};
     ghost use Rattle.ebr_outside.specs.Memory.{bytes_of, called, disk_bytes_of, disk_of, failed, failing_writes};
@@ -137,16 +110,7 @@ impl Host for MemHost {
         ensures failed { IsErrOf result HostErr.Failed → self.new ≡ failed self.old method.Source word.now }
         ensures no_memory { IsErrOf result HostErr.NoMemory → self.new ≡ self.old }
     {
-        match source_of(self.alloc, self.files.as_slice(), word.as_slice())? {
-            Some(source) => {
-                self.call(HostMethod::Source, word, true)?;
-                Ok(source)
-            }
-            None => {
-                self.call(HostMethod::Source, word, false)?;
-                Err(HostErr::Failed)
-            }
-        }
+        self.files.source(word)
     }
 
     /// An empty sink, which fails at the writes that the first file of the word names, and at none where
@@ -162,9 +126,7 @@ impl Host for MemHost {
         ensures failed { IsErrOf result HostErr.Failed → self.new ≡ failed self.old method.Sink word.now }
         ensures no_memory { IsErrOf result HostErr.NoMemory → self.new ≡ self.old }
     {
-        let failing = failing_writes(self.alloc, self.files.as_slice(), word.as_slice())?;
-        self.call(HostMethod::Sink, word, true)?;
-        Ok(MemSink::new(self.alloc, failing))
+        self.files.sink(word)
     }
 
     /// A disk of the bytes behind a word, empty where no file has the word. `Failed` comes only where this call is named.
@@ -178,9 +140,7 @@ impl Host for MemHost {
         ensures failed { IsErrOf result HostErr.Failed → self.new ≡ failed self.old method.Disk word.now }
         ensures no_memory { IsErrOf result HostErr.NoMemory → self.new ≡ self.old }
     {
-        let disk = disk_of(self.alloc, self.files.as_slice(), word.as_slice())?;
-        self.call(HostMethod::Disk, word, true)?;
-        Ok(disk)
+        self.files.disk(word)
     }
 
     /// An empty sink. The first report fails at the writes that the host was made with, and a later
@@ -189,52 +149,10 @@ impl Host for MemHost {
         ensures made { result ≡ record { held = []; calls = none_made self.old.report } }
         ensures spent { self.new ≡ record self.old { report = [] } }
     {
-        let failing = mem::replace(&mut self.report, List::new(self.alloc));
-        MemSink::new(self.alloc, failing)
+        self.files.report()
     }
-}
 
-/// The first file of a word.
-fn file_of<'a>(files: &'a [MemFile], word: &[u8]) -> Option<&'a MemFile>
-    ensures { option_copied result ≡ file_of files.now word.now }
-{
-    files.iter().find(|file| file.word.as_slice() == word)
-}
-
-/// A source of the bytes behind a word, where a file has it.
-fn source_of(alloc: Global, files: &[MemFile], word: &[u8]) -> Result<Option<MemSource>, NoMemory>
-    ensures { IfOk result (λ source. source ≡ source_of files.now word.now) }
-{
-    match file_of(files, word) {
-        Some(file) => {
-            let bytes = file.bytes.clone_in(alloc)?;
-            let failing = file.source.clone_in(alloc)?;
-            Ok(Some(MemSource::new(bytes, failing)))
-        }
-        None => Ok(None),
-    }
-}
-
-/// Which writes fail of a sink that is made for a word.
-fn failing_writes(alloc: Global, files: &[MemFile], word: &[u8]) -> Result<List<Fail>, NoMemory>
-    ensures { IfOk result (λ failing. failing ≡ failing_writes files.now word.now) }
-{
-    match file_of(files, word) {
-        Some(file) => file.sink.clone_in(alloc),
-        None => Ok(List::new(alloc)),
-    }
-}
-
-/// A disk of the bytes behind a word.
-fn disk_of(alloc: Global, files: &[MemFile], word: &[u8]) -> Result<MemDisk, NoMemory>
-    ensures { IfOk result (λ disk. disk ≡ disk_of files.now word.now) }
-{
-    match file_of(files, word) {
-        Some(file) => {
-            let bytes = file.bytes.clone_in(alloc)?;
-            let failing = file.disk.clone_in(alloc)?;
-            MemDisk::new(alloc, bytes, failing)
-        }
-        None => MemDisk::new(alloc, Bytes::new(alloc), List::new(alloc)),
+    fn gate(&self) -> &G {
+        &self.gate
     }
 }
