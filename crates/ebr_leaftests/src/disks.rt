@@ -5,7 +5,7 @@ use crate::outside::{failing, file};
 use ebr_base::{Bytes, List, NoMemory};
 use ebr_outside::{
     Disk, DiskCall, DiskErr, FileDisk, FileHost, Host, HostCall, HostErr, HostMethod, MemDisk,
-    MemHost, Sink,
+    MemHost, OpenGate, Sink,
 };
 use std::alloc::Global;
 use std::os::unix::fs::symlink;
@@ -169,7 +169,7 @@ fn mem_host(alloc: Global) -> Result<MemHost, NoMemory> {
     let mut files = List::new(alloc);
     files.push(made)?;
     let failing = failing(alloc, 3, false)?;
-    Ok(MemHost::new(alloc, files, List::new(alloc), failing))
+    Ok(MemHost::new(alloc, files, List::new(alloc), failing, OpenGate))
 }
 
 /// Whether a call is of a disk, and failed or not.

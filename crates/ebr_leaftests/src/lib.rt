@@ -26,6 +26,8 @@ mod large;
 #[cfg(test)]
 mod lexer;
 #[cfg(test)]
+mod limits;
+#[cfg(test)]
 mod locks;
 #[cfg(test)]
 mod names;

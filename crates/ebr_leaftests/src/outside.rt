@@ -4,7 +4,7 @@ use crate::answers::release;
 use ebr_base::{Bytes, List, NoMemory};
 use ebr_outside::{
     Fail, Failed, FileHost, Host, HostCall, HostErr, HostMethod, MemFile, MemHost, MemSink,
-    MemSource, Sink, Source,
+    MemSource, OpenGate, Sink, Source,
 };
 use std::alloc::Global;
 
@@ -162,7 +162,8 @@ fn files(alloc: Global) -> Result<List<MemFile>, NoMemory> {
 fn host(alloc: Global) -> Result<MemHost, NoMemory> {
     let files = files(alloc)?;
     let report = failing(alloc, 1, false)?;
-    Ok(MemHost::new(alloc, files, report, failing(alloc, 3, false)?))
+    let failing = failing(alloc, 3, false)?;
+    Ok(MemHost::new(alloc, files, report, failing, OpenGate))
 }
 
 static FILES: [Named; 5] = [
@@ -196,7 +197,8 @@ fn reports(host: &mut MemHost, rows: &[Write]) -> bool {
 
 fn first_report_fails(alloc: Global) -> Result<bool, NoMemory> {
     let report = failing(alloc, 1, true)?;
-    let mut host = MemHost::new(alloc, List::new(alloc), report, List::new(alloc));
+    let files = List::new(alloc);
+    let mut host = MemHost::new(alloc, files, report, List::new(alloc), OpenGate);
     let fails = reports(&mut host, &LOST) && reports(&mut host, &KEPT);
     release(host);
     Ok(fails)
@@ -289,7 +291,7 @@ fn sink_host(alloc: Global) -> Result<MemHost, NoMemory> {
     files.push(failing_sink(alloc, b"a.out", 2, false)?)?;
     files.push(failing_sink(alloc, b"a.out", 1, true)?)?;
     let failing = failing(alloc, 4, false)?;
-    Ok(MemHost::new(alloc, files, List::new(alloc), failing))
+    Ok(MemHost::new(alloc, files, List::new(alloc), failing, OpenGate))
 }
 
 static SINKS: [Made; 2] = [
