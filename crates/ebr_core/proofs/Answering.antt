@@ -1,7 +1,7 @@
 -- What an answer leaves of the engine's parts.
 use Rattle.std.proofs.Common.{◌≡◌, ◌≢◌, ◌-◌, ◌+◌, ◌<◌, ◌≤◌, Bool, true, false, ◌&&◌, List, [], ◌∷◌, ◌++◌, length, refl, sym, ap, subst, ◌∙◌, append-nil, Vec, Global, arith}
 use Rattle.std.proofs.lemmas.Result.{err_from_is_err_and}
-use Rattle.std.specs.Prelude.{◌↔◌, not, IsErrAnd, IsTrue, Option, Some, None, IsSome, is_some, Result, Ok, Err, slice_set, vec_len, vec_capacity}
+use Rattle.std.specs.Prelude.{◌↔◌, not, IsErrAnd, IsTrue, Option, Some, None, IsSome, is_some, Result, Err, slice_set, vec_len, vec_capacity}
 use Rattle.ebr_base.specs.declared.numbers.EditionNo.{EditionNo}
 use Rattle.ebr_base.specs.declared.numbers.SessionId.{SessionId}
 use Rattle.ebr_ast.specs.declared.view.EditionView.{EditionView}

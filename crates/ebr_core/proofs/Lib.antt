@@ -32,3 +32,4 @@ mod ReplyApart
 mod AnswerApart
 mod ApartExamples
 mod HistoryExamples
+pub mod Crossing

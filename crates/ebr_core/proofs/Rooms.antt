@@ -1,6 +1,6 @@
 -- The room that the history has for the last entries of the sessions.
-use Rattle.std.proofs.Common.{◌≡◌, ℕ, zero, suc, ◌+◌, ◌-◌, ◌<◌, ◌≤◌, Bool, true, false, ◌||◌, List, [], ◌∷◌, ◌++◌, length, refl, sym, ap, subst, ◌∙◌, arith, if◌then◌else◌, append-nil}
-use Rattle.std.specs.Prelude.{◌==◌, filter, map, slice_get, slice_set}
+use Rattle.std.proofs.Common.{◌≡◌, ℕ, zero, suc, ◌+◌, ◌-◌, ◌≤◌, Bool, true, false, ◌||◌, List, [], ◌∷◌, ◌++◌, length, refl, sym, ap, ◌∙◌, arith, if◌then◌else◌, append-nil}
+use Rattle.std.specs.Prelude.{◌==◌, filter, map, slice_set}
 use Rattle.std.specs.Cmp.{unsigned_Decides}
 use Rattle.std.specs.List.{list_any}
 use Rattle.std.proofs.lemmas.List.{map-append}
@@ -9,7 +9,7 @@ use Rattle.ebr_base.specs.declared.numbers.SessionId.{SessionId}
 use Rattle.ebr_asks.specs.declared.entry.Entry.{Entry}
 use Rattle.ebr_asks.specs.declared.entry.Exchange.{Exchange}
 use Rattle.ebr_core.specs.History.{Mine, exchange, is_of, is_short, wants}
-use Rattle.ebr_core.specs.inside.Parts.{last_entries, live_count, lives_at, lives_in, needs, room_needed}
+use Rattle.ebr_core.specs.inside.Parts.{last_entries, live_count, lives_at, needs, room_needed}
 use Rattle.ebr_core.proofs.Lives.{one_left}
 
 -- ---- who was answered that there is no memory

@@ -1,6 +1,5 @@
 -- The database of the records of another one.
 use Rattle.std.specs.Prelude.{◌≡◌, ℕ}
-use Rattle.ebr_tx.specs.Data.{Data}
 use Rattle.ebr_database.specs.Database.{Database, data_of}
 use Rattle.ebr_core.specs.Machine.{Build, lists_of}
 

@@ -1,8 +1,8 @@
-use Rattle.std.proofs.Common.{◌≡◌, IfOk, Option, None, ◌∙◌, subst, sym}
+use Rattle.std.proofs.Common.{◌∙◌, subst, sym}
 use Rattle.ebr_asks.specs.declared.ask.Ask.TheVariants.{Sql}
 use Rattle.ebr_core.specs.History.{is_light}
 use Rattle.ebr_core.specs.Machine.{reply_in}
-use Rattle.ebr_core.specs.inside.Held.{ComesWith, CopiesGiven, Tries}
+use Rattle.ebr_core.specs.inside.Held.{CopiesGiven, Tries}
 use Rattle.ebr_core.proofs.LightAsks.{heavy_plainly, tried_plainly}
 use Rattle.ebr_core.proofs.current.reply_in.Goals as goal
 

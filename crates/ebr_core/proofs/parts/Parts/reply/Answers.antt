@@ -1,4 +1,4 @@
-use Rattle.std.proofs.Common.{◌≡◌, true, false, ◌∙◌, subst, sym}
+use Rattle.std.proofs.Common.{true, false, ◌∙◌, subst, sym}
 use Rattle.ebr_core.specs.Engine.{AnswersAsk}
 use Rattle.ebr_core.specs.Machine.{Reply}
 use Rattle.ebr_core.specs.inside.Held.{Fails}

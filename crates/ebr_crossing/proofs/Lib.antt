@@ -1,0 +1,4 @@
+pub mod Trees
+pub mod Asks
+pub mod Codes
+pub mod Books

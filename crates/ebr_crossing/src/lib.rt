@@ -1,0 +1,2 @@
+//! Which values may cross threads.
+#![tactic(auto)]
