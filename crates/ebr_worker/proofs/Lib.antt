@@ -1,10 +1,11 @@
 mod Ending
-mod First
-mod Histories
-mod Keeping
+pub mod First
+pub mod Histories
+pub mod Keeping
 mod Outputs
+pub mod OverEngine
 mod Rehearsing
 mod Replying
 mod RunAlone
-mod Running
-mod Turns
+pub mod Running
+pub mod Turns

@@ -7,7 +7,7 @@ use Rattle.std.proofs.lemmas.List.{at_drop_more}
 use Rattle.std.proofs.lemmas.List.Elements.{All-get_or}
 use Rattle.std.proofs.lemmas.List.Sums.{sum_by-set}
 use Rattle.std.proofs.lemmas.Option.{get_or_from_slice_get, slice_get_within}
-use Rattle.ebr_base.specs.declared.numbers.TheConstants.{MAX_COUNT}
+use Rattle.ebr_worker.specs.declared.limits.TheConstants.{MAX_ASKS}
 use Rattle.ebr_base.specs.declared.numbers.SessionId.{SessionId}
 use Rattle.ebr_report.specs.declared.ends.EndKind.{EndKind}
 use Rattle.ebr_asks.specs.declared.entry.Entry.{Entry}
@@ -340,11 +340,11 @@ module _ {K : Type 0} (as_keeper : K → Keeper) (w w' : Work) (e e' : EngineSta
       let more : Mine e'.history s ≡ Mine e.history s ++ exchange x ∷ [] = ap (λ h. Mine h s) adds.is ∙ mine_more e.history x s adds.of in
       sym (mine_length w' e' now) ∙ ap (λ r. length (Mine e'.history r)) did.session ∙ ap length more ∙ length-append (Mine e.history s) (exchange x ∷ []) ∙ ap (λ n. n + 1) (mine_length w e was)
 
-  fewer_by : (k : Option EndKind) → k ≡ None → StandsBy k w e → Makes as_keeper k w w' e e' → MAX_COUNT - length w'.session.transcript < MAX_COUNT - length w.session.transcript
+  fewer_by : (k : Option EndKind) → k ≡ None → StandsBy k w e → Makes as_keeper k w w' e e' → MAX_ASKS - length w'.session.transcript < MAX_ASKS - length w.session.transcript
   fewer_by None is works (x, adds) = omega (arith, works.runs.few, grown x adds works.seated (seated_of w'.end w' e' did.stands))
   fewer_by (Some k) is over makes = cc
 
-  pub fewer_turned : w.end ≡ None → Stands w e → MAX_COUNT - length w'.session.transcript < MAX_COUNT - length w.session.transcript
+  pub fewer_turned : w.end ≡ None → Stands w e → MAX_ASKS - length w'.session.transcript < MAX_ASKS - length w.session.transcript
   fewer_turned none stands = fewer_by w.end none stands did.makes
 
 module _ {K : Type 0} (as_keeper : K → Keeper) (at : ℕ) (ws ws' : List Work) (e e' : EngineState K) (all : AllStand ws e) (did : TurnedAt as_keeper at ws ws' e e') where
@@ -354,4 +354,4 @@ module _ {K : Type 0} (as_keeper : K → Keeper) (at : ℕ) (ws ws' : List Work)
   pub fewer_left : did.before.end ≡ None → asks_left ws' < asks_left ws
   fewer_left none =
       subst (λ xs. asks_left xs < asks_left ws) (sym did.now)
-      (sum_less (λ (w : Work). MAX_COUNT - length w.session.transcript) ws at did.before did.after did.was (fewer_turned as_keeper did.before did.after e e' did.turned none (all.stand at did.before did.was)))
+      (sum_less (λ (w : Work). MAX_ASKS - length w.session.transcript) ws at did.before did.after did.was (fewer_turned as_keeper did.before did.after e e' did.turned none (all.stand at did.before did.was)))

@@ -14,11 +14,11 @@ use Rattle.ebr_session.specs.Has as session
 use Rattle.ebr_session.specs.Has.{Suits}
 use Rattle.ebr_core.specs.Asked as core
 use Rattle.ebr_core.specs.Machine.{Build, Reply}
-use Rattle.ebr_core.specs.History.{After, IsLive}
+use Rattle.ebr_core.specs.History.{After, IsLive, Legal}
 use Rattle.ebr_core.specs.Engine.{AnswersAsk, EngineState, Gives, HasBook, book_at, database_of, entry_of, has_given_up, with_book}
 use Rattle.ebr_worker.specs.Ends.{AnswersLeave}
 use Rattle.ebr_worker.specs.Paced.{IsSession}
-use Rattle.ebr_worker.specs.inside.Engine.{Replies}
+use Rattle.ebr_worker.specs.Replies.{Replies}
 
 -- what a session asks is fit for the engine
 pub fit_ask : (q : Ask) → session.IsFit q → core.IsFit q
@@ -91,6 +91,7 @@ module _ {K : Type 0} (as_keeper : K → Keeper) (old mid : EngineState K) (s : 
       others = λ r differ is. subst (λ db. IsLive db r) (sym taken) (did.others r differ is);
       gives = did.gives;
     };
+    legal = subst (λ n. Legal (Build mid.recovered n) mid.history) (sym (books_length mid.books s.0 None)) did.legal;
     suits = suits x _ (subst (HasBook x) (sym book_is) did.has_book);
     leaves = λ is. leaves_by as_keeper (has_given_up old.history) old.keeper mid.keeper q x (Reply (database_of old) s q) did.gives (did.leaves is);
     stays = λ going staying. subst (λ db. IsLive db s) (sym taken) (did.stays going staying);

@@ -3,7 +3,7 @@ use Rattle.std.proofs.Common.{ℕ, ◌≡◌, ◌≤◌, ◌⊎◌, Bool, true, 
 use Rattle.std.specs.Prelude.{IsSome, is_some, map, not}
 use Rattle.std.specs.List.{list_any}
 use Rattle.ebr_base.specs.declared.numbers.SessionId.{SessionId}
-use Rattle.ebr_base.specs.declared.numbers.TheConstants.{MAX_COUNT}
+use Rattle.ebr_worker.specs.declared.limits.TheConstants.{MAX_ASKS}
 use Rattle.ebr_report.specs.declared.ends.EndKind.{EndKind}
 use Rattle.ebr_report.specs.declared.ends.EndKind.TheVariants as ending
 use Rattle.ebr_report.specs.declared.ends.SessionEnd.{SessionEnd}
@@ -166,10 +166,10 @@ works_alone {K} e k w s script is begins f session written unfailed no_why no_en
 no_end : false ≡ true → ⊥
 no_end is = cc
 
-pub alone_few : {K : Type 0} (as_keeper : K → Keeper) (w0 w : Work) (first e : EngineState K) → RunsAlone as_keeper w0 w first e → IsSome w.end → length w.session.transcript ≤ MAX_COUNT
+pub alone_few : {K : Type 0} (as_keeper : K → Keeper) (w0 w : Work) (first e : EngineState K) → RunsAlone as_keeper w0 w first e → IsSome w.end → length w.session.transcript ≤ MAX_ASKS
 alone_few as_keeper w0 w first e ran ended = by w.end ended ran.stands
   where
-    by : (o : Option EndKind) → IsSome o → StandsBy o w e → length w.session.transcript ≤ MAX_COUNT
+    by : (o : Option EndKind) → IsSome o → StandsBy o w e → length w.session.transcript ≤ MAX_ASKS
     by None some stands = absurd (no_end some)
     by (Some k) some over = over.come.few
 

@@ -3,7 +3,7 @@ use Rattle.std.proofs.Common.{ℕ, zero, suc, ◌≡◌, ◌+◌, ◌<◌, ◌�
 use Rattle.std.specs.Prelude.{All, ◌⊎◌, ◌||◌, ◌&&◌, IsSome, map, slice_get}
 use Rattle.std.proofs.lemmas.List.{length-append, length-map, length-take-le, map-append, take_more}
 use Rattle.ebr_base.specs.declared.numbers.SessionId.{SessionId}
-use Rattle.ebr_base.specs.declared.numbers.TheConstants.{MAX_COUNT}
+use Rattle.ebr_worker.specs.declared.limits.TheConstants.{MAX_ASKS}
 use Rattle.ebr_faults.specs.Faults.{Rises}
 use Rattle.ebr_report.specs.declared.ends.SessionEnd.{SessionEnd}
 use Rattle.ebr_asks.specs.declared.ask.Ask.{Ask}
@@ -177,7 +177,7 @@ no_fault as_keeper first e none kept legal = by (has_fault e.history) refl
 pub end_some : {K : Type 0} (scripts : List (List ℕ)) (e : EngineState K) (i : ℕ) (w : Work) → EndsAt scripts e i w → IsSome w.end
 end_some scripts e i w at = subst (λ o. IsSome o) (sym at.ended) refl
 
-pub end_few : {K : Type 0} (scripts : List (List ℕ)) (e : EngineState K) (i : ℕ) (w : Work) → EndsAt scripts e i w → length w.session.transcript ≤ MAX_COUNT
+pub end_few : {K : Type 0} (scripts : List (List ℕ)) (e : EngineState K) (i : ℕ) (w : Work) → EndsAt scripts e i w → length w.session.transcript ≤ MAX_ASKS
 end_few scripts e i w at = at.over.come.few
 
 module _ {X : Type 0} (P : ℕ → X → Type 0) where

@@ -5,16 +5,13 @@ use Rattle.std.proofs.Math.Seq.{take-append_seam}
 use Rattle.std.proofs.lemmas.List.{map-append, length-append, length-map}
 use Rattle.ebr_base.specs.declared.clone_in.NoMemory.{NoMemory}
 use Rattle.ebr_base.specs.declared.numbers.SessionId.{SessionId}
-use Rattle.ebr_base.specs.declared.numbers.TheConstants.{MAX_COUNT}
-use Rattle.ebr_ast.specs.declared.view.EditionView.{EditionView}
+use Rattle.ebr_worker.specs.declared.limits.TheConstants.{MAX_ASKS}
 use Rattle.ebr_asks.specs.declared.ask.Ask.{Ask}
 use Rattle.ebr_asks.specs.declared.ask.Ask.TheVariants as ask
 use Rattle.ebr_asks.specs.declared.answer.Answer.{Answer}
 use Rattle.ebr_asks.specs.declared.answer.Answer.TheVariants as answer
-use Rattle.ebr_asks.specs.declared.entry.Entry.{Entry}
 use Rattle.ebr_asks.specs.declared.entry.Exchange.{Exchange}
 use Rattle.ebr_faults.specs.Faults.{one_more}
-use Rattle.ebr_record.specs.Keeper.{Keeper}
 use Rattle.ebr_report.specs.declared.ends.EndKind.{EndKind}
 use Rattle.ebr_report.specs.declared.ends.EndKind.TheVariants as ending
 use Rattle.ebr_calls.specs.Steps.{Ended}
@@ -22,17 +19,13 @@ use Rattle.ebr_calls.specs.Courses.{AllContinue, Continues}
 use Rattle.ebr_session.specs.declared.next.NextAsk.TheVariants as next
 use Rattle.ebr_session.specs.Has.{Follows, GoesBehind, HasAsked, HasPrinted, IsFit, IsPrefix, IsShort, Made, Progress, WentOn, answered, answers, asks, ends, exchange, is_leaving, is_short, printed_before, run_of, stops, wants}
 use Rattle.ebr_session.specs.Sessions.{SessionRun, Printed}
-use Rattle.ebr_core.specs.Engine.{EngineState, database_of, entry_of}
-use Rattle.ebr_core.specs.History.{IsLive, Mine}
-use Rattle.ebr_core.specs.History as core
-use Rattle.ebr_core.specs.History.{exchange as exchange_of}
 use Rattle.ebr_worker.specs.Matches.{ask_recorded, as_recorded}
-use Rattle.ebr_worker.specs.Paced.{IsSession, has_ended}
+use Rattle.ebr_worker.specs.Paced.{has_ended}
 use Rattle.ebr_worker.specs.Ends.{AnswersLeave, Came, Quit, Ran, RanOut, RanToEnd, StopsIt, failed_writes, printed_before_last}
-use Rattle.ebr_worker.specs.Work.{Adds, HasCome, Makes, Runs, Seated, StandsBy, Turned, Work, Works, why_short}
-use Rattle.ebr_worker.specs.inside.Engine.{Replies}
+use Rattle.ebr_worker.specs.Work.{HasCome, Runs, Work, why_short}
+use Rattle.ebr_worker.specs.Turn.{Happens, MayTurn, MayTurnBy, TakesTurn}
 use Rattle.ebr_worker.specs.inside.Worker.{Advanced, Asks, AsksBy, Flushed, HasGoneOn, HasQuit, LeavesNow, Quits, Settles, end_by, end_of, having_quit, if_ended, why_by, with_leave}
-use Rattle.ebr_worker.proofs.Histories.{any_more, mine_more, short_is}
+use Rattle.ebr_worker.proofs.Histories.{any_more}
 
 -- ---- what is kept of exchanges
 
@@ -53,12 +46,7 @@ before_last mine x =
     ∙ ap (λ n. take n (answers mine ++ x.answer ∷ [])) (sym (length-map mine (λ (y : Exchange). y.answer)))
     ∙ take-append_seam (answers mine) (x.answer ∷ [])
 
--- the entry of an ask has what is kept of its exchange
-entry_kept : (s : SessionId) (q : Ask) (x : Answer) → exchange_of (entry_of s q x) ≡ as_recorded (exchange q x)
-entry_kept s q answer.Stopped = refl
-entry_kept s q x = refl
-
-stopped_ends : (q : Ask) → ends q answer.Stopped ≡ true
+pub stopped_ends : (q : Ask) → ends q answer.Stopped ≡ true
 stopped_ends ask.Leave = refl
 stopped_ends q = refl
 
@@ -85,7 +73,7 @@ Ran-same : (script script' : List ℕ) (mine : List Exchange) (quit quit' : Opti
 Ran-same script script' mine quit quit' p p' a c d ran =
     subst (λ s. Ran s mine quit' p') a (subst (λ q. Ran script mine q p') c (subst (Ran script mine quit) d ran))
 
-is_true : (b : Bool) → b ≡ false → b ≡ true → ⊥
+pub is_true : (b : Bool) → b ≡ false → b ≡ true → ⊥
 is_true b runs is = cc
 
 -- only Leave is ended by an answer after which sessions go on
@@ -223,7 +211,7 @@ gone_leaving q w new runs no_end some n =
         out = ap (λ (t : Progress). t.out) session ∙ ap Some (sym n.leave);
         follows = n.follows;
         not_over = ap has_ended mine ∙ runs.not_over;
-        few = subst (λ l. length l < MAX_COUNT) (sym mine) runs.few;
+        few = subst (λ l. length l < MAX_ASKS) (sym mine) runs.few;
         fit = subst IsFit (sym n.leave) tt;
         short = λ is. n.leave;
         by = subst (λ o. AsksBy o q new) (sym (ap (λ (v : Work). v.why) n.is ∙ why)) (
@@ -261,7 +249,7 @@ module _ (why : EndKind) (q : Ask) (w mid new : Work) (runs : Runs w) (no_end : 
       out = ap (λ (t : Progress). t.out) quit_session ∙ ap Some (sym n.leave);
       follows = n.follows;
       not_over = ap has_ended quit_mine ∙ runs.not_over;
-      few = subst (λ l. length l < MAX_COUNT) (sym quit_mine) runs.few;
+      few = subst (λ l. length l < MAX_ASKS) (sym quit_mine) runs.few;
       fit = subst IsFit (sym n.leave) tt;
       short = λ is. n.leave;
       by = subst (λ o. AsksBy o q new) (sym (ap (λ (v : Work). v.why) n.is)) by;
@@ -324,7 +312,7 @@ pub stands_still : (w mid : Work) → mid ≡ record w { session = mid.session }
 stands_still w mid is same = is ∙ ap (λ (s : Progress). record w { session = s }) same
 
 -- The next ask is out, and all that it printed is written.
-pub gone_on : (q : Ask) (w mid new : Work) → Runs w → w.end ≡ None → is_some w.why ≡ false → length w.session.transcript + 1 < MAX_COUNT → Advanced (Ok (next.Ask q)) w mid → Flushed true mid new → HasGoneOn q w new
+pub gone_on : (q : Ask) (w mid new : Work) → Runs w → w.end ≡ None → is_some w.why ≡ false → length w.session.transcript + 1 < MAX_ASKS → Advanced (Ok (next.Ask q)) w mid → Flushed true mid new → HasGoneOn q w new
 gone_on q w mid new runs no_end long few on flushed =
     let s : Progress = w.session in
     let is : mid.session ≡ record s { printed = mid.session.printed; out = Some q } = on.advances.is in
@@ -337,7 +325,7 @@ gone_on q w mid new runs no_end long few on flushed =
         out = ap (λ (t : Progress). t.out) session;
         follows = subst Follows (sym flushed.session) on.follows;
         not_over = ap has_ended mine ∙ runs.not_over;
-        few = subst (λ l. length l < MAX_COUNT) (sym mine) runs.few;
+        few = subst (λ l. length l < MAX_ASKS) (sym mine) runs.few;
         fit = on.advances.fit;
         short = λ e. absurd (is_true (is_short s.transcript) not_short (ap is_short (sym mine) ∙ e));
         by = subst (λ o. AsksBy o q new) (sym (flushed.why ∙ ap (λ (v : Work). v.why) on.same ∙ no_why w.why long)) (record {
@@ -345,7 +333,7 @@ gone_on q w mid new runs no_end long few on flushed =
           went_on = subst (λ (l : List Exchange). AllContinue (answers l)) (sym mine) (goes_all s runs.follows runs.goes_on not_short);
           written = flushed.whole;
           unfailed = flushed.counted ∙ ap (λ (v : Work). v.faults) on.same ∙ runs.unfailed;
-          few = subst (λ l. length l + 1 < MAX_COUNT) (sym mine) few;
+          few = subst (λ l. length l + 1 < MAX_ASKS) (sym mine) few;
         });
         no_end = flushed.end ∙ ap (λ (v : Work). v.end) on.same ∙ no_end;
       };
@@ -558,80 +546,60 @@ module _ (q : Ask) (x : Answer) (w new : Work) (was : Asks q w) (did : Settles x
 pub not_ended : (o : Option EndKind) (w : Work) → o ≡ w.end → is_some o ≡ false → w.end ≡ None
 not_ended o w same is = sym same ∙ no_why o is
 
-pub works_of : {K : Type 0} (w : Work) (e : EngineState K) → StandsBy w.end w e → w.end ≡ None → Works w e
-works_of w e stands is = subst (λ o. StandsBy o w e) is stands
-
--- the turn of one that has ended does nothing
-pub rests : {K : Type 0} (as_keeper : K → Keeper) (o : Option EndKind) (w : Work) (e : EngineState K) → StandsBy w.end w e → o ≡ w.end → is_some o ≡ true → Turned as_keeper w w e e
-rests as_keeper o w e stands same is = record { session = refl; script = refl; stands = stands; makes = nothing w.end (ap (λ (k : Option EndKind). is_some k) (sym same) ∙ is) }
-  where
-    nothing : (k : Option EndKind) → is_some k ≡ true → Makes as_keeper k w w e e
-    nothing None is = cc
-    nothing (Some k) is = (refl, refl)
-
--- The session has come to its next ask: the engine can answer it.
-module _ {K : Type 0} (q : Ask) (w mid : Work) (e : EngineState K) (works : Works w e) (on : HasGoneOn q w mid) where
-  pub seated_mid : Seated mid.session e
-  seated_mid = record {
-    is_session = subst (IsSession (length e.books)) (sym on.session) works.seated.is_session;
-    matches = ap (Mine e.history) on.session ∙ works.seated.matches ∙ ap (map as_recorded) (sym on.transcript);
-  }
-
-  pub live_mid : IsLive (database_of e) mid.session.session
-  live_mid = subst (IsLive (database_of e)) (sym on.session) works.live
-
-  pub short_mid : core.is_short e.history mid.session.session ≡ true → q ≡ ask.Leave
-  short_mid is = on.asks.short (sym (short_is e.history mid.session.session mid.session.transcript seated_mid.matches) ∙ is)
-
 pub out_mid : (q : Ask) (w : Work) → Asks q w → is_some w.session.out ≡ true
 out_mid q w a = ap (λ (o : Option Ask). is_some o) a.out
 
-module _ {K : Type 0} (as_keeper : K → Keeper) (q : Ask) (x : Answer) (book : Option EditionView) (old mid new : Work) (e e' : EngineState K) (id : SessionId) (works : Works old e) (no_end : old.end ≡ None)
-    (on : HasGoneOn q old mid) (number : id ≡ mid.session.session) (replied : Replies as_keeper e e' id q x book) (did : Settles x mid new) where
-  replies_mid : Replies as_keeper e e' mid.session.session q x book
-  replies_mid = subst (λ r. Replies as_keeper e e' r q x book) number replied
-
-  abbrev adds_mid : Adds as_keeper mid.session.session (entry_of mid.session.session q x) e e'
-  adds_mid = replies_mid.adds
-
-  number_new : new.session.session ≡ mid.session.session
-  number_new = number_same q x mid new on.asks did replies_mid.leaves
-
-  seated_new : Seated new.session e'
-  seated_new = record {
-    is_session = subst (IsSession (length e'.books)) (sym number_new) (subst (λ n. IsSession n mid.session.session) (sym adds_mid.books) (seated_mid q old mid e works on).is_session);
-    matches = ap (Mine e'.history) number_new
-        ∙ ap (λ h. Mine h mid.session.session) adds_mid.is
-        ∙ mine_more e.history (entry_of mid.session.session q x) mid.session.session adds_mid.of
-        ∙ ap (λ y. Mine e.history mid.session.session ++ y ∷ []) (entry_kept mid.session.session q x)
-        ∙ ap (λ m. m ++ as_recorded (exchange q x) ∷ []) (seated_mid q old mid e works on).matches
-        ∙ sym (map-append as_recorded mid.session.transcript (exchange q x ∷ []))
-        ∙ ap (map as_recorded) (sym (transcript_is q x mid new on.asks did replies_mid.leaves));
-  }
-
-  stands_new : StandsBy new.end new e'
-  stands_new = subst (λ o. StandsBy o new e') (sym (end_is q x mid new on.asks did replies_mid.leaves)) (by (ends q x) refl)
+module _ {A : Type 0} (may_ask : A → SessionId → List Exchange → Type 0) (replied : A → A → SessionId → Ask → Answer → Type 0) where
+  -- the turn of one that has ended does nothing
+  pub rests : (o : Option EndKind) (w : Work) (x : A) → MayTurn may_ask w x → o ≡ w.end → is_some o ≡ true → TakesTurn may_ask replied w w x x
+  rests o w x may same is = record { session = refl; script = refl; stands = may; happens = nothing w.end (ap (λ (k : Option EndKind). is_some k) (sym same) ∙ is) }
     where
-      by : (b : Bool) → ends q x ≡ b → StandsBy (if_ended b (end_by mid.why x)) new e'
-      by true over = record { come = has_come q x mid new on.asks did replies_mid.leaves over; seated = seated_new }
-      by false going = record {
-        runs = runs_on q x mid new on.asks did replies_mid.leaves going;
-        seated = seated_new;
-        live = subst (IsLive (database_of e')) (sym number_new)
-            (replies_mid.stays (λ is. is_true (ends q x) going (ap (ends q) is ∙ stopped_ends q)) (λ is. is_true (ends q x) going (ap (λ a. ends a x) is)));
-      }
+      nothing : (k : Option EndKind) → is_some k ≡ true → Happens replied k w w x x
+      nothing None is = cc
+      nothing (Some k) is = (refl, refl)
 
-  pub turned : Turned as_keeper old new e e'
-  turned = record {
-    session = number_new ∙ on.session;
-    script = script_same q x mid new on.asks did replies_mid.leaves ∙ on.script;
-    stands = stands_new;
-    makes = makes_of old.end no_end;
-  }
-    where
-      adds_old : (y : Entry) × Adds as_keeper old.session.session y e e'
-      adds_old = (entry_of mid.session.session q x, subst (λ r. Adds as_keeper r (entry_of mid.session.session q x) e e') on.session adds_mid)
+  pub runs_of : (w : Work) (x : A) → MayTurn may_ask w x → w.end ≡ None → Runs w × may_ask x w.session.session w.session.transcript
+  runs_of w x may is = subst (λ o. MayTurnBy may_ask o w x) is may
 
-      makes_of : (o : Option EndKind) → o ≡ None → Makes as_keeper o old new e e'
-      makes_of None is = adds_old
-      makes_of (Some k) is = cc
+  -- The session has come to its next ask.
+  module _ (q : Ask) (w mid : Work) (x : A) (works : Runs w × may_ask x w.session.session w.session.transcript) (on : HasGoneOn q w mid) (id : SessionId) (before : List Exchange) (number : id ≡ mid.session.session) (had : before ≡ mid.session.transcript) where
+    pub may_mid : may_ask x id before
+    may_mid = subst (λ (p : SessionId × List Exchange). may_ask x p.0 p.1) (λ i. (sym (number ∙ on.session) i, sym (had ∙ on.transcript) i)) works.1
+
+    pub few_mid : length before < MAX_ASKS
+    few_mid = subst (λ l. length l < MAX_ASKS) (sym had) on.asks.few
+
+    pub short_mid : is_short before ≡ true → q ≡ ask.Leave
+    short_mid is = on.asks.short (ap is_short (sym had) ∙ is)
+
+  -- .. which was answered.
+  module _ (q : Ask) (a : Answer) (w mid new : Work) (x y : A) (no_end : w.end ≡ None) (on : HasGoneOn q w mid) (id : SessionId) (before : List Exchange) (number : id ≡ mid.session.session) (had : before ≡ mid.session.transcript)
+      (leave : q ≡ ask.Leave → AnswersLeave a) (again : ends q a ≡ false → may_ask y id (before ++ exchange q a ∷ [])) (reply : replied x y id q a) (did : Settles a mid new) where
+    number_new : new.session.session ≡ mid.session.session
+    number_new = number_same q a mid new on.asks did leave
+
+    had_new : new.session.transcript ≡ mid.session.transcript ++ exchange q a ∷ []
+    had_new = transcript_is q a mid new on.asks did leave
+
+    may_new : MayTurn may_ask new y
+    may_new = subst (λ o. MayTurnBy may_ask o new y) (sym (end_is q a mid new on.asks did leave)) (by (ends q a) refl)
+      where
+        by : (b : Bool) → ends q a ≡ b → MayTurnBy may_ask (if_ended b (end_by mid.why a)) new y
+        by true over = has_come q a mid new on.asks did leave over
+        by false going = (
+          runs_on q a mid new on.asks did leave going,
+          subst (λ (p : SessionId × List Exchange). may_ask y p.0 p.1) (λ i. ((number ∙ sym number_new) i, (ap (λ l. l ++ exchange q a ∷ []) had ∙ sym had_new) i)) (again going),
+        )
+
+    pub takes_turn : TakesTurn may_ask replied w new x y
+    takes_turn = record {
+      session = number_new ∙ on.session;
+      script = script_same q a mid new on.asks did leave ∙ on.script;
+      stands = may_new;
+      happens = subst (λ o. Happens replied o w new x y) (sym no_end) (record {
+        ask = q;
+        answer = a;
+        is = had_new ∙ ap (λ l. l ++ exchange q a ∷ []) on.transcript;
+        replied_is = subst (λ r. replied x y r q a) (number ∙ on.session) reply;
+      });
+    }

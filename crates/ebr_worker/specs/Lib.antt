@@ -3,5 +3,7 @@ pub mod Paced
 pub mod Ends
 pub mod Runs
 pub mod Work
+pub mod Replies
+pub mod Turn
 pub mod Rehearsal
 pub mod inside

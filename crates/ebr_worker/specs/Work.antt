@@ -2,10 +2,11 @@
 use Rattle.std.specs.Prelude.{ℕ, ◌≡◌, ◌<◌, ◌≤◌, Bool, true, false, List, [], ◌∷◌, ◌++◌, length, map, Option, Some, None, IfSome}
 use Rattle.std.specs.List.{count_by}
 use Rattle.ebr_base.specs.declared.numbers.SessionId.{SessionId}
-use Rattle.ebr_base.specs.declared.numbers.TheConstants.{MAX_COUNT}
+use Rattle.ebr_worker.specs.declared.limits.TheConstants.{MAX_ASKS}
 use Rattle.ebr_asks.specs.declared.ask.Ask.{Ask}
 use Rattle.ebr_asks.specs.declared.answer.Answer.{Answer}
 use Rattle.ebr_asks.specs.declared.entry.Entry.{Entry}
+use Rattle.ebr_asks.specs.declared.entry.Exchange.{Exchange}
 use Rattle.ebr_record.specs.Keeper.{Keeper}
 use Rattle.ebr_report.specs.declared.ends.EndKind.{EndKind}
 use Rattle.ebr_report.specs.declared.ends.EndKind.TheVariants as ending
@@ -42,7 +43,7 @@ pub record Runs (w : Work) : Type 0 where
   pub no_ask : w.session.out ≡ None
   pub follows : Follows w.session
   pub not_over : has_ended w.session.transcript ≡ false
-  pub few : length w.session.transcript < MAX_COUNT
+  pub few : length w.session.transcript < MAX_ASKS
   pub written : w.written ≡ w.session.printed
   pub unfailed : w.faults ≡ 0
   pub why : w.why ≡ why_short (is_short w.session.transcript)
@@ -51,11 +52,18 @@ pub record Runs (w : Work) : Type 0 where
 pub record HasCome (k : EndKind) (w : Work) : Type 0 where
   pub ended : w.session.ended ≡ true
   pub over : has_ended w.session.transcript ≡ true
-  pub few : length w.session.transcript ≤ MAX_COUNT
+  pub few : length w.session.transcript ≤ MAX_ASKS
   pub came : Came k w.session.script (map as_recorded w.session.transcript) w.written
   pub failed : w.faults ≡ failed_writes k
 
 -- ---- over its engine
+
+-- A session that has had these exchanges may make its next ask of the engine: it has a place there and lives, and the exchanges are
+-- those of the history.
+pub record MayAsk {K : Type 0} (e : EngineState K) (s : SessionId) (before : List Exchange) : Type 0 where
+  pub is_session : IsSession (length e.books) s
+  pub matches : Matches before e.history s
+  pub live : IsLive (database_of e) s
 
 -- The session has a place in the engine, and its exchanges are those of the history.
 pub record Seated {K : Type 0} (s : Progress) (e : EngineState K) : Type 0 where

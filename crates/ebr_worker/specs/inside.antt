@@ -1,4 +1,3 @@
-pub mod Engine
 pub mod Memory
 pub mod Rehearsal
 pub mod Worker

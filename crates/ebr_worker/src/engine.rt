@@ -6,13 +6,16 @@ ghost use Rattle.ebr_session.specs.Has.{IsFit};
 ghost use Rattle.ebr_core.specs.Engine.{database_of, no_books};
 ghost use Rattle.ebr_core.specs.History.{IsLive, is_short};
 ghost use Rattle.ebr_worker.specs.Paced.{IsSession};
-ghost use Rattle.ebr_worker.specs.inside.Engine.{Replies};
+ghost use Rattle.ebr_worker.specs.Replies.{Replies};
+ghost use Rattle.ebr_worker.specs.Work.{Stands, Turned};
 ghost use Rattle.ebr_worker.specs.inside.Memory.{nothing_kept};
 
 use crate::memory::MemoryKeep;
+use crate::worker::Worker;
 use ebr_asks::{Answer, Ask};
 use ebr_base::{NoMemory, SessionId, Shared};
 use ebr_core::Engine;
+use ebr_outside::Sink;
 use ebr_record::Keep;
 use ebr_units::Book;
 use std::alloc::Global;
@@ -40,4 +43,12 @@ pub fn answer<K: Keep>(
     let answer = engine.answer(session, ask);
     let book = engine.take_book(session);
     (answer, book)
+}
+
+/// A turn of a worker whose asks the engine answers.
+pub fn turn<K: Keep, S: Sink>(worker: &mut Worker<S>, engine: &mut Engine<K>)
+    requires { Stands worker.old engine.old }
+    ensures { Turned K.as_keeper worker.old worker.new engine.old engine.new }
+{
+    worker.turn(engine);
 }

@@ -8,6 +8,7 @@ ghost use Rattle.ebr_worker.specs.Paced.{IsSession, Paced};
 ghost use Rattle.ebr_worker.specs.Rehearsal.{AllEnded, AllStand, scripts_of};
 ghost use Rattle.ebr_worker.specs.inside.Rehearsal.{Rehearses, TurnedAt, goes_on};
 
+use crate::engine::turn;
 use crate::worker::Worker;
 use ebr_base::SessionId;
 use ebr_core::Engine;
@@ -60,7 +61,7 @@ fn turn_at<K: Keep, S: Sink>(engine: &mut Engine<K>, workers: &mut [Worker<S>], 
     requires within { at < length workers.old }
     ensures { TurnedAt K.as_keeper at workers.old workers.new engine.old engine.new }
 {
-    workers[at].turn(engine);
+    turn(&mut workers[at], engine);
 }
 
 /// The place of the first session that hasn't ended.

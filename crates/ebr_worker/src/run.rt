@@ -1,16 +1,18 @@
 //! Scripts that are run as sessions of an engine.
 
-ghost use Rattle.std.specs.Prelude.{◌≡◌, ◌≤◌, [], All, IfOk, IfErr, IsSome, None, length};
+ghost use Rattle.std.specs.Prelude.{◌≡◌, ◌≤◌, [], All, IfOk, IfErr, IsSome, None, length, vec_capacity};
+ghost use Rattle.ebr_core.specs.Engine.{HasLegalHistory};
 ghost use Rattle.ebr_core.specs.History.{Legal};
 ghost use Rattle.ebr_core.specs.Kept.{Kept};
 ghost use Rattle.ebr_core.specs.Machine.{Build};
 ghost use Rattle.ebr_session.specs.Has.{most_bytes};
 ghost use Rattle.ebr_worker.specs.Paced.{IsSession, Paced};
+ghost use Rattle.ebr_worker.specs.Rehearsal.{AllEnded, scripts_of};
 ghost use Rattle.ebr_worker.specs.Runs.{AreEnds, IsUnwritten, RanAlone};
 ghost use Rattle.ebr_worker.specs.Work.{Works};
 ghost use Rattle.ebr_worker.specs.inside.Rehearsal.{AreBegun, RunsAlone};
 
-use crate::engine::empty_engine;
+use crate::engine::{empty_engine, turn};
 use crate::rehearse::rehearse_core;
 use crate::worker::Worker;
 use ebr_asks::Entry;
@@ -48,6 +50,16 @@ impl<S: Sink> Sessions<S> {
         ensures { result ≡ length self.now }
     {
         self.workers.len()
+    }
+
+    /// Their workers, and room for their ends.
+    pub fn into_workers(self) -> (Vec<Worker<S>>, Vec<SessionEnd<S>>)
+        ensures begun { AreBegun self result.0.items }
+        ensures empty { result.1.items ≡ [] }
+        ensures room { length result.0.items ≤ vec_capacity result.1 }
+    {
+        let Sessions { workers, ends } = self;
+        (workers, ends)
     }
 }
 
@@ -94,11 +106,26 @@ pub fn run_sessions<K: Keep, S: Sink>(
     ensures recovered { result.recovered ≡ engine.recovered }
     ensures kept { Kept (K.as_keeper engine.keeper) (K.as_keeper result.keeper) (Build engine.recovered (length sessions)) result.history }
 {
-    let Sessions {
-        mut workers,
-        mut ends,
-    } = sessions;
+    let Sessions { mut workers, ends } = sessions;
     rehearse_core(&mut engine, workers.as_mut_slice(), order);
+    results_of(workers, ends, engine)
+}
+
+/// What sessions came to that have all ended over an engine. There is room for their ends.
+pub fn results_of<K: Keep, S: Sink>(
+    workers: Vec<Worker<S>>,
+    mut ends: Vec<SessionEnd<S>>,
+    engine: Engine<K>,
+) -> Rehearsed<K, S>
+    requires ended { AllEnded workers.items engine }
+    requires empty { ends.items ≡ [] }
+    requires room { length workers.items ≤ vec_capacity ends }
+    ensures ends { AreEnds S.held S.faults (scripts_of workers.items) result.history result.ends }
+    ensures recovered { result.recovered ≡ engine.recovered }
+    ensures history { result.history ≡ engine.history }
+    ensures keeper { result.keeper ≡ engine.keeper }
+    ensures legal { HasLegalHistory engine }
+{
     for worker in workers {
         ends.push_reserved(worker.into_end());
     }
@@ -166,6 +193,6 @@ fn run_out<K: Keep, S: Sink>(engine: &mut Engine<K>, worker: &mut Worker<S>)
     ensures ended { IsSome worker.new.end }
 {
     while worker.end().is_none() {
-        worker.turn(engine);
+        turn(worker, engine);
     }
 }

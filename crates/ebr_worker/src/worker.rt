@@ -5,15 +5,15 @@ ghost use Rattle.std.specs.List.{count_by};
 ghost use Rattle.ebr_units.specs.Served.{served};
 ghost use Rattle.ebr_session.specs.Has.{Suits, is_leaving, quitting};
 ghost use Rattle.ebr_worker.specs.Ends.{is_refused};
-ghost use Rattle.ebr_worker.specs.Work.{IsEndOf, Runs, Stands, Turned};
+ghost use Rattle.ebr_worker.specs.Turn.{MayTurn, TakesTurn};
+ghost use Rattle.ebr_worker.specs.Work.{IsEndOf, Runs};
 ghost use Rattle.ebr_worker.specs.inside.Worker.{Advanced, Flushed, HasGoneOn, LeavesNow, Quits, Settles, end_by, end_of, if_ended, why_by};
 
-use crate::engine::answer;
+use crate::asked::Asked;
+use crate::limits::MAX_ASKS;
 use ebr_asks::{Answer, Ask, Exchange};
-use ebr_base::{MAX_COUNT, NoMemory, SessionId, Shared};
-use ebr_core::Engine;
+use ebr_base::{NoMemory, SessionId, Shared};
 use ebr_outside::Sink;
-use ebr_record::Keep;
 use ebr_report::{EndKind, SessionEnd, offer};
 use ebr_session::{NextAsk, Session};
 use ebr_units::Book;
@@ -71,15 +71,15 @@ impl<S: Sink> Worker<S> {
     /// One turn: the session goes on to its next ask, what it newly printed is written, and the ask is answered. Where it finds no
     /// memory, or its sink fails, it quits, and the turn makes its Leave. Behind an answer that there is no memory the next turn makes
     /// its Leave. That of a session that has ended does nothing.
-    pub fn turn<K: Keep>(&mut self, engine: &mut Engine<K>)
-        requires { Stands self.old engine.old }
-        ensures { Turned K.as_keeper self.old self.new engine.old engine.new }
+    pub fn turn<A: Asked>(&mut self, at: &mut A)
+        requires { MayTurn A.may_ask self.old at.old }
+        ensures { TakesTurn A.may_ask A.replied self.old self.new at.old at.new }
     {
         if self.end.is_some() {
             return;
         }
         let ask = self.go_on();
-        let (answer, book) = answer(engine, self.id(), ask);
+        let (answer, book) = at.reply(self.id(), self.transcript(), ask);
         self.settle(answer, book);
     }
 
@@ -92,7 +92,7 @@ impl<S: Sink> Worker<S> {
         if self.why.is_some() {
             return self.leave();
         }
-        if self.session.transcript().len() >= MAX_COUNT - 1 {
+        if self.session.transcript().len() >= MAX_ASKS - 1 {
             return self.quit(EndKind::NoMemory);
         }
         match self.advance() {
@@ -170,16 +170,23 @@ impl<S: Sink> Worker<S> {
     }
 
     /// The number of the session.
-    fn id(&self) -> SessionId
+    pub fn id(&self) -> SessionId
         ensures { result ≡ self.now.session.session }
     {
         self.session.id()
     }
 
+    /// The session's exchanges.
+    fn transcript(&self) -> &[Exchange]
+        ensures { result.now ≡ self.now.session.transcript }
+    {
+        self.session.transcript()
+    }
+
     /// What a session that has ended came to, with its sink.
     pub fn into_end(self) -> SessionEnd<S>
         requires ended { IsSome self.end }
-        requires few { length self.session.transcript ≤ MAX_COUNT }
+        requires few { length self.session.transcript ≤ MAX_ASKS }
         ensures end { IsEndOf S.held S.faults self result }
         ensures sink { IsSome result.sink }
     {

@@ -1,7 +1,7 @@
 -- A rehearsal at work.
 use Rattle.std.specs.Prelude.{ℕ, ◌≡◌, ◌+◌, ◌≤◌, Bool, true, List, [], ◌++◌, length, sum_by, ◌-◌, slice_get, slice_set, Option, Some, None, IsSome, is_none}
 use Rattle.ebr_base.specs.declared.numbers.SessionId.{SessionId}
-use Rattle.ebr_base.specs.declared.numbers.TheConstants.{MAX_COUNT}
+use Rattle.ebr_worker.specs.declared.limits.TheConstants.{MAX_ASKS}
 use Rattle.ebr_asks.specs.declared.entry.Entry.{Entry}
 use Rattle.ebr_record.specs.Keeper.{Keeper}
 use Rattle.ebr_report.specs.declared.ends.EndKind.{EndKind}
@@ -41,7 +41,7 @@ goes_on w = is_none w.end
 
 -- how many asks all sessions may still make
 abbrev pub asks_left : List Work → ℕ
-asks_left ws = sum_by (λ (w : Work). MAX_COUNT - length w.session.transcript) ws
+asks_left ws = sum_by (λ (w : Work). MAX_ASKS - length w.session.transcript) ws
 
 -- A worker whose session has just begun.
 pub record IsBegun (n : ℕ) (w : Work) : Type 0 where

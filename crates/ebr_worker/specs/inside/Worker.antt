@@ -2,7 +2,7 @@
 use Rattle.std.specs.Prelude.{◌≡◌, ◌+◌, ◌<◌, ◌⊎◌, Bool, true, false, length, Option, Some, None, Result}
 use Rattle.std.specs.Bool.{OnTrue}
 use Rattle.ebr_base.specs.declared.clone_in.NoMemory as memory
-use Rattle.ebr_base.specs.declared.numbers.TheConstants.{MAX_COUNT}
+use Rattle.ebr_worker.specs.declared.limits.TheConstants.{MAX_ASKS}
 use Rattle.ebr_asks.specs.declared.ask.Ask.{Ask}
 use Rattle.ebr_asks.specs.declared.ask.Ask.TheVariants as ask
 use Rattle.ebr_asks.specs.declared.answer.Answer.{Answer}
@@ -81,7 +81,7 @@ pub record GoesOn (w : Work) : Type 0 where
   pub went_on : AllContinue (answers w.session.transcript)
   pub written : w.written ≡ w.session.printed
   pub unfailed : w.faults ≡ 0
-  pub few : length w.session.transcript + 1 < MAX_COUNT
+  pub few : length w.session.transcript + 1 < MAX_ASKS
 
 -- by why it leaves
 abbrev pub AsksBy : Option EndKind → Ask → Work → Type 0
@@ -97,7 +97,7 @@ pub record Asks (q : Ask) (w : Work) : Type 0 where
   pub out : w.session.out ≡ Some q
   pub follows : Follows w.session
   pub not_over : has_ended w.session.transcript ≡ false
-  pub few : length w.session.transcript < MAX_COUNT
+  pub few : length w.session.transcript < MAX_ASKS
   pub fit : IsFit q
   pub short : is_short w.session.transcript ≡ true → q ≡ ask.Leave
   pub by : AsksBy w.why q w

@@ -1,5 +1,5 @@
 use Rattle.std.proofs.Common.{◌-◌, length}
-use Rattle.ebr_base.specs.declared.numbers.TheConstants.{MAX_COUNT}
+use Rattle.ebr_worker.specs.declared.limits.TheConstants.{MAX_ASKS}
 use Rattle.ebr_worker.specs.inside.Rehearsal.{RunsAlone}
 use Rattle.ebr_worker.proofs.run.run_out.Given as goal
 
@@ -8,4 +8,4 @@ abbrev pub invariant-loop-worker : goal.invariant-loop-worker
 invariant-loop-worker g l = RunsAlone g.K.Keep.as_keeper l.fn.worker l.worker l.fn.engine l.engine
 
 abbrev pub decreases-loop-worker : goal.decreases-loop-worker
-decreases-loop-worker g l = MAX_COUNT - length l.worker.session.transcript
+decreases-loop-worker g l = MAX_ASKS - length l.worker.session.transcript

@@ -1,5 +1,5 @@
 use Rattle.std.proofs.Common.{◌≡◌, ◌+◌, ◌<◌, length, Ok, refl, sym, ap, ◌∙◌, arith, subst}
-use Rattle.ebr_base.specs.declared.numbers.TheConstants.{MAX_COUNT}
+use Rattle.ebr_worker.specs.declared.limits.TheConstants.{MAX_ASKS}
 use Rattle.ebr_worker.specs.Work.{Work}
 use Rattle.ebr_worker.specs.inside.Worker.{Advanced}
 use Rattle.ebr_worker.proofs.Turns.{goes_failed, goes_wrote, gone_leaving, gone_on, gone_short, gone_unwritten, is_to_leave, never_done, stands_still, why_seen}
@@ -23,7 +23,7 @@ returns-then-transcript g c = gone_short _ _ _ _ _ refl c.requires.runs c.requir
 pub returns-then-flush : goal.returns-then-flush
 returns-then-flush g c =
     let same : length c.transcript.result.now ≡ length c.args.self.now.session.transcript = ap length c.transcript.ensures ∙ ap (λ (w : Work). length w.session.transcript) c.self.view_is in
-    let few : length c.args.self.now.session.transcript + 1 < MAX_COUNT = omega (arith, same, c.if-transcript.false) in
+    let few : length c.args.self.now.session.transcript + 1 < MAX_ASKS = omega (arith, same, c.if-transcript.false) in
     gone_on _ _ _ _ c.requires.runs c.requires.no_end (why_seen _ _ _ c.self.view_is (sym c.is_some.ensures ∙ c.if-is_some.false)) few
     (subst (λ r. Advanced r c.args.self.now c.advance.new.self) (c.in-Ok-Ask.is ∙ ap Ok c.in-Ok-Ask.field-0-is) c.advance.ensures) c.if-flush.ensures
 
