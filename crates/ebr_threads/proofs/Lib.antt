@@ -1,0 +1,7 @@
+mod Runs
+mod Sessions
+mod Crossing
+pub mod Living
+pub mod Placing
+pub mod Sitting
+pub mod Telling

@@ -1,0 +1,4 @@
+pub mod Booking
+pub mod Seating
+pub mod Run
+pub mod inside
