@@ -4,10 +4,9 @@ use Rattle.std.specs.Prelude.{map}
 use Rattle.std.proofs.lemmas.List.{map-append}
 use Rattle.ebr_outside.specs.HostCalls.{with_call}
 use Rattle.ebr_outside.specs.declared.host_call.HostCall.{HostCall}
-use Rattle.ebr_words.specs.declared.words.Command.TheVariants.{Rehearse}
 use Rattle.ebr_server.specs.declared.exit.ExitCode.{ExitCode}
 use Rattle.ebr_server.specs.declared.exit.ExitCode.TheVariants as code
-use Rattle.ebr_server.specs.Program.{CallsInOrder, InOrder, LastFails, Step, before_disk, call_of, disk_at, fault_at, journal_place, order_of_work, own_fault, sink_at, source_at, steps_from}
+use Rattle.ebr_server.specs.Program.{CallsInOrder, InOrder, LastFails, Step, before_rehearsal, call_of, fault_at, own_fault, scripts_and_sinks, sink_at, source_at, steps_from}
 use Rattle.ebr_startup.specs.declared.why.OpenWhy.{OpenWhy}
 use Rattle.ebr_startup.specs.declared.why.OpenWhy.TheVariants as why
 use Rattle.ebr_server.specs.inside.Opened.{OrderStops, code_of_open, with_steps}
@@ -118,70 +117,73 @@ steps_split f at (suc a) b =
     ap (steps_from f at) more ∙ ap (λ xs. f at ∷ xs) (steps_split f (at + 1) a b ∙ ap (λ k. steps_from f (at + 1) a ++ steps_from f k b) here)
 
 -- one step among them
-step_between : (f : ℕ → Step) (w n : ℕ) → 3 ≤ w → w < n → steps_from f 3 (n - 3) ≡ steps_from f 3 (w - 3) ++ (f w ∷ steps_from f (w + 1) (n - w - 1))
-step_between f w n from below =
-    let parts : n - 3 ≡ (w - 3) + suc (n - w - 1) = omega (arith, from, below) in
-    let here : 3 + (w - 3) ≡ w = omega (arith, from) in
-    ap (steps_from f 3) parts ∙ steps_split f 3 (w - 3) (suc (n - w - 1)) ∙ ap (λ k. steps_from f 3 (w - 3) ++ (f k ∷ steps_from f (k + 1) (n - w - 1))) here
+step_between : (f : ℕ → Step) (first w n : ℕ) → first ≤ w → w < n → steps_from f first (n - first) ≡ steps_from f first (w - first) ++ (f w ∷ steps_from f (w + 1) (n - w - 1))
+step_between f first w n from below =
+    let parts : n - first ≡ (w - first) + suc (n - w - 1) = omega (arith, from, below) in
+    let here : first + (w - first) ≡ w = omega (arith, from) in
+    ap (steps_from f first) parts ∙ steps_split f first (w - first) (suc (n - w - 1)) ∙ ap (λ k. steps_from f first (w - first) ++ (f k ∷ steps_from f (k + 1) (n - w - 1))) here
 
-pub called_at : (f : ℕ → Step) (old mid new : Calls) (w n : ℕ) (fault : Option ℕ) → 3 ≤ w → w < n → mid ≡ with_steps old (steps_from f 3 (w - 3)) → CallsInOrder mid new (f w ∷ []) fault → CallsInOrder old new (steps_from f 3 (n - 3)) fault
-called_at f old mid new w n fault from below so_far called =
-    called_behind old mid new (steps_from f 3 (w - 3)) (f w ∷ []) (steps_from f (w + 1) (n - w - 1)) (steps_from f 3 (n - 3)) fault so_far called (step_between f w n from below)
+pub called_at : (f : ℕ → Step) (old mid new : Calls) (first w n : ℕ) (fault : Option ℕ) → first ≤ w → w < n → mid ≡ with_steps old (steps_from f first (w - first)) → CallsInOrder mid new (f w ∷ []) fault → CallsInOrder old new (steps_from f first (n - first)) fault
+called_at f old mid new first w n fault from below so_far called =
+    called_behind old mid new (steps_from f first (w - first)) (f w ∷ []) (steps_from f (w + 1) (n - w - 1)) (steps_from f first (n - first)) fault so_far called (step_between f first w n from below)
 
-pub step_more : (f : ℕ → Step) (old mid new : Calls) (w : ℕ) → 3 ≤ w → mid ≡ with_steps old (steps_from f 3 (w - 3)) → new ≡ with_steps mid (f w ∷ []) → new ≡ with_steps old (steps_from f 3 (w + 1 - 3))
-step_more f old mid new w from so_far more =
-    let parts : w + 1 - 3 ≡ (w - 3) + 1 = omega (arith, from) in
-    let here : 3 + (w - 3) ≡ w = omega (arith, from) in
-    let steps : steps_from f 3 (w - 3) ++ (f w ∷ []) ≡ steps_from f 3 (w + 1 - 3) =
-    sym (ap (steps_from f 3) parts ∙ steps_split f 3 (w - 3) 1 ∙ ap (λ k. steps_from f 3 (w - 3) ++ (f k ∷ [])) here) in
-    with_more old mid new (steps_from f 3 (w - 3)) (f w ∷ []) so_far more ∙ ap (with_steps old) steps
+pub step_more : (f : ℕ → Step) (old mid new : Calls) (first w : ℕ) → first ≤ w → mid ≡ with_steps old (steps_from f first (w - first)) → new ≡ with_steps mid (f w ∷ []) → new ≡ with_steps old (steps_from f first (w + 1 - first))
+step_more f old mid new first w from so_far more =
+    let parts : w + 1 - first ≡ (w - first) + 1 = omega (arith, from) in
+    let here : first + (w - first) ≡ w = omega (arith, from) in
+    let steps : steps_from f first (w - first) ++ (f w ∷ []) ≡ steps_from f first (w + 1 - first) =
+    sym (ap (steps_from f first) parts ∙ steps_split f first (w - first) 1 ∙ ap (λ k. steps_from f first (w - first) ++ (f k ∷ [])) here) in
+    with_more old mid new (steps_from f first (w - first)) (f w ∷ []) so_far more ∙ ap (with_steps old) steps
 
--- ---- a rehearsal
+-- ---- the scripts from a place on, and their sinks
 
-module _ (words : List (List ℕ)) (old : Calls) where
-  abbrev n : ℕ
-  n = length words - 3
-
+module _ (words : List (List ℕ)) (first : ℕ) (old : Calls) where
   abbrev scripts : List Step
-  scripts = steps_from (source_at words) 3 n
+  scripts = steps_from (source_at words) first (length words - first)
 
   abbrev sinks : List Step
-  sinks = steps_from (sink_at words) 3 n
+  sinks = steps_from (sink_at words) first (length words - first)
 
-  -- what is done before the disk is opened
-  abbrev work : List Step
-  work = before_disk words
+  abbrev both : List Step
+  both = scripts_and_sinks words first
 
-  pub order_called : (new : Calls) (fault : Option ℕ) → CallsInOrder old new (source_at words 2 ∷ []) fault → CallsInOrder old new work fault
-  order_called new fault called = called_first old new (source_at words 2 ∷ []) (scripts ++ sinks) work fault called refl
+  pub scripts_called : (new : Calls) (fault : Option ℕ) → CallsInOrder old new scripts fault → CallsInOrder old new both fault
+  scripts_called new fault called = called_first old new scripts sinks both fault called refl
 
-  pub scripts_called : (mid new : Calls) (fault : Option ℕ) → mid ≡ with_steps old (source_at words 2 ∷ []) → CallsInOrder mid new scripts fault → CallsInOrder old new work fault
-  scripts_called mid new fault first called = called_behind old mid new (source_at words 2 ∷ []) scripts sinks work fault first called refl
+  pub sinks_called : (mid new : Calls) (fault : Option ℕ) → mid ≡ with_steps old scripts → CallsInOrder mid new sinks fault → CallsInOrder old new both fault
+  sinks_called mid new fault so_far called = called_behind old mid new scripts sinks [] both fault so_far called (ap (λ xs. scripts ++ xs) (sym (append-nil sinks)))
 
-  pub sinks_called : (mid last new : Calls) (fault : Option ℕ) → mid ≡ with_steps old (source_at words 2 ∷ []) → last ≡ with_steps mid scripts → CallsInOrder last new sinks fault → CallsInOrder old new work fault
-  sinks_called mid last new fault first second called =
-      let before : last ≡ with_steps old (source_at words 2 ∷ scripts) = with_more old mid last (source_at words 2 ∷ []) scripts first second in
-      let whole : work ≡ (source_at words 2 ∷ scripts) ++ (sinks ++ []) = ap (λ xs. source_at words 2 ∷ (scripts ++ xs)) (sym (append-nil sinks)) in
-      called_behind old last new (source_at words 2 ∷ scripts) sinks [] work fault before called whole
+  pub all_opened : (mid new : Calls) → mid ≡ with_steps old scripts → new ≡ with_steps mid sinks → new ≡ with_steps old both
+  all_opened mid new so_far more = with_more old mid new scripts sinks so_far more
 
-  pub all_opened : (mid last new : Calls) → mid ≡ with_steps old (source_at words 2 ∷ []) → last ≡ with_steps mid scripts → new ≡ with_steps last sinks → new ≡ with_steps old work
-  all_opened mid last new first second third =
-      with_more old last new (source_at words 2 ∷ scripts) sinks (with_more old mid last (source_at words 2 ∷ []) scripts first second) third
+-- ---- behind an order
 
-  -- ---- and then the disk
+module _ (words : List (List ℕ)) (old : Calls) where
+  abbrev order : List Step
+  order = source_at words 2 ∷ []
 
-  abbrev disk : List Step
-  disk = disk_at words journal_place ∷ []
+  pub order_called : (new : Calls) (fault : Option ℕ) → CallsInOrder old new order fault → CallsInOrder old new (before_rehearsal words) fault
+  order_called new fault called = called_first old new order (scripts_and_sinks words 3) (before_rehearsal words) fault called refl
 
-  pub before_called : (new : Calls) (fault : Option ℕ) → CallsInOrder old new work fault → CallsInOrder old new (order_of_work (Some Rehearse) words) fault
-  before_called new fault called = called_first old new work disk (order_of_work (Some Rehearse) words) fault called refl
+  pub behind_called : (mid new : Calls) (fault : Option ℕ) → mid ≡ with_steps old order → CallsInOrder mid new (scripts_and_sinks words 3) fault → CallsInOrder old new (before_rehearsal words) fault
+  behind_called mid new fault so_far called =
+      called_behind old mid new order (scripts_and_sinks words 3) [] (before_rehearsal words) fault so_far called (ap (λ xs. order ++ xs) (sym (append-nil (scripts_and_sinks words 3))))
 
-  pub disk_called : (mid new : Calls) (fault : Option ℕ) → mid ≡ with_steps old work → CallsInOrder mid new disk fault → CallsInOrder old new (order_of_work (Some Rehearse) words) fault
-  disk_called mid new fault first called =
-      called_behind old mid new work disk [] (order_of_work (Some Rehearse) words) fault first called (ap (λ xs. work ++ xs) (sym (append-nil disk)))
+  pub behind_opened : (mid new : Calls) → mid ≡ with_steps old order → new ≡ with_steps mid (scripts_and_sinks words 3) → new ≡ with_steps old (before_rehearsal words)
+  behind_opened mid new so_far more = with_more old mid new order (scripts_and_sinks words 3) so_far more
 
-  pub disk_opened : (mid new : Calls) → mid ≡ with_steps old work → new ≡ with_steps mid disk → new ≡ with_steps old (order_of_work (Some Rehearse) words)
-  disk_opened mid new first second = with_more old mid new work disk first second
+-- ---- and then the disk
+
+module _ (work : List Step) (disk : Step) (old : Calls) where
+  pub before_called : (new : Calls) (fault : Option ℕ) → CallsInOrder old new work fault → CallsInOrder old new (work ++ disk ∷ []) fault
+  before_called new fault called = called_first old new work (disk ∷ []) (work ++ disk ∷ []) fault called refl
+
+  pub disk_called : (mid new : Calls) (fault : Option ℕ) → mid ≡ with_steps old work → CallsInOrder mid new (disk ∷ []) fault → CallsInOrder old new (work ++ disk ∷ []) fault
+  disk_called mid new fault so_far called =
+      called_behind old mid new work (disk ∷ []) [] (work ++ disk ∷ []) fault so_far called (ap (λ xs. work ++ xs) (sym (append-nil (disk ∷ []))))
+
+  pub disk_opened : (mid new : Calls) → mid ≡ with_steps old work → new ≡ with_steps mid (disk ∷ []) → new ≡ with_steps old (work ++ disk ∷ [])
+  disk_opened mid new so_far more = with_more old mid new work (disk ∷ []) so_far more
 
 -- why no engine is opened is no fault of the host
 pub open_faultless : (cause : OpenWhy) (c : ExitCode) → c ≡ code_of_open cause → fault_at c ≡ None

@@ -7,7 +7,7 @@ use Rattle.std.proofs.lemmas.List.Elements.{All-cons, All-nil}
 use Rattle.ebr_faults.specs.Faults.{Rises}
 use Rattle.ebr_outside.specs.Disk.{Medium}
 use Rattle.ebr_words.specs.declared.words.Command.{Command}
-use Rattle.ebr_words.specs.declared.words.Command.TheVariants.{Dump, Rehearse, Try}
+use Rattle.ebr_words.specs.declared.words.Command.TheVariants.{Dump, Rehearse, Run, Try}
 use Rattle.ebr_order.specs.Order.{wrong_at}
 use Rattle.ebr_report.specs.declared.ends.EndKind.{EndKind}
 use Rattle.ebr_report.specs.declared.ends.EndKind.TheVariants as ending
@@ -23,7 +23,7 @@ use Rattle.ebr_worker.specs.Runs.{AreEnds}
 use Rattle.ebr_server.specs.declared.exit.ExitCode.{ExitCode}
 use Rattle.ebr_server.specs.declared.exit.ExitCode.TheVariants as code
 use Rattle.ebr_server.specs.Disks.{DiskStops, IsEntry, Leaves}
-use Rattle.ebr_server.specs.Program.{AllEnded, AllRight, DiskFails, EndsTold, Handed, IsComplete, IsLegal, IsLong, IsShort, IsSinkStop, LineFailed, Opens, OpensJournal, OrderBefore, OrderWrong, Outside, Ran, Reads, RightBefore, Served, SinkFailed, SinkFails, Stops, StopsBad, StopsBy, StopsDamaged, any_end, code_of_ends, code_of_lines, fault_at, journal_bytes, most, order_place, outside, sessions_of, sink_failed, told_at, turn_of, wants_memory}
+use Rattle.ebr_server.specs.Program.{AllEnded, AllRight, DiskFails, EndsTold, Handed, IsComplete, IsLegal, IsLong, IsShort, IsSinkStop, LineFailed, Opens, OpensJournal, OrderWrong, Outside, Ran, Reads, RightBefore, Served, SessionsRan, ShortBetween, SinkFailed, SinkFails, Stops, StopsBad, StopsBy, StopsDamaged, any_end, code_of_ends, code_of_lines, fault_at, journal_bytes, most, order_place, outside, sessions_of, sink_failed, told_at, turn_of, wants_memory}
 use Rattle.ebr_server.specs.inside.Opened.{LinesTold, ScriptServed}
 use Rattle.ebr_server.proofs.InWords.{Told, fails_since, short_between, short_told}
 use Rattle.ebr_server.proofs.Serving.{none_by}
@@ -252,6 +252,38 @@ sink_ends held sink_faults scripts h ends are one =
     let there : slice_get scripts one.place ≡ Some (get_or scripts one.place []) = slice_get-get_or scripts one.place [] (omega (arith, within, are.count)) in
     any_at sink_failed ends one.place one.end one.is_end (end_by one.end.sink sink_faults one.end.end (are.each one.place _ one.end there one.is_end).failed one.failed)
 
+-- the sessions of scripts have run
+module _ {S D : Type 0} (o : Outside S D) (words : List (List ℕ)) (first : ℕ) (run : Handed S D) (now : D) (disk_is : run.disk ≡ Some now) (ran : SessionsRan o words first run.recovered run.history run.ends now) (summed : EndsTold words run.history run.code run.ends run.faults run.held) where
+  by_sink : (any_end sink_failed run.ends ≡ true) ⊎ (summed.unwritten ≡ true) → (0 < run.faults) ⊎ SinkFailed o.sink_faults run.ends
+  by_sink which =
+      elim which [
+        | inl some ↦ inr (failed_sink o.sink_held o.sink_faults ran.scripts run.history run.ends ran.are_ends (which_ended sink_failed run.ends some))
+        | inr unwritten ↦ inl (positive run.faults (summed.tells.failed unwritten))
+      ]
+
+  as_many : length ran.scripts ≡ length words - first
+  as_many = omega (arith, ran.are_scripts.count)
+
+  sessions_right : (k : Command) → length words - first ≡ sessions_of k words → ((v : ℕ) → Reads (Some k) words v → IsShort o.bytes words v) → (k ≡ Rehearse → OrderWrong o.bytes words None)
+      → ((0 < run.faults) ⊎ SinkFailed o.sink_faults run.ends → SinkFails (Some k) o.sink_faults run.ends run.faults) → RanRight k o words run
+  sessions_right k count short order fails = record {
+    has_run = has_run run.history run.ends summed.unwritten run.code summed.is_code;
+    legal = subst (λ n. IsLegal run.recovered n run.history) (as_many ∙ count) ran.legal;
+    short = short;
+    order = order;
+    sink = λ is. fails (by_sink
+        (one_of (any_end sink_failed run.ends) summed.unwritten
+        (is_sink_fault (has_fault run.history) (any_end wants_memory run.ends) (any_end sink_failed run.ends || summed.unwritten) (sym is ∙ summed.is_code))));
+    sink_stops = λ one. subst IsSinkStop (sym summed.is_code)
+        (stops_so (has_fault run.history) (any_end wants_memory run.ends) (any_end sink_failed run.ends) summed.unwritten
+        (sink_ends o.sink_held o.sink_faults ran.scripts run.history run.ends ran.are_ends one));
+    disk = λ is. subst (DiskFails o.as_medium) (sym disk_is)
+        (ran.disk.failed (is_disk_fault (has_fault run.history) (any_end wants_memory run.ends) (any_end sink_failed run.ends || summed.unwritten) (sym is ∙ summed.is_code)));
+    line_failed = summed.tells.line_failed;
+    done = λ is. done_ended run.history run.ends summed.unwritten run.code summed.is_code is;
+    entered = λ opens. record { entry = ran.disk.entry; records = run.recovered; is_entry = ran.disk.is_entry; has = ran.disk.recovers };
+  }
+
 ran_right : {S D : Type 0} (k : Command) (o : Outside S D) (words : List (List ℕ)) (run : Handed S D) → Ran (Some k) o words run → RanRight k o words run
 ran_right {S} Try o words run r = record {
   has_run = has_run run.history run.ends false run.code r.ran.is_code;
@@ -278,33 +310,11 @@ ran_right {S} Try o words run r = record {
         let any : (any_end sink_failed run.ends || false) ≡ true = is_sink_fault (has_fault run.history) (any_end wants_memory run.ends) (any_end sink_failed run.ends || false) (sym is ∙ r.ran.is_code) in
         let one : OneEnded sink_failed run.ends = elim (one_of (any_end sink_failed run.ends) false any) [ inl some ↦ which_ended sink_failed run.ends some | inr none ↦ absurd cc ] in
         ap (λ e. e.end) (sym (lone_end run.ends r.ran.end one.place one.end r.ran.one one.is_end)) ∙ failed_kind one.end.end one.so
-ran_right {S} Rehearse o words run r = record {
-  has_run = has_run run.history run.ends r.summed.unwritten run.code r.summed.is_code;
-  legal = subst (λ n. IsLegal run.recovered n run.history) sessions r.ran.legal;
-  short = λ v opens. at_word v opens.1 (from_order v (v - 2) (omega (arith, opens.0)));
-  order = λ same. order_right (told_at o.bytes words order_place) r.ran.is_order.is;
-  sink = λ is. by_sink
-      (one_of (any_end sink_failed run.ends) r.summed.unwritten
-      (is_sink_fault (has_fault run.history) (any_end wants_memory run.ends) (any_end sink_failed run.ends || r.summed.unwritten) (sym is ∙ r.summed.is_code)));
-  sink_stops = λ one. subst IsSinkStop (sym r.summed.is_code)
-      (stops_so (has_fault run.history) (any_end wants_memory run.ends) (any_end sink_failed run.ends) r.summed.unwritten
-      (sink_ends o.sink_held o.sink_faults r.ran.scripts run.history run.ends r.ran.are_ends one));
-  disk = λ is. subst (DiskFails o.as_medium) (sym r.disk_is)
-      (r.ran.disk.failed (is_disk_fault (has_fault run.history) (any_end wants_memory run.ends) (any_end sink_failed run.ends || r.summed.unwritten) (sym is ∙ r.summed.is_code)));
-  line_failed = r.summed.tells.line_failed;
-  done = λ is. done_ended run.history run.ends r.summed.unwritten run.code r.summed.is_code is;
-  entered = λ opens. record { entry = r.ran.disk.entry; records = run.recovered; is_entry = r.ran.disk.is_entry; has = r.ran.disk.recovers };
-}
+ran_right Run o words run r = sessions_right o words 2 run r.now r.disk_is r.ran r.summed Run refl (λ v opens. short_between o.bytes words 2 (length words) r.ran.scripts r.ran.are_scripts v opens.0 opens.1) (λ other. absurd cc) (λ failed. failed)
+ran_right Rehearse o words run r = sessions_right o words 3 run r.now r.disk_is r.ran.ran r.summed Rehearse refl (λ v opens. at_word v opens.1 (from_order v (v - 2) (omega (arith, opens.0)))) (λ same. order_right (told_at o.bytes words order_place) r.ran.is_order.is) (λ failed. failed)
   where
-    by_sink : (any_end sink_failed run.ends ≡ true) ⊎ (r.summed.unwritten ≡ true) → (0 < run.faults) ⊎ SinkFailed o.sink_faults run.ends
-    by_sink which =
-        elim which [
-          | inl some ↦ inr (failed_sink o.sink_held o.sink_faults r.ran.scripts run.history run.ends r.ran.are_ends (which_ended sink_failed run.ends some))
-          | inr unwritten ↦ inl (positive run.faults (r.summed.tells.failed unwritten))
-        ]
-
-    sessions : length r.ran.scripts ≡ length words - 3
-    sessions = omega (arith, r.ran.are_scripts.count)
+    sessions : length r.ran.ran.scripts ≡ length words - 3
+    sessions = omega (arith, r.ran.ran.are_scripts.count)
 
     from_order : (v j : ℕ) → v ≡ 2 + j → (v ≡ 2) ⊎ (3 ≤ v)
     from_order v zero is = inl is
@@ -314,7 +324,7 @@ ran_right {S} Rehearse o words run r = record {
     at_word v below there =
         elim there [
           | inl is ↦ subst (IsShort o.bytes words) (sym is) (short_told (told_at o.bytes words 2) r.ran.order r.ran.is_order.is r.ran.is_order.short)
-          | inr behind ↦ short_between o.bytes words (length words) r.ran.scripts r.ran.are_scripts v behind below
+          | inr behind ↦ short_between o.bytes words 3 (length words) r.ran.ran.scripts r.ran.ran.are_scripts v behind below
         ]
 
     order_right : (told : Option (List ℕ)) → IfSome told (λ b. r.ran.order ≡ b) → IfSome told (λ b. wrong_at (length words - 3) b ≡ None)
@@ -414,36 +424,43 @@ module _ (bytes : Told) (words : List (List ℕ)) (fails : Type 0) where
   at_host : (k : Command) (w : ℕ) → StopsOf k (code.HostFault w) → Opens (Some k) words w × RightBefore k bytes words (turn_of k words w) × fails
   at_host Try w s = s
   at_host Dump w s = s
+  at_host Run w s = s
   at_host Rehearse w s = s
 
   at_long : (k : Command) (w : ℕ) → StopsOf k (code.TooLong w) → Reads (Some k) words w × RightBefore k bytes words w × IsLong bytes words w
   at_long Try w s = s
   at_long Dump w s = s
+  at_long Run w s = s
   at_long Rehearse w s = s
 
   at_bad : (k : Command) (at : ℕ) → StopsOf k (code.BadOrder at) → (k ≡ Rehearse) × IsShort bytes words order_place × OrderWrong bytes words (Some at)
   at_bad Try at s = absurd s
   at_bad Dump at s = absurd s
+  at_bad Run at s = absurd s
   at_bad Rehearse at s = (refl, s.0, s.1)
 
   at_damage : (k : Command) (at : ℕ) → StopsOf k (code.Damaged at) → OpensJournal (Some k)
   at_damage Try at s = absurd s
   at_damage Dump at s = tt
+  at_damage Run at s = tt
   at_damage Rehearse at s = tt
 
   no_done : (k : Command) → StopsOf k code.Done → ⊥
   no_done Try s = s
   no_done Dump s = s
+  no_done Run s = s
   no_done Rehearse s = s
 
   no_usage : (k : Command) → StopsOf k code.Usage → ⊥
   no_usage Try s = s
   no_usage Dump s = s
+  no_usage Run s = s
   no_usage Rehearse s = s
 
   no_sink_fault : (k : Command) → StopsOf k code.SinkFault → ⊥
   no_sink_fault Try s = s
   no_sink_fault Dump s = s
+  no_sink_fault Run s = s
   no_sink_fault Rehearse s = s
 
   usage_alone : (d : ExitCode) → Stops None bytes words fails d → d ≡ code.Usage
@@ -457,9 +474,9 @@ module _ (bytes : Told) (words : List (List ℕ)) (fails : Type 0) where
   usage_alone (code.BadOrder at) s = absurd s
   usage_alone (code.TooLong w) s = absurd s
 
-  place_before : (v w : ℕ) → order_place ≤ w → OrderBefore bytes words v → IfSome (told_at bytes words w) (λ b. most < length b → v ≤ w)
-  place_before v w from right =
-      elim (le_or_less v w) [ inl at_most ↦ always (told_at bytes words w) (v ≤ w) at_most | inr less ↦ short_never (told_at bytes words w) (v ≤ w) (right.short w from less) ]
+  place_before : (v w : ℕ) → 2 ≤ w → ShortBetween bytes words 2 v → IfSome (told_at bytes words w) (λ b. most < length b → v ≤ w)
+  place_before v w from short =
+      elim (le_or_less v w) [ inl at_most ↦ always (told_at bytes words w) (v ≤ w) at_most | inr less ↦ short_never (told_at bytes words w) (v ≤ w) (short w from less) ]
 
   behind_order : (w : ℕ) → order_place ≤ w → IsShort bytes words order_place → IfSome (told_at bytes words w) (λ b. most < length b → order_place < w)
   behind_order w from short =
@@ -475,21 +492,26 @@ module _ (bytes : Told) (words : List (List ℕ)) (fails : Type 0) where
   same_place v w is there = omega (arith, is, there)
 
   -- what is read behind a turn isn't too long
-  never_long : (w : ℕ) (P : Type 0) → order_place ≤ w → w < length words → OrderBefore bytes words (length words) → IfSome (told_at bytes words w) (λ b. most < length b → P)
-  never_long w P from below right = short_never (told_at bytes words w) P (right.short w from below)
+  never_long : (w : ℕ) (P : Type 0) → 2 ≤ w → w < length words → ShortBetween bytes words 2 (length words) → IfSome (told_at bytes words w) (λ b. most < length b → P)
+  never_long w P from below short = short_never (told_at bytes words w) P (short w from below)
 
   long_stops : (k : Command) (w : ℕ) (d : ExitCode) → Reads (Some k) words w → StopsOf k d → IfSome (told_at bytes words w) (λ b. most < length b → StopsBy k words w d)
   long_stops Try w (code.HostFault v) opens s = always (told_at bytes words w) (v ≤ w) (same_place v w s.0 opens)
   long_stops Try w (code.TooLong v) opens s = always (told_at bytes words w) (v ≤ w) (same_place v w s.0 opens)
   long_stops Dump w d opens s = absurd opens
-  long_stops Rehearse w (code.HostFault v) opens s = place_before (turn_of Rehearse words v) w opens.0 s.1
-  long_stops Rehearse w (code.TooLong v) opens s = place_before v w opens.0 s.1
+  long_stops Run w (code.HostFault v) opens s = place_before (turn_of Run words v) w opens.0 s.1
+  long_stops Run w (code.TooLong v) opens s = place_before v w opens.0 s.1
+  long_stops Rehearse w (code.HostFault v) opens s = place_before (turn_of Rehearse words v) w opens.0 s.1.short
+  long_stops Rehearse w (code.TooLong v) opens s = place_before v w opens.0 s.1.short
   long_stops Try w (code.BadOrder at) opens s = absurd s
+  long_stops Run w (code.BadOrder at) opens s = absurd s
   long_stops Rehearse w (code.BadOrder at) opens s = behind_order w opens.0 s.0
   long_stops Try w (code.Damaged at) opens s = absurd s
-  long_stops Rehearse w (code.Damaged at) opens s = never_long w ⊥ opens.0 opens.1 s
+  long_stops Run w (code.Damaged at) opens s = never_long w ⊥ opens.0 opens.1 s
+  long_stops Rehearse w (code.Damaged at) opens s = never_long w ⊥ opens.0 opens.1 s.short
   long_stops Try w code.DiskFault opens s = absurd s
-  long_stops Rehearse w code.DiskFault opens s = never_long w ⊥ opens.0 opens.1 s
+  long_stops Run w code.DiskFault opens s = never_long w ⊥ opens.0 opens.1 s
+  long_stops Rehearse w code.DiskFault opens s = never_long w ⊥ opens.0 opens.1 s.short
   long_stops k w code.NoMemory opens s = always (told_at bytes words w) (Unit {0}) nothing
   long_stops k w code.Done opens s = absurd (no_done k s)
   long_stops k w code.Usage opens s = absurd (no_usage k s)
@@ -534,6 +556,7 @@ module _ (bytes : Told) (words : List (List ℕ)) (fails : Type 0) where
   right_order : (k : Command) (disks : Told) → k ≡ Rehearse → AllRight k bytes disks words → IsSomeAnd (told_at bytes words order_place) (λ b. wrong_at n b ≡ None)
   right_order Try disks is right = absurd cc
   right_order Dump disks is right = absurd cc
+  right_order Run disks is right = absurd cc
   right_order Rehearse disks is right = right.order
 
   complete_stop : (k : Command) (disks : Told) (d : ExitCode) → AllRight k bytes disks words → (fails → ⊥) → (d ≡ code.DiskFault → ⊥) → ((at : ℕ) → d ≡ code.Damaged at → ⊥) → StopsOf k d → IsComplete d
@@ -569,6 +592,7 @@ disk_failed Left as_medium told (Some d) stops = stops.failed refl
 damage_left : (k : Command) (old new : Medium) (at : ℕ) → Leaves (Some k) old (why.Damaged at) new → IsTrue old.tells → IsDamagedAt old.reads at
 damage_left Try old new at left tells = (left.told tells).0
 damage_left Dump old new at left tells = left.damaged tells at refl
+damage_left Run old new at left tells = (left.told tells).0
 damage_left Rehearse old new at left tells = (left.told tells).0
 
 damage_told : {D : Type 0} (k : Command) (as_medium : D → Medium) (told : Option (List ℕ)) (at : ℕ) (disk : Option D) → DiskStops (Leaves (Some k)) as_medium told (code.Damaged at) disk → IfSome told (λ bytes. IsDamagedAt bytes at)
@@ -680,6 +704,7 @@ module _ {S D : Type 0} (o : Outside S D) (fails : Type 0) (words : List (List �
   no_failed : (k : Command) → SinkFails (Some k) o.sink_faults run.ends run.faults → ((0 < run.faults) → ⊥) → (SinkFailed o.sink_faults run.ends → ⊥) → ⊥
   no_failed Try failed no_report no_sink = no_report failed
   no_failed Dump failed no_report no_sink = no_report failed
+  no_failed Run failed no_report no_sink = elim failed [ inl told ↦ no_report told | inr sink ↦ no_sink sink ]
   no_failed Rehearse failed no_report no_sink = elim failed [ inl told ↦ no_report told | inr sink ↦ no_sink sink ]
 
   pub stops_long : (asked : Option Command) → By asked → (w : ℕ) → Reads asked words w → IfSome (told_at o.bytes words w) (λ b. most < length b → IfSome asked (λ k. StopsBy k words w c))
@@ -739,6 +764,7 @@ module _ {S D : Type 0} (o : Outside S D) (fails : Type 0) (words : List (List �
   journal_sound : (k : Command) → OpensJournal (Some k) → AllRight k o.bytes o.disks words → IsSomeAnd disk_told (λ bytes. (at : ℕ) → IsDamagedAt bytes at → ⊥)
   journal_sound Try opens right = absurd opens
   journal_sound Dump opens right = right.journal
+  journal_sound Run opens right = right.journal
   journal_sound Rehearse opens right = right.journal
 
   pub complete : (asked : Option Command) → By asked
@@ -783,6 +809,15 @@ stops_by bytes words F G by (Some Dump) (code.Damaged w) s = tt
 stops_by bytes words F G by (Some Dump) code.NoMemory s = tt
 stops_by bytes words F G by (Some Dump) (code.BadOrder w) s = absurd s
 stops_by bytes words F G by (Some Dump) (code.TooLong w) s = absurd s.0
+stops_by bytes words F G by (Some Run) code.Done s = absurd s
+stops_by bytes words F G by (Some Run) code.Usage s = absurd s
+stops_by bytes words F G by (Some Run) (code.HostFault w) s = (s.0, s.1, by s.2)
+stops_by bytes words F G by (Some Run) code.DiskFault s = s
+stops_by bytes words F G by (Some Run) code.SinkFault s = absurd s
+stops_by bytes words F G by (Some Run) (code.Damaged w) s = s
+stops_by bytes words F G by (Some Run) code.NoMemory s = tt
+stops_by bytes words F G by (Some Run) (code.BadOrder w) s = absurd s
+stops_by bytes words F G by (Some Run) (code.TooLong w) s = s
 stops_by bytes words F G by (Some Rehearse) code.Done s = absurd s
 stops_by bytes words F G by (Some Rehearse) code.Usage s = absurd s
 stops_by bytes words F G by (Some Rehearse) (code.HostFault w) s = (s.0, s.1, by s.2)

@@ -13,6 +13,7 @@ use Rattle.ebr_server.specs.declared.exit.ExitCode.TheVariants as code
 use Rattle.ebr_server.specs.Disks.{DiskStops, IsEntry, Leaves, Unread}
 use Rattle.ebr_server.specs.Program.{DumpRan, Handed, LineFailed, NoneRan, Outside, Reported, Stops, Tells, journal_bytes, last_line}
 use Rattle.ebr_server.specs.inside.Opened.{LinesTold, OpensNone, ReadsOff, StopsOver, code_of_open}
+use Rattle.ebr_server.proofs.Serving.{none_ran}
 use Rattle.ebr_server.proofs.Staying.{opens_none}
 
 -- why the disk wasn't opened
@@ -62,26 +63,14 @@ dump_ran o words c recovered history ends left faults held disk now lines entry 
 
 -- ---- no lines were told
 
-none_ran : {S D : Type 0} (o : Outside S D) (words : List (List ℕ)) (F : Type 0) (c : ExitCode) (run : Handed S D) → Stops (Some Dump) o.bytes words F c → DiskStops (Leaves (Some Dump)) o.as_medium (journal_bytes o words) c run.disk → run.code ≡ c
-    → run.recovered ≡ [] → run.history ≡ [] → run.ends ≡ [] → LineFailed c run.faults → IfSome run.held (λ b. Reported run.faults b [] (last_line c words)) → NoneRan (Stops (Some Dump) o.bytes words F) (Leaves (Some Dump)) o words run
-none_ran o words F c run stop disk is none_recovered no_entry no_end failed told = record {
-  stop = subst (Stops (Some Dump) o.bytes words F) (sym is) stop;
-  no_record = none_recovered;
-  no_entry = no_entry;
-  no_end = no_end;
-  disk = subst (λ d. DiskStops (Leaves (Some Dump)) o.as_medium (journal_bytes o words) d run.disk) (sym is) disk;
-  failed = subst (λ d. LineFailed d run.faults) (sym is) failed;
-  report = subst (λ d. IfSome run.held (λ b. Reported run.faults b [] (last_line d words))) (sym is) told;
-}
-
 -- the disk wasn't opened
 pub unopened_ran : {S D : Type 0} (o : Outside S D) (words : List (List ℕ)) (P : Type 0) (old new : ℕ) (c : ExitCode) (run : Handed S D) → OpensNone (Rises old new) c → run.code ≡ c → run.recovered ≡ [] → run.history ≡ [] → run.ends ≡ [] → run.disk ≡ None
     → LineFailed c run.faults → IfSome run.held (λ b. Reported run.faults b [] (last_line c words)) → NoneRan (Stops (Some Dump) o.bytes words (Rises old new ⊎ P)) (Leaves (Some Dump)) o words run
 unopened_ran o words P old new c run f is none_recovered no_entry no_end none failed told =
-    none_ran o words (Rises old new ⊎ P) c run (opens_stops o.bytes words P old new c f) (subst (DiskStops (Leaves (Some Dump)) o.as_medium (journal_bytes o words) c) (sym none) (opens_none (Rises old new) c f)) is none_recovered no_entry no_end failed told
+    none_ran o words Dump (Rises old new ⊎ P) c run (opens_stops o.bytes words P old new c f) (subst (DiskStops (Leaves (Some Dump)) o.as_medium (journal_bytes o words) c) (sym none) (opens_none (Rises old new) c f)) is none_recovered no_entry no_end failed told
 
 -- its records weren't read
 pub unread_ran : {S D : Type 0} (o : Outside S D) (words : List (List ℕ)) (F : Type 0) (c : ExitCode) (disk : Option D) (run : Handed S D) → StopsOver Unread o.as_medium (journal_bytes o words) c disk → run.code ≡ c → run.recovered ≡ [] → run.history ≡ [] → run.ends ≡ []
     → run.disk ≡ disk → LineFailed c run.faults → IfSome run.held (λ b. Reported run.faults b [] (last_line c words)) → NoneRan (Stops (Some Dump) o.bytes words F) (Leaves (Some Dump)) o words run
 unread_ran o words F c disk run over is none_recovered no_entry no_end there failed told =
-    none_ran o words F c run (unread_stops o.bytes words F over.cause c over.is_code) (subst (DiskStops Unread o.as_medium (journal_bytes o words) c) (sym there) over.stays) is none_recovered no_entry no_end failed told
+    none_ran o words Dump F c run (unread_stops o.bytes words F over.cause c over.is_code) (subst (DiskStops Unread o.as_medium (journal_bytes o words) c) (sym there) over.stays) is none_recovered no_entry no_end failed told

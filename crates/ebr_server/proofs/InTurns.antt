@@ -17,11 +17,9 @@ use Rattle.ebr_worker.specs.Runs.{AreEnds}
 use Rattle.ebr_server.specs.declared.exit.ExitCode.{ExitCode}
 use Rattle.ebr_server.specs.declared.exit.ExitCode.TheVariants as code
 use Rattle.ebr_record.specs.declared.record.Record.{Record}
-use Rattle.ebr_startup.specs.declared.why.OpenWhy.{OpenWhy}
-use Rattle.ebr_startup.specs.declared.why.OpenWhy.TheVariants as why
 use Rattle.ebr_server.specs.Disks.{RanOver}
-use Rattle.ebr_server.specs.Program.{AllRead, AreScripts, IsLegal, IsOrder, IsShort, OrderWrong, Outside, RightBefore, SessionsRan, Stops, journal_bytes, told_at, turn_of}
-use Rattle.ebr_server.specs.inside.Opened.{AreTurns, Fails, FailsFrom, IsPrepared, MakesNone, OpensNone, OrderStops, ShortBetween, WasRead, code_of_open}
+use Rattle.ebr_server.specs.Program.{AllRead, AreScripts, IsLegal, IsOrder, IsShort, OrderWrong, Outside, RightBefore, SessionsPaced, ShortBetween, Stops, journal_bytes, told_at, turn_of}
+use Rattle.ebr_server.specs.inside.Opened.{AreTurns, Fails, FailsFrom, IsPrepared, OrderStops, WasRead}
 use Rattle.ebr_server.proofs.InWords.{Told, fails_since, short_between, short_told}
 
 -- ---- the turns of a right order are of its sessions
@@ -100,11 +98,11 @@ pub are_turns : (bytes : Told) (words : List (List ℕ)) (n m : ℕ) (order : Li
 are_turns bytes words n m order turns is_n read is = subst (λ k. AreTurns bytes words k turns) is_n (record { order = order; is_order = record { is = read.is; short = read.short; right = is.right }; turns_are = is.turns_are })
 
 -- the words behind the journal's have their turns in their order
-pub turn_behind : (words : List (List ℕ)) (w : ℕ) → 2 ≤ w → turn_of Rehearse words w ≡ w
-turn_behind words w from = ap (λ b. if b then length words else w) (other w (λ e. omega (arith, e, from)))
-  where
-    other : (w : ℕ) → w ≢ 1 → (w == 1) ≡ false
-    other w not_order = grind (arith, nat_tests)
+pub other_place : (w : ℕ) → w ≢ 1 → (w == 1) ≡ false
+other_place w other = grind (arith, nat_tests)
+
+turn_behind : (words : List (List ℕ)) (w : ℕ) → 2 ≤ w → turn_of Rehearse words w ≡ w
+turn_behind words w from = ap (λ b. if b then length words else w) (other_place w (λ e. omega (arith, e, from)))
 
 -- ---- behind an order
 
@@ -133,7 +131,7 @@ module _ (bytes : Told) (words : List (List ℕ)) (turns : List SessionId) (read
   before_turn : (w : ℕ) → 3 ≤ w → RightBefore Rehearse bytes words w → RightBefore Rehearse bytes words (turn_of Rehearse words w)
   before_turn w from right = subst (RightBefore Rehearse bytes words) (sym (turn_behind words w (omega (arith, from)))) right
 
-  pub script_stops : (P : Type 0) (old mid new : ℕ) (c : ExitCode) → old ≤ mid → FailsFrom bytes words 3 (Rises mid new ⊎ P) c → Stops (Some Rehearse) bytes words (Rises old new ⊎ P) c
+  script_stops : (P : Type 0) (old mid new : ℕ) (c : ExitCode) → old ≤ mid → FailsFrom bytes words 3 (Rises mid new ⊎ P) c → Stops (Some Rehearse) bytes words (Rises old new ⊎ P) c
   script_stops P old mid new (code.HostFault w) grown f = ((omega (arith, f.0), f.1), before_turn w f.0 (right_before w f.2), fails_since P old mid new grown f.3)
   script_stops P old mid new (code.TooLong w) grown f = ((omega (arith, f.0), f.1), right_before w f.2, f.3)
   script_stops P old mid new code.NoMemory grown f = tt
@@ -144,20 +142,11 @@ module _ (bytes : Told) (words : List (List ℕ)) (turns : List SessionId) (read
   script_stops P old mid new (code.Damaged at) grown f = absurd f
   script_stops P old mid new (code.BadOrder at) grown f = absurd f
 
-  made_none : (P : Type 0) (old mid new : ℕ) (scripts : List (List ℕ)) (c : ExitCode) → AreScripts bytes words 3 (length words) scripts → old ≤ mid → MakesNone words 3 (Rises mid new) c → Stops (Some Rehearse) bytes words (Rises old new ⊎ P) c
-  made_none P old mid new scripts (code.HostFault w) are grown f =
-      ((omega (arith, f.0), f.1), before_turn w f.0 (right_before w (λ v from below. short_between bytes words (length words) scripts are v from (omega (arith, below, f.1)))), fails_since P old mid new grown (inl f.2))
-  made_none P old mid new scripts code.NoMemory are grown f = tt
-  made_none P old mid new scripts (code.TooLong w) are grown f = absurd f
-  made_none P old mid new scripts code.Done are grown f = absurd f
-  made_none P old mid new scripts code.Usage are grown f = absurd f
-  made_none P old mid new scripts code.DiskFault are grown f = absurd f
-  made_none P old mid new scripts code.SinkFault are grown f = absurd f
-  made_none P old mid new scripts (code.Damaged at) are grown f = absurd f
-  made_none P old mid new scripts (code.BadOrder at) are grown f = absurd f
-
-  pub sink_stops : (P : Type 0) (old mid new : ℕ) (scripts : List (List ℕ)) (c d : ExitCode) → AreScripts bytes words 3 (length words) scripts → old ≤ mid → MakesNone words 3 (Rises mid new) d → c ≡ d → Stops (Some Rehearse) bytes words (Rises old new ⊎ P) c
-  sink_stops P old mid new scripts c d are grown f is = subst (Stops (Some Rehearse) bytes words (Rises old new ⊎ P)) (sym is) (made_none P old mid new scripts d are grown f)
+  -- .. by what the host tells at a later moment
+  pub scripts_stop : (mid_bytes : Told) → ((w : List ℕ) → mid_bytes w ≡ bytes w) → (P : Type 0) (old mid new : ℕ) (c : ExitCode) → old ≤ mid → FailsFrom mid_bytes words 3 (Rises mid new ⊎ P) c → Stops (Some Rehearse) bytes words (Rises old new ⊎ P) c
+  scripts_stop mid_bytes same P old mid new c grown f =
+      let is : mid_bytes ≡ bytes = λ i w. same w i in
+      script_stops P old mid new c grown (subst (λ b. FailsFrom b words 3 (Rises mid new ⊎ P) c) is f)
 
   -- the sessions' scripts are as many as the order speaks of
   count : (scripts : List (List ℕ)) → AreScripts bytes words 3 (length words) scripts → length words - 3 ≡ length scripts
@@ -192,43 +181,18 @@ module _ (bytes : Told) (words scripts : List (List ℕ)) (turns : List SessionI
     where
       at : (k : ℕ) → v ≡ 2 + k → IsShort bytes words v
       at zero is = subst (IsShort bytes words) (sym is) (short_told (told_at bytes words 2) p.order p.is_order.is p.is_order.short)
-      at (suc k) is = short_between bytes words (length words) scripts p.are_scripts v (omega (arith, is)) below
+      at (suc k) is = short_between bytes words 3 (length words) scripts p.are_scripts v (omega (arith, is)) below
 
   -- all that is read is right
   pub all_read : AllRead Rehearse bytes words
   all_read = record { short = short_word; order = λ less. wrong_nowhere }
 
-  pub disk_stops : (P : Type 0) (old mid new : ℕ) (c : ExitCode) → 3 ≤ length words → old ≤ mid → OpensNone (Rises mid new) c → Stops (Some Rehearse) bytes words (Rises old new ⊎ P) c
-  disk_stops P old mid new (code.HostFault w) some grown f =
-      let here : Stops (Some Rehearse) bytes words (Rises old new ⊎ P) (code.HostFault 1) = ((omega arith, omega (arith, some)), all_read, fails_since P old mid new grown (inl f.1)) in
-      subst (λ v. Stops (Some Rehearse) bytes words (Rises old new ⊎ P) (code.HostFault v)) (sym f.0) here
-  disk_stops P old mid new code.NoMemory some grown f = tt
-  disk_stops P old mid new (code.TooLong w) some grown f = absurd f
-  disk_stops P old mid new code.Done some grown f = absurd f
-  disk_stops P old mid new code.Usage some grown f = absurd f
-  disk_stops P old mid new code.DiskFault some grown f = absurd f
-  disk_stops P old mid new code.SinkFault some grown f = absurd f
-  disk_stops P old mid new (code.Damaged at) some grown f = absurd f
-  disk_stops P old mid new (code.BadOrder at) some grown f = absurd f
-
-  pub open_stops : (F : Type 0) (cause : OpenWhy) (c : ExitCode) → c ≡ code_of_open cause → Stops (Some Rehearse) bytes words F c
-  open_stops F cause c is = subst (Stops (Some Rehearse) bytes words F) (sym is) (by cause)
-    where
-      by : (w : OpenWhy) → Stops (Some Rehearse) bytes words F (code_of_open w)
-      by why.DiskFault = all_read
-      by (why.Damaged at) = all_read
-      by why.NoMemory = tt
-
 pub sessions_ran : {S D : Type 0} (o : Outside S D) (words scripts : List (List ℕ)) (turns : List SessionId) → IsPrepared o.bytes words scripts turns → (recovered : List Record) (history : List Entry) (ends : List (SessionEnd S)) (now : D)
     → IsLegal recovered (length scripts) history → AreEnds o.sink_held o.sink_faults scripts history ends → Paced (length scripts) turns history → RanOver o.as_medium (journal_bytes o words) (length scripts) recovered history now
-    → SessionsRan o words recovered history ends now
+    → SessionsPaced o words recovered history ends now
 sessions_ran o words scripts turns p recovered history ends now legal are_ends paced over = record {
-  scripts = scripts;
-  are_scripts = p.are_scripts;
+  ran = record { scripts = scripts; are_scripts = p.are_scripts; legal = legal; are_ends = are_ends; disk = over };
   order = p.order;
   is_order = p.is_order;
-  legal = legal;
-  are_ends = are_ends;
   paced = subst (λ t. Paced (length scripts) t history) p.turns_are paced;
-  disk = over;
 }

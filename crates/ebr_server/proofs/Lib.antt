@@ -1,10 +1,11 @@
 mod Calls
 mod Causes
 mod Dumping
+mod InThreads
 mod InTurns
-mod Rehearsing
 mod InWords
 mod Opening
+mod OverDisk
 mod ReadBytes
 mod Replies
 mod Serving

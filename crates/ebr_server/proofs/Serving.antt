@@ -1,12 +1,15 @@
 -- What a command has come to.
-use Rattle.std.proofs.Common.{ℕ, ◌≡◌, inl, inr, List, Option, Some, sym, subst}
+use Rattle.std.proofs.Common.{ℕ, ◌≡◌, ◌<◌, ◌⊎◌, inl, inr, List, [], Option, Some, sym, subst}
+use Rattle.std.specs.Prelude.{IfSome, IsSomeAnd}
 use Rattle.ebr_outside.specs.Disk.{Medium}
+use Rattle.ebr_words.specs.declared.words.Command.{Command}
 use Rattle.ebr_words.specs.declared.words.Command.TheVariants.{Try}
 use Rattle.ebr_startup.specs.declared.why.OpenWhy.{OpenWhy}
 use Rattle.ebr_server.specs.declared.exit.ExitCode.{ExitCode}
 use Rattle.ebr_server.specs.declared.exit.ExitCode.TheVariants as code
-use Rattle.ebr_server.specs.Disks.{Leaves}
-use Rattle.ebr_server.specs.Program.{Handed, NoneRan, Outside, Served, Stops}
+use Rattle.ebr_server.specs.declared.opened.Stop.{Stop}
+use Rattle.ebr_server.specs.Disks.{DiskStops, Leaves}
+use Rattle.ebr_server.specs.Program.{Handed, LineFailed, NoneRan, Outside, Reported, Served, Stops, journal_bytes, last_line}
 use Rattle.ebr_server.specs.inside.Opened.{ScriptServed, WantsMemory, WasRead}
 
 -- ---- no session has begun
@@ -21,6 +24,27 @@ none_by stops others Left o words run by none = record {
   failed = none.failed;
   report = none.report;
 }
+
+pub none_ran : {S D : Type 0} (o : Outside S D) (words : List (List ℕ)) (k : Command) (F : Type 0) (c : ExitCode) (run : Handed S D) → Stops (Some k) o.bytes words F c → DiskStops (Leaves (Some k)) o.as_medium (journal_bytes o words) c run.disk → run.code ≡ c
+    → run.recovered ≡ [] → run.history ≡ [] → run.ends ≡ [] → LineFailed c run.faults → IfSome run.held (λ b. Reported run.faults b [] (last_line c words)) → NoneRan (Stops (Some k) o.bytes words F) (Leaves (Some k)) o words run
+none_ran o words k F c run stop disk is none_recovered no_entry no_end failed told = record {
+  stop = subst (Stops (Some k) o.bytes words F) (sym is) stop;
+  no_record = none_recovered;
+  no_entry = no_entry;
+  no_end = no_end;
+  disk = subst (λ d. DiskStops (Leaves (Some k)) o.as_medium (journal_bytes o words) d run.disk) (sym is) disk;
+  failed = subst (λ d. LineFailed d run.faults) (sym is) failed;
+  report = subst (λ d. IfSome run.held (λ b. Reported run.faults b [] (last_line d words))) (sym is) told;
+}
+
+-- for what a call says that stopped the run
+pub stopped_so : {C S D : Type 0} (o : Outside S D) (words : List (List ℕ)) (k : Command) (source_faults : C → ℕ) (R : Type 0) (stop : Stop C D) (source : Option C) (run : Handed S D)
+    → Stops (Some k) o.bytes words (R ⊎ IsSomeAnd stop.halt.source (λ s. 0 < source_faults s)) stop.halt.code → DiskStops (Leaves (Some k)) o.as_medium (journal_bytes o words) stop.halt.code stop.disk → run.code ≡ stop.halt.code → source ≡ stop.halt.source
+    → run.recovered ≡ [] → run.history ≡ [] → run.ends ≡ [] → run.disk ≡ stop.disk → LineFailed stop.halt.code run.faults → IfSome run.held (λ b. Reported run.faults b [] (last_line stop.halt.code words))
+    → NoneRan (Stops (Some k) o.bytes words (R ⊎ IsSomeAnd source (λ s. 0 < source_faults s))) (Leaves (Some k)) o words run
+stopped_so {C} o words k source_faults R stop source run stops disk is from none_recovered no_entry no_end there failed told =
+    none_ran o words k (R ⊎ IsSomeAnd source (λ s. 0 < source_faults s)) stop.halt.code run (subst (λ (x : Option C). Stops (Some k) o.bytes words (R ⊎ IsSomeAnd x (λ s. 0 < source_faults s)) stop.halt.code) (sym from) stops)
+    (subst (DiskStops (Leaves (Some k)) o.as_medium (journal_bytes o words) stop.halt.code) (sym there) disk) is none_recovered no_entry no_end failed told
 
 -- ---- a script was run, or its session found no memory to begin
 

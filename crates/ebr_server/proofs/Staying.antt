@@ -1,12 +1,18 @@
 -- What becomes of the disk of a run that ends before its sessions begin.
-use Rattle.std.proofs.Common.{ℕ, ◌≡◌, IsTrue, List, Option, Some, refl, sym, ◌∙◌, ap, subst}
+use Rattle.std.proofs.Common.{ℕ, ◌≡◌, inl, inr, IsTrue, List, Option, Some, refl, sym, ◌∙◌, ap, subst}
 use Rattle.std.specs.Prelude.{Ok, Err, Result}
 use Rattle.ebr_faults.specs.Faults.{Rises}
 use Rattle.ebr_outside.specs.Disk.{Medium, Stands}
 use Rattle.ebr_record.specs.declared.record.Record.{Record}
 use Rattle.ebr_dump.specs.Dump.{Dump}
 use Rattle.ebr_allowed.specs.Allowed.{AreAllowed}
-use Rattle.ebr_startup.specs.Opened.{Unopened}
+use Rattle.ebr_journal.specs.declared.found.Found.{Found}
+use Rattle.ebr_journal.specs.Found.{Holds}
+use Rattle.ebr_journal.specs.Journal.{HasRecords}
+use Rattle.ebr_journal.specs.Keeper.{JournalState}
+use Rattle.ebr_core.specs.Engine.{EngineState}
+use Rattle.ebr_startup.specs.Damage.{HasDatabase}
+use Rattle.ebr_startup.specs.Opened.{IsKeptAs, Opened, Rests, Unopened}
 use Rattle.ebr_startup.specs.Read.{Reads}
 use Rattle.ebr_startup.specs.declared.why.OpenWhy.{OpenWhy}
 use Rattle.ebr_startup.specs.declared.why.OpenWhy.TheVariants as why
@@ -81,6 +87,37 @@ opens_none F (code.TooLong w) f = tt
 
 pub unopened_none : (F : Type 0) (c d : ExitCode) → c ≡ d → OpensNone F d → NeedsNone c
 unopened_none F c d is f = subst NeedsNone (sym is) (opens_none F d f)
+
+-- ---- an engine was opened that nobody has asked
+
+holds_has : (bytes : List ℕ) (f : Found) → Holds bytes f → HasRecords bytes f.records
+holds_has bytes f (inl blank) = inl (blank.0, ap (λ (x : Found). x.records) blank.1)
+holds_has bytes f (inr whole) = inr (record { layout = whole.layout; ends = whole.safe.ends; are = ap (λ (x : Found). x.records) whole.is })
+
+has_records : (bytes : List ℕ) (records : List Record) → HasDatabase bytes records → HasRecords bytes records
+has_records bytes records db = subst (HasRecords bytes) (sym db.records_are) (holds_has bytes db.found db.holds)
+
+kept_as : (old new : Medium) (records : List Record) → HasDatabase old.reads records → Rests old new (λ image. HasRecords image records) → Rests old new (IsKeptAs old.reads)
+kept_as old new records has rests = record {
+  synced = rests.synced;
+  later = rests.later;
+  within = rests.within;
+  before = λ t image le left. elim (rests.before t image le left) [ inl was ↦ inl was | inr these ↦ inr (same image these) ];
+  after = λ image left. same image (rests.after image left);
+}
+  where
+    same : (image : List ℕ) → HasRecords image records → IsKeptAs old.reads image
+    same image these = inr (records, has_records old.reads records has, these)
+
+pub unasked : {D : Type 0} (as_medium : D → Medium) (disk : D) (sessions : ℕ) (e : EngineState (JournalState D)) → Opened as_medium disk sessions e → Unopened (as_medium disk) why.NoMemory (as_medium e.keeper.disk)
+unasked as_medium disk sessions e opened = record {
+  goes = opened.goes;
+  failed = λ is. absurd (no_fault is);
+  told = λ tells. inr (kept_as (as_medium disk) (as_medium e.keeper.disk) e.recovered (opened.told tells).has (opened.told tells).rests);
+}
+  where
+    no_fault : why.NoMemory ≡ why.DiskFault → ⊥
+    no_fault e = cc
 
 -- ---- a disk was opened, and no engine over it
 

@@ -65,12 +65,13 @@ pub record Unread (old : Medium) (cause : OpenWhy) (new : Medium) : Type 0 where
   pub failed : cause ≡ why.DiskFault → Rises old.faults new.faults
   pub damaged : IsTrue old.tells → (at : ℕ) → cause ≡ why.Damaged at → IsDamagedAt old.reads at
 
--- What a command leaves of a disk that it opened for nothing: `dump` the disk as it was, and `rehearse` a disk over which no engine was
--- opened.
+-- What a command leaves of a disk that it opened for nothing: `dump` the disk as it was, `run` and `rehearse` a disk over which no engine
+-- was opened, or none that a session has asked.
 abbrev pub Leaves : Option Command → Medium → OpenWhy → Medium → Type 0
 Leaves None = Unopened
 Leaves (Some command.Try) = Unopened
 Leaves (Some command.Dump) = Unread
+Leaves (Some command.Run) = Unopened
 Leaves (Some command.Rehearse) = Unopened
 
 -- the cause that a code says

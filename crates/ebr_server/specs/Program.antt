@@ -52,13 +52,15 @@ journal_place = 1
 abbrev pub sessions_of : Command → List (List ℕ) → ℕ
 sessions_of command.Try words = 1
 sessions_of command.Dump words = 0
+sessions_of command.Run words = length words - 2
 sessions_of command.Rehearse words = length words - 3
 
--- The command reads the word at a place: `try` its script's, `rehearse` its order's and each script's.
+-- The command reads the word at a place: `try` its script's, `run` each script's, `rehearse` its order's and each script's.
 abbrev pub Reads : Option Command → List (List ℕ) → ℕ → Type 0
 Reads None words at = ⊥
 Reads (Some command.Try) words at = at ≡ 1
 Reads (Some command.Dump) words at = ⊥
+Reads (Some command.Run) words at = (2 ≤ at) × (at < length words)
 Reads (Some command.Rehearse) words at = (order_place ≤ at) × (at < length words)
 
 -- The command opens the word at a place: it reads it, or opens its disk.
@@ -66,12 +68,14 @@ abbrev pub Opens : Option Command → List (List ℕ) → ℕ → Type 0
 Opens None words at = ⊥
 Opens (Some command.Try) words at = at ≡ 1
 Opens (Some command.Dump) words at = at ≡ journal_place
+Opens (Some command.Run) words at = (journal_place ≤ at) × (at < length words)
 Opens (Some command.Rehearse) words at = (journal_place ≤ at) × (at < length words)
 
 -- When a word's turn comes: the words in their order, but a journal behind all others.
 abbrev pub turn_of : Command → List (List ℕ) → ℕ → ℕ
 turn_of command.Try words at = at
 turn_of command.Dump words at = at
+turn_of command.Run words at = if at == journal_place then length words else at
 turn_of command.Rehearse words at = if at == journal_place then length words else at
 
 -- the bytes behind the word at a place, where the host tells them
@@ -88,18 +92,24 @@ IsLong bytes words at = IfSome (told_at bytes words at) (λ told. most < length 
 abbrev pub IsShort : (List ℕ → Option (List ℕ)) → List (List ℕ) → ℕ → Type 0
 IsShort bytes words at = IfSome (told_at bytes words at) (λ told. length told ≤ most)
 
+-- What is behind the words from one place up to another isn't too long, where it is told.
+abbrev pub ShortBetween : (List ℕ → Option (List ℕ)) → List (List ℕ) → ℕ → ℕ → Type 0
+ShortBetween bytes words first last = (v : ℕ) → first ≤ v → v < last → IsShort bytes words v
+
 -- The order, where it is told, is wrong first at this place, or nowhere.
 abbrev pub OrderWrong : (List ℕ → Option (List ℕ)) → List (List ℕ) → Option ℕ → Type 0
 OrderWrong bytes words place = IfSome (told_at bytes words order_place) (λ told. wrong_at (sessions_of command.Rehearse words) told ≡ place)
 
--- All that `rehearse` reads before a turn is right; `try` reads one word alone, and `dump` none.
+-- All that `rehearse` reads before a turn is right. The scripts that `run` reads are right where they aren't too long; `try` reads one word
+-- alone, and `dump` none.
 pub record OrderBefore (bytes : List ℕ → Option (List ℕ)) (words : List (List ℕ)) (at : ℕ) : Type 0 where
-  pub short : (v : ℕ) → order_place ≤ v → v < at → IsShort bytes words v
+  pub short : ShortBetween bytes words order_place at
   pub order : order_place < at → OrderWrong bytes words None
 
 abbrev pub RightBefore : Command → (List ℕ → Option (List ℕ)) → List (List ℕ) → ℕ → Type 0
 RightBefore command.Try bytes words at = Unit {0}
 RightBefore command.Dump bytes words at = Unit {0}
+RightBefore command.Run bytes words at = ShortBetween bytes words 2 at
 RightBefore command.Rehearse bytes words at = OrderBefore bytes words at
 
 -- all that a command reads is right
@@ -131,16 +141,22 @@ abbrev pub steps_from : (ℕ → Step) → ℕ → ℕ → List Step
 steps_from step at zero = []
 steps_from step at (suc n) = step at ∷ steps_from step (at + 1) n
 
--- What a command opens, in this order: `try` its script; `rehearse` its order, the scripts, then a sink for each script, and then the
--- journal's disk; `dump` that alone.
-abbrev pub before_disk : List (List ℕ) → List Step
-before_disk words = source_at words order_place ∷ (steps_from (source_at words) 3 (length words - 3) ++ steps_from (sink_at words) 3 (length words - 3))
+-- the scripts of the words from a place on, and then a sink for each of them
+abbrev pub scripts_and_sinks : List (List ℕ) → ℕ → List Step
+scripts_and_sinks words first = steps_from (source_at words) first (length words - first) ++ steps_from (sink_at words) first (length words - first)
 
+-- what `rehearse` opens in front of the disk
+abbrev pub before_rehearsal : List (List ℕ) → List Step
+before_rehearsal words = source_at words order_place ∷ scripts_and_sinks words 3
+
+-- What a command opens, in this order: `try` its script; `run` the scripts, then a sink for each script, and then the journal's disk;
+-- `rehearse` its order in front of these; `dump` the disk alone.
 abbrev pub order_of_work : Option Command → List (List ℕ) → List Step
 order_of_work None words = []
 order_of_work (Some command.Try) words = source_at words 1 ∷ []
 order_of_work (Some command.Dump) words = disk_at words journal_place ∷ []
-order_of_work (Some command.Rehearse) words = before_disk words ++ disk_at words journal_place ∷ []
+order_of_work (Some command.Run) words = scripts_and_sinks words 2 ++ disk_at words journal_place ∷ []
+order_of_work (Some command.Rehearse) words = before_rehearsal words ++ disk_at words journal_place ∷ []
 
 -- the call of a step
 abbrev pub call_of : Bool → Step → HostCall
@@ -243,6 +259,8 @@ Stops None bytes words fails code.Usage = Unit {0}
 Stops (Some c) bytes words fails (code.HostFault at) = Opens (Some c) words at × RightBefore c bytes words (turn_of c words at) × fails
 Stops (Some c) bytes words fails (code.TooLong at) = Reads (Some c) words at × RightBefore c bytes words at × IsLong bytes words at
 Stops (Some command.Rehearse) bytes words fails (code.BadOrder at) = IsShort bytes words order_place × OrderWrong bytes words (Some at)
+Stops (Some command.Run) bytes words fails (code.Damaged at) = AllRead command.Run bytes words
+Stops (Some command.Run) bytes words fails code.DiskFault = AllRead command.Run bytes words
 Stops (Some command.Rehearse) bytes words fails (code.Damaged at) = AllRead command.Rehearse bytes words
 Stops (Some command.Rehearse) bytes words fails code.DiskFault = AllRead command.Rehearse bytes words
 Stops (Some command.Dump) bytes words fails (code.Damaged at) = Unit {0}
@@ -327,16 +345,20 @@ pub record IsOrder (bytes : List ℕ → Option (List ℕ)) (words : List (List 
   pub short : length order ≤ most
   pub right : wrong_at n order ≡ None
 
--- The scripts were run by the order, each as a session of its own with a sink of its own, in the database of the journal.
-pub record SessionsRan {S D : Type 0} (o : Outside S D) (words : List (List ℕ)) (recovered : List Record) (history : List Entry) (ends : List (SessionEnd S)) (now : D) : Type 0 where
+-- The scripts of the words from a place on were run, each as a session of its own with a sink of its own, in the database of the journal.
+pub record SessionsRan {S D : Type 0} (o : Outside S D) (words : List (List ℕ)) (first : ℕ) (recovered : List Record) (history : List Entry) (ends : List (SessionEnd S)) (now : D) : Type 0 where
   pub scripts : List (List ℕ)
-  pub are_scripts : AreScripts o.bytes words 3 (length words) scripts
-  pub order : List ℕ
-  pub is_order : IsOrder o.bytes words (length scripts) order
+  pub are_scripts : AreScripts o.bytes words first (length words) scripts
   pub legal : IsLegal recovered (length scripts) history
   pub are_ends : AreEnds o.sink_held o.sink_faults scripts history ends
-  pub paced : Paced (length scripts) (turns_of order) history
   pub disk : RanOver o.as_medium (journal_bytes o words) (length scripts) recovered history now
+
+-- .. by the order
+pub record SessionsPaced {S D : Type 0} (o : Outside S D) (words : List (List ℕ)) (recovered : List Record) (history : List Entry) (ends : List (SessionEnd S)) (now : D) : Type 0 where
+  pub ran : SessionsRan o words 3 recovered history ends now
+  pub order : List ℕ
+  pub is_order : IsOrder o.bytes words (length ran.scripts) order
+  pub paced : Paced (length ran.scripts) (turns_of order) history
 
 -- the text and the last line, by whether a write of the text failed
 abbrev pub Summed : Bool → ℕ → List ℕ → List ℕ → List ℕ → Type 0
@@ -355,11 +377,18 @@ pub record EndsTold {S : Type 0} (words : List (List ℕ)) (history : List Entry
   pub is_code : c ≡ code_of_ends history ends unwritten
   pub tells : Tells words (Summary ends) unwritten c faults held
 
+-- what `run` has come to
+pub record RunRan {S D : Type 0} (o : Outside S D) (words : List (List ℕ)) (run : Handed S D) : Type 0 where
+  pub now : D
+  pub disk_is : run.disk ≡ Some now
+  pub ran : SessionsRan o words 2 run.recovered run.history run.ends now
+  pub summed : EndsTold words run.history run.code run.ends run.faults run.held
+
 -- what `rehearse` has come to
 pub record RehearseRan {S D : Type 0} (o : Outside S D) (words : List (List ℕ)) (run : Handed S D) : Type 0 where
   pub now : D
   pub disk_is : run.disk ≡ Some now
-  pub ran : SessionsRan o words run.recovered run.history run.ends now
+  pub ran : SessionsPaced o words run.recovered run.history run.ends now
   pub summed : EndsTold words run.history run.code run.ends run.faults run.held
 
 -- the code of lines that were written or not
@@ -384,6 +413,7 @@ pub record DumpRan {S D : Type 0} (o : Outside S D) (words : List (List ℕ)) (r
 abbrev pub Ran : {S D : Type 0} → Option Command → Outside S D → List (List ℕ) → Handed S D → Type 0
 Ran None o words run = ⊥
 Ran (Some command.Try) o words run = TryRan o words run
+Ran (Some command.Run) o words run = RunRan o words run
 Ran (Some command.Rehearse) o words run = RehearseRan o words run
 Ran (Some command.Dump) o words run = DumpRan o words run
 
@@ -406,11 +436,12 @@ pub record SinkFailed {S : Type 0} (sink_faults : S → ℕ) (ends : List (Sessi
   pub is_end : slice_get ends place ≡ Some end
   pub failed : IsSomeAnd end.sink (λ sink. 0 < sink_faults sink)
 
--- The sinks that fail with the code of a sink: the report, and in `rehearse` one of the sessions'.
+-- The sinks that fail with the code of a sink: the report, and in `run` and `rehearse` one of the sessions'.
 abbrev pub SinkFails : {S : Type 0} → Option Command → (S → ℕ) → List (SessionEnd S) → ℕ → Type 0
 SinkFails None sink_faults ends faults = ⊥
 SinkFails (Some command.Try) sink_faults ends faults = 0 < faults
 SinkFails (Some command.Dump) sink_faults ends faults = 0 < faults
+SinkFails (Some command.Run) sink_faults ends faults = (0 < faults) ⊎ SinkFailed sink_faults ends
 SinkFails (Some command.Rehearse) sink_faults ends faults = (0 < faults) ⊎ SinkFailed sink_faults ends
 
 -- the codes of a run in which the sink of a session failed: a disk that failed and want of memory come before it
@@ -450,6 +481,7 @@ abbrev pub OpensJournal : Option Command → Type 0
 OpensJournal None = ⊥
 OpensJournal (Some command.Try) = ⊥
 OpensJournal (Some command.Dump) = Unit {0}
+OpensJournal (Some command.Run) = Unit {0}
 OpensJournal (Some command.Rehearse) = Unit {0}
 
 -- The codes of a run whose journal is damaged: what comes before may have stopped it.
@@ -468,12 +500,14 @@ IsComplete c = ⊥
 abbrev pub OrderTold : Command → (List ℕ → Option (List ℕ)) → List (List ℕ) → Type 0
 OrderTold command.Try bytes words = Unit {0}
 OrderTold command.Dump bytes words = Unit {0}
+OrderTold command.Run bytes words = Unit {0}
 OrderTold command.Rehearse bytes words = IsSomeAnd (told_at bytes words order_place) (λ told. wrong_at (sessions_of command.Rehearse words) told ≡ None)
 
 -- the journal is told and not damaged
 abbrev pub JournalSound : Command → Option (List ℕ) → Type 0
 JournalSound command.Try disk = Unit {0}
 JournalSound command.Dump disk = IsSomeAnd disk (λ bytes. (at : ℕ) → IsDamagedAt bytes at → ⊥)
+JournalSound command.Run disk = IsSomeAnd disk (λ bytes. (at : ℕ) → IsDamagedAt bytes at → ⊥)
 JournalSound command.Rehearse disk = IsSomeAnd disk (λ bytes. (at : ℕ) → IsDamagedAt bytes at → ⊥)
 
 pub record AllRight (c : Command) (bytes disks : List ℕ → Option (List ℕ)) (words : List (List ℕ)) : Type 0 where

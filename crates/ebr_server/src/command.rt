@@ -1,10 +1,10 @@
 //! The one call that the program makes.
 
-ghost use Rattle.std.specs.Prelude.{◌≡◌, ◌<◌, ◌≤◌, ◌↔◌, ◌⊎◌, ℕ, List, [], length, Option, Some, None, IfSome, IsSome, IsSomeAnd};
+ghost use Rattle.std.specs.Prelude.{◌≡◌, ◌≢◌, ◌<◌, ◌≤◌, ◌↔◌, ◌⊎◌, ℕ, List, [], length, Option, Some, None, IfSome, IsSome, IsSomeAnd};
 ghost use Rattle.ebr_faults.specs.Faults.{Rises};
 ghost use Rattle.ebr_order.specs.Order.{wrong_at};
 ghost use Rattle.ebr_words.specs.Words.{command_of};
-ghost use Rattle.ebr_words.specs.declared.words.Command.TheVariants.{Dump, Rehearse, Try};
+ghost use Rattle.ebr_words.specs.declared.words.Command.TheVariants.{Dump, Rehearse, Run, Try};
 ghost use Rattle.ebr_startup.specs.Damage.{IsDamagedAt};
 ghost use Rattle.ebr_worker.specs.Runs.{IsUnwritten};
 ghost use Rattle.ebr_server.specs.Handed.{handed};
@@ -17,6 +17,7 @@ use crate::opened::{Halt, Stop, open_disk, read_word, without_disk, without_sour
 use crate::read::MAX_SCRIPT;
 use crate::rehearsal::rehearsed;
 use crate::report::{tell_ends, tell_lines, tell_replies, write_last_line};
+use crate::threads::ran_in_threads;
 use ebr_asks::Entry;
 use ebr_base::{Bytes, List};
 use ebr_outside::{Disk, Host, Sink};
@@ -26,6 +27,8 @@ use ebr_startup::a_database_is_not_damaged;
 use ebr_words::{Command, command_of};
 use ebr_worker::run_alone;
 use std::alloc::Global;
+use std::sync::Wait;
+use std::thread::Threads;
 
 /// What a run hands back.
 #[derive(Drop)]
@@ -34,8 +37,8 @@ pub struct Outcome<C, S, R, D> {
     /// The source whose read failed.
     pub source: Option<C>,
     pub report: R,
-    /// What the sessions came to, in the order of their scripts; none where no session has begun. In `rehearse` each has its
-    /// sink; that of `try` is the report.
+    /// What the sessions came to, in the order of their scripts; none where no session has begun. In `run` and
+    /// `rehearse` each has its sink; that of `try` is the report.
     pub ends: List<SessionEnd<S>>,
     /// The records with which the history began: those of the journal, where sessions ran over one.
     pub recovered: List<Record>,
@@ -189,22 +192,60 @@ fn rehearse<H: Host>(
     ensures called { CallsInOrder (H.calls host.old) (H.calls host.new) (order_of_work (Some Rehearse) words.now) (own_fault result.code result.source) }
 {
     match rehearsed(alloc, words, host) {
-        Ok(rehearsal) => {
+        Ok(ended) => {
             let mut report = report;
             let code = tell_ends(
                 &mut report,
                 words,
-                rehearsal.history.as_slice(),
-                rehearsal.ends.as_slice(),
+                ended.history.as_slice(),
+                ended.ends.as_slice(),
             );
             Outcome {
                 code,
                 source: None,
                 report,
-                ends: rehearsal.ends,
-                recovered: rehearsal.recovered,
-                history: rehearsal.history,
-                disk: Some(rehearsal.disk),
+                ends: ended.ends,
+                recovered: ended.recovered,
+                history: ended.history,
+                disk: Some(ended.disk),
+            }
+        }
+        Err(stop) => stopped(alloc, words, stop, report),
+    }
+}
+
+/// Does `run`.
+fn run_scripts<H: Host, R: Threads + Wait + Sync>(
+    rt: &R,
+    alloc: Global,
+    words: &[Bytes],
+    host: &mut H,
+    report: H::Report,
+) -> Outcome<H::Source, H::Sink, H::Report, H::Disk>
+    requires some { 2 ≤ length words.now }
+    requires few { length words.now ≤ 34 }
+    requires empty { IsUnwritten H.Report.held H.Report.faults report }
+    ensures served { Served (Some Run) (outside (H.bytes host.old) (H.disk_bytes host.old) H.Sink.held H.Sink.faults H.Disk.as_medium) (Rises (H.faults host.old) (H.faults host.new) ⊎ IsSomeAnd result.source (λ s. 0 < H.Source.faults s)) words.now (handed H.Report.faults H.Report.held result) }
+    ensures source { IfSome result.source (λ s. IsHostFault result.code × (0 < H.Source.faults s)) }
+    ensures called { CallsInOrder (H.calls host.old) (H.calls host.new) (order_of_work (Some Run) words.now) (own_fault result.code result.source) }
+{
+    match ran_in_threads(rt, alloc, words, host) {
+        Ok(ended) => {
+            let mut report = report;
+            let code = tell_ends(
+                &mut report,
+                words,
+                ended.history.as_slice(),
+                ended.ends.as_slice(),
+            );
+            Outcome {
+                code,
+                source: None,
+                report,
+                ends: ended.ends,
+                recovered: ended.recovered,
+                history: ended.history,
+                disk: Some(ended.disk),
             }
         }
         Err(stop) => stopped(alloc, words, stop, report),
@@ -246,13 +287,14 @@ fn dump_journal<H: Host>(
     }
 }
 
-/// Does what the words say.
-fn do_command<H: Host>(
+/// Does what the words say, but for `run`.
+fn do_alone<H: Host>(
     alloc: Global,
     words: &[Bytes],
     host: &mut H,
     report: H::Report,
 ) -> Outcome<H::Source, H::Sink, H::Report, H::Disk>
+    requires alone { command_of words.now ≢ Some Run }
     requires empty { IsUnwritten H.Report.held H.Report.faults report }
     ensures served { Served (command_of words.now) (outside (H.bytes host.old) (H.disk_bytes host.old) H.Sink.held H.Sink.faults H.Disk.as_medium) (Rises (H.faults host.old) (H.faults host.new) ⊎ IsSomeAnd result.source (λ s. 0 < H.Source.faults s)) words.now (handed H.Report.faults H.Report.held result) }
     ensures source { IfSome result.source (λ s. IsHostFault result.code × (0 < H.Source.faults s)) }
@@ -262,20 +304,25 @@ fn do_command<H: Host>(
         Some(Command::Try) => try_script(alloc, words, host, report),
         Some(Command::Rehearse) => rehearse(alloc, words, host, report),
         Some(Command::Dump) => dump_journal(alloc, words, host, report),
+        Some(Command::Run) => unreachable!(),
         None => stopped_by(alloc, words, ExitCode::Usage, report),
     }
 }
 
 /// Serves a command. `try S` runs the script of word 1 as one session on a fresh database in memory, and gives its replies
-/// to the host's report. `rehearse J ORDER S..` runs the scripts from word 3 on as sessions side by side over the journal that word 1
+/// to the host's report. `run J S..` runs the scripts from word 2 on as sessions, each in a thread of its own, over the journal that
+/// word 1 names. `rehearse J ORDER S..` runs the scripts from word 3 on as sessions side by side over the journal that word 1
 /// names, by the order that word 2 names: each number is a turn of that session, and behind the order the first one runs to its end,
-/// then the next. Each prints to a sink of its own, and the report is a summary. `dump J` writes a line for each record of the journal
-/// that word 1 names, and leaves it as it is. Any other words are `Usage`.
+/// then the next. In both each session prints to a sink of its own, and the report is a summary. `dump J` writes a line for each record of
+/// the journal that word 1 names, and leaves it as it is. Any other words are `Usage`.
 ///
 /// What is wrong first, in the order in which words are opened and read, has the code; the journal comes behind all others. Of sessions
 /// that have ended, a disk that failed comes before want of memory, and that before a sink that failed. The report ends with the code's
 /// last line, unless a write of it failed.
-pub fn serve<H: Host>(
+///
+/// `run` waits for its threads and for the host's gate, which each session passes before it asks. All else waits for nobody.
+pub fn serve<H: Host, R: Threads + Wait + Sync>(
+    rt: &R,
     alloc: Global,
     words: &[Bytes],
     host: &mut H,
@@ -323,6 +370,79 @@ pub fn serve<H: Host>(
         → ¬ (0 < H.Report.faults result.report) → ¬ SinkFailed H.Sink.faults result.ends → IsComplete result.code) }
 {
     a_database_is_not_damaged();
+    match command_of(words) {
+        Some(Command::Run) => serve_run(rt, alloc, words, host),
+        _ => serve_alone(alloc, words, host),
+    }
+}
+
+/// Serves `run`.
+fn serve_run<H: Host, R: Threads + Wait + Sync>(
+    rt: &R,
+    alloc: Global,
+    words: &[Bytes],
+    host: &mut H,
+) -> Outcome<H::Source, H::Sink, H::Report, H::Disk>
+    requires run { command_of words.now ≡ Some Run }
+    ensures served { Served (Some Run) (outside (H.bytes host.old) (H.disk_bytes host.old) H.Sink.held H.Sink.faults H.Disk.as_medium) (Rises (H.faults host.old) (H.faults host.new) ⊎ IsSomeAnd result.source (λ s. 0 < H.Source.faults s)) words.now (handed H.Report.faults H.Report.held result) }
+    ensures source { IfSome result.source (λ s. IsHostFault result.code × (0 < H.Source.faults s)) }
+    ensures called { CallsInOrder (H.calls host.old) (H.calls host.new) (order_of_work (Some Run) words.now) (own_fault result.code result.source) }
+{
     let report = host.report();
-    do_command(alloc, words, host, report)
+    run_scripts(rt, alloc, words, host, report)
+}
+
+/// Serves any words but those of `run`, as `serve` does, in the caller's thread. It waits for nobody.
+pub fn serve_alone<H: Host>(
+    alloc: Global,
+    words: &[Bytes],
+    host: &mut H,
+) -> Outcome<H::Source, H::Sink, H::Report, H::Disk>
+    requires alone { command_of words.now ≢ Some Run }
+
+    // What the sessions came to, what the sinks and the report hold, and where none has begun, why. The history's asks are just
+    // those of the scripts, each session's in order. What a crash at each moment leaves of the journal.
+    ensures served { Served (command_of words.now) (outside (H.bytes host.old) (H.disk_bytes host.old) H.Sink.held H.Sink.faults H.Disk.as_medium) (Rises (H.faults host.old) (H.faults host.new) ⊎ IsSomeAnd result.source (λ s. 0 < H.Source.faults s)) words.now (handed H.Report.faults H.Report.held result) }
+
+    // Each answer of the history is the machine's, in the database that the entries before it leave, which begins with the recovered
+    // records, up to one, if any, that the disk failed or that there was no memory, behind which all are Stopped.
+    ensures legal { IfSome (command_of words.now) (λ c. IsLegal result.recovered (sessions_of c words.now) result.history) }
+
+    // When each code comes. Want of memory alone is free.
+    ensures done { result.code ≡ ExitCode.Done → AllEnded result.ends × (H.Report.faults result.report ≡ 0) }
+    ensures usage { (result.code ≡ ExitCode.Usage) ↔ (command_of words.now ≡ None) }
+    ensures host_fault { (w : ℕ) → result.code ≡ ExitCode.HostFault w
+        → Opens (command_of words.now) words.now w × (Rises (H.faults host.old) (H.faults host.new) ⊎ IsSomeAnd result.source (λ s. 0 < H.Source.faults s)) }
+    ensures source { IfSome result.source (λ s. IsHostFault result.code × (0 < H.Source.faults s)) }
+    ensures disk_fault { result.code ≡ ExitCode.DiskFault → DiskFails H.Disk.as_medium result.disk }
+    ensures damaged { (at : ℕ) → result.code ≡ ExitCode.Damaged at
+        → OpensJournal (command_of words.now) × IfSome (told_at (H.disk_bytes host.old) words.now journal_place) (λ bytes. IsDamagedAt bytes at) }
+    ensures sink_fault { result.code ≡ ExitCode.SinkFault → SinkFails (command_of words.now) H.Sink.faults result.ends (H.Report.faults result.report) }
+    ensures sink_stops { SinkFailed H.Sink.faults result.ends → IsSinkStop result.code }
+    ensures too_long { (w : ℕ) → result.code ≡ ExitCode.TooLong w → Reads (command_of words.now) words.now w × IsLong (H.bytes host.old) words.now w }
+    ensures bad_order { (at : ℕ) → result.code ≡ ExitCode.BadOrder at → (command_of words.now ≡ Some Rehearse) × OrderWrong (H.bytes host.old) words.now (Some at) }
+
+    // What the host was asked to open, and in which order. A call of it failed exactly where the code is a host fault that no source has,
+    // and then it was the last one, of that word.
+    ensures called { CallsInOrder (H.calls host.old) (H.calls host.new) (order_of_work (command_of words.now) words.now) (own_fault result.code result.source) }
+
+    // One write of the report at most has failed, so none was tried behind it.
+    ensures once { H.Report.faults result.report ≤ 1 }
+
+    // A word whose bytes are too many stops the run, and so does an order that is wrong, and a damaged journal.
+    ensures stops_long { (w : ℕ) → Reads (command_of words.now) words.now w
+        → IfSome (told_at (H.bytes host.old) words.now w) (λ bytes. MAX_SCRIPT < length bytes → IfSome (command_of words.now) (λ c. StopsBy c words.now w result.code)) }
+    ensures stops_bad { command_of words.now ≡ Some Rehearse
+        → IfSome (told_at (H.bytes host.old) words.now order_place) (λ bytes. StopsBad (wrong_at (sessions_of Rehearse words.now) bytes) result.code) }
+    ensures stops_damaged { OpensJournal (command_of words.now)
+        → IfSome (told_at (H.disk_bytes host.old) words.now journal_place) (λ bytes. (at : ℕ) → IsDamagedAt bytes at → StopsDamaged result.code) }
+
+    // Where the words and what they name are right and no count rises, the scripts are run, or the lines are written.
+    ensures complete { IfSome (command_of words.now) (λ c. AllRight c (H.bytes host.old) (H.disk_bytes host.old) words.now
+        → ¬ Rises (H.faults host.old) (H.faults host.new) → IfSome result.source (λ s. ¬ (0 < H.Source.faults s)) → IfSome result.disk (λ d. ¬ (0 < (H.Disk.as_medium d).faults))
+        → ¬ (0 < H.Report.faults result.report) → ¬ SinkFailed H.Sink.faults result.ends → IsComplete result.code) }
+{
+    a_database_is_not_damaged();
+    let report = host.report();
+    do_alone(alloc, words, host, report)
 }

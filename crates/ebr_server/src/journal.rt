@@ -1,16 +1,20 @@
 //! The lines of a journal.
 
-ghost use Rattle.std.specs.Prelude.{◌≡◌, ℕ, List, None, Option, IfErr, IfOk};
+ghost use Rattle.std.specs.Prelude.{◌≡◌, ℕ, All, List, None, Option, IfErr, IfOk};
+ghost use Rattle.ebr_dump.specs.Dump.{Dump};
+ghost use Rattle.ebr_record.specs.Payload.{HasPayload};
 ghost use Rattle.ebr_server.specs.Disks.{IsEntry, Unread};
 ghost use Rattle.ebr_server.specs.inside.Opened.{ReadsOff, StopsOver};
 
 use crate::codes::code_of_open;
 use crate::exit::ExitCode;
 use crate::opened::{Stop, with_disk};
-use ebr_base::{Bytes, NoMemory};
+use ebr_base::{Bytes, List, NoMemory};
 use ebr_dump::dump;
 use ebr_outside::Disk;
+use ebr_record::Record;
 use ebr_startup::read;
+use ebr_worker::release_records;
 use std::alloc::Global;
 
 /// The lines of the records on a disk, and the disk.
@@ -24,8 +28,18 @@ pub fn lines<C: Drop, D: Disk>(alloc: Global, disk: D) -> Result<(Bytes, D), Sto
         Ok(records) => records,
         Err(why) => return Err(with_disk(code_of_open(why), disk)),
     };
-    match dump(alloc, records.as_slice()) {
+    match lines_of(alloc, records) {
         Ok(lines) => Ok((lines, disk)),
         Err(NoMemory) => Err(with_disk(ExitCode::NoMemory, disk)),
     }
+}
+
+/// The lines of records.
+fn lines_of(alloc: Global, records: List<Record>) -> Result<Bytes, NoMemory>
+    requires { All HasPayload records }
+    ensures { IfOk result (λ text. text ≡ Dump records) }
+{
+    let lines = dump(alloc, records.as_slice());
+    release_records(records);
+    lines
 }

@@ -6,46 +6,43 @@ ghost use Rattle.ebr_order.specs.Order.{Order};
 ghost use Rattle.ebr_words.specs.declared.words.Command.TheVariants.{Rehearse};
 ghost use Rattle.ebr_startup.specs.Opened.{Unopened};
 ghost use Rattle.ebr_server.specs.Disks.{DiskStops, IsEntry, NeedsNone, RanOver};
-ghost use Rattle.ebr_server.specs.Program.{CallsInOrder, IsHostFault, SessionsRan, Stops, before_disk, journal_place, order_of_work, outside, own_fault, source_at, word_at};
+ghost use Rattle.ebr_server.specs.Program.{CallsInOrder, IsHostFault, SessionsPaced, Stops, before_rehearsal, journal_place, order_of_work, outside, own_fault, source_at, word_at};
 ghost use Rattle.ebr_server.specs.inside.Opened.{AreTurns, IsPrepared, OrderStops, StopsOver, with_steps};
 ghost use Rattle.ebr_worker.specs.Paced.{IsSession, Paced};
 ghost use Rattle.ebr_worker.specs.Runs.{AreEnds};
 ghost use Rattle.ebr_core.specs.History.{Legal};
 ghost use Rattle.ebr_core.specs.Machine.{Build};
 
-use crate::codes::code_of_open;
 use crate::exit::ExitCode;
-use crate::opened::{Halt, Stop, open_disk, read_word, with_disk, without_disk, without_source};
+use crate::opened::{Halt, Stop, open_disk, read_word, without_disk, without_source};
+use crate::over::{Ended, ended_over, open_engine};
 use crate::read::MAX_SCRIPT;
-use crate::scripts::{make_sinks, read_scripts};
-use ebr_asks::Entry;
-use ebr_base::{Bytes, List, NoMemory, SessionId};
+use crate::scripts::begin_sessions;
+use ebr_base::{Bytes, List, SessionId};
 use ebr_order::{OrderErr, read_order};
 use ebr_outside::{Disk, Host, Sink};
-use ebr_record::Record;
-use ebr_report::SessionEnd;
-use ebr_startup::open;
-use ebr_worker::{Sessions, run_sessions, sessions_of};
+use ebr_worker::{Sessions, release, run_sessions};
 use std::alloc::Global;
 
 /// The place of an order's word.
 const ORDER: u32 = 2;
 
-/// What a rehearsal came to.
-#[derive(Drop)]
-pub struct Rehearsal<S, D> {
-    pub ends: List<SessionEnd<S>>,
-    /// The records with which the history began.
-    pub recovered: List<Record>,
-    pub history: List<Entry>,
-    pub disk: D,
-}
+/// The place of the first script's word.
+const FIRST_SCRIPT: u32 = 3;
 
 /// Sessions that are to run, and the turns of their order.
-#[derive(Drop)]
 pub struct Prepared<S: Sink> {
     pub sessions: Sessions<S>,
     pub turns: List<SessionId>,
+}
+
+/// Sessions that don't run.
+fn let_go<S: Sink>(prepared: Prepared<S>) {
+    let Prepared {
+        sessions,
+        turns: _turns,
+    } = prepared;
+    release(sessions);
 }
 
 /// Runs the scripts by the order, over the journal.
@@ -53,10 +50,10 @@ pub fn rehearsed<H: Host>(
     alloc: Global,
     words: &[Bytes],
     host: &mut H,
-) -> Result<Rehearsal<H::Sink, H::Disk>, Stop<H::Source, H::Disk>>
+) -> Result<Ended<H::Sink, H::Disk>, Stop<H::Source, H::Disk>>
     requires some { 3 ≤ length words.now }
     requires few { length words.now ≤ 35 }
-    ensures ran { IfOk result (λ r. SessionsRan (outside (H.bytes host.old) (H.disk_bytes host.old) H.Sink.held H.Sink.faults H.Disk.as_medium) words.now r.recovered r.history r.ends r.disk) }
+    ensures ran { IfOk result (λ r. SessionsPaced (outside (H.bytes host.old) (H.disk_bytes host.old) H.Sink.held H.Sink.faults H.Disk.as_medium) words.now r.recovered r.history r.ends r.disk) }
     ensures stops { IfErr result (λ stop. Stops (Some Rehearse) (H.bytes host.old) words.now (Rises (H.faults host.old) (H.faults host.new) ⊎ IsSomeAnd stop.halt.source (λ s. 0 < H.Source.faults s)) stop.halt.code) }
     ensures source { IfErr result (λ stop. IfSome stop.halt.source (λ s. IsHostFault stop.halt.code × (0 < H.Source.faults s))) }
     ensures disk { IfErr result (λ stop. DiskStops Unopened H.Disk.as_medium (H.disk_bytes host.old (word_at words.now journal_place)) stop.halt.code stop.disk) }
@@ -69,7 +66,10 @@ pub fn rehearsed<H: Host>(
     };
     match open_disk(words, host) {
         Ok(disk) => run_over(alloc, prepared, disk),
-        Err(code) => Err(without_disk(without_source(code))),
+        Err(code) => {
+            let_go(prepared);
+            Err(without_disk(without_source(code)))
+        }
     }
 }
 
@@ -87,24 +87,16 @@ fn prepare<H: Host>(
     ensures no_disk { IfErr result (λ halt. NeedsNone halt.code) }
     ensures same_disks { (w : List ℕ) → H.disk_bytes host.new w ≡ H.disk_bytes host.old w }
     ensures counted { H.faults host.old ≤ H.faults host.new }
-    ensures opened { OnOk result (H.calls host.new ≡ with_steps (H.calls host.old) (before_disk words.now)) }
-    ensures called { IfErr result (λ halt. CallsInOrder (H.calls host.old) (H.calls host.new) (before_disk words.now) (own_fault halt.code halt.source)) }
+    ensures opened { OnOk result (H.calls host.new ≡ with_steps (H.calls host.old) (before_rehearsal words.now)) }
+    ensures called { IfErr result (λ halt. CallsInOrder (H.calls host.old) (H.calls host.new) (before_rehearsal words.now) (own_fault halt.code halt.source)) }
 {
     let turns = match read_turns(alloc, words, host) {
         Ok(turns) => turns,
         Err(halt) => return Err(halt),
     };
-    let scripts = match read_scripts(alloc, words, host) {
-        Ok(scripts) => scripts,
-        Err(halt) => return Err(halt),
-    };
-    let sinks = match make_sinks(alloc, words, host) {
-        Ok(sinks) => sinks,
-        Err(code) => return Err(without_source(code)),
-    };
-    match sessions_of(alloc, scripts.as_slice(), sinks) {
+    match begin_sessions(alloc, words, FIRST_SCRIPT, host) {
         Ok(sessions) => Ok(Prepared { sessions, turns }),
-        Err(NoMemory) => Err(without_source(ExitCode::NoMemory)),
+        Err(halt) => Err(halt),
     }
 }
 
@@ -113,7 +105,7 @@ fn run_over<C: Drop, S: Sink, D: Disk>(
     alloc: Global,
     prepared: Prepared<S>,
     disk: D,
-) -> Result<Rehearsal<S, D>, Stop<C, D>>
+) -> Result<Ended<S, D>, Stop<C, D>>
     requires few { length prepared.sessions ≤ 32 }
     requires turns { All (IsSession (length prepared.sessions)) prepared.turns }
     ensures ends { IfOk result (λ r. AreEnds S.held S.faults prepared.sessions r.history r.ends) }
@@ -124,17 +116,12 @@ fn run_over<C: Drop, S: Sink, D: Disk>(
     ensures source { IfErr result (λ stop. stop.halt.source ≡ None) }
 {
     let Prepared { sessions, turns } = prepared;
-    match open(alloc, disk, sessions.len() as u32) {
-        Ok(engine) => {
-            let ran = run_sessions(sessions, engine, turns.as_slice());
-            Ok(Rehearsal {
-                ends: ran.ends,
-                recovered: ran.recovered,
-                history: ran.history,
-                disk: ran.keeper.into_journal().into_disk(),
-            })
+    match open_engine(alloc, disk, sessions.len() as u32) {
+        Ok(engine) => Ok(ended_over(run_sessions(sessions, engine, turns.as_slice()))),
+        Err(stop) => {
+            release(sessions);
+            Err(stop)
         }
-        Err(fault) => Err(with_disk(code_of_open(fault.why), fault.disk)),
     }
 }
 

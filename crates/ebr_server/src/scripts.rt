@@ -1,43 +1,74 @@
-//! Reads the scripts of a rehearsal, and makes the sinks of their sessions.
+//! Begins the sessions of scripts: reads these, and makes a sink for each session.
 
-ghost use Rattle.std.specs.Prelude.{◌≡◌, ◌-◌, ◌<◌, ◌≤◌, ◌⊎◌, ℕ, List, [], ◌∷◌, length, IfErr, IfOk, IfSome, IsSomeAnd, OnOk};
+ghost use Rattle.std.specs.Prelude.{◌≡◌, ◌+◌, ◌-◌, ◌<◌, ◌≤◌, ◌⊎◌, ℕ, List, [], ◌∷◌, length, IfErr, IfOk, IfSome, IsSomeAnd, OnOk};
 ghost use Rattle.ebr_faults.specs.Faults.{Rises};
 ghost use Rattle.ebr_worker.specs.Runs.{IsUnwritten};
 ghost use Rattle.ebr_words.specs.Words.{out_word};
-ghost use Rattle.ebr_server.specs.Program.{AreScripts, CallsInOrder, IsHostFault, fault_at, own_fault, sink_at, source_at, steps_from};
+ghost use Rattle.ebr_server.specs.Program.{AreScripts, CallsInOrder, IsHostFault, fault_at, own_fault, scripts_and_sinks, sink_at, source_at, steps_from};
 ghost use Rattle.ebr_server.specs.inside.Opened.{AreUnwritten, Fails, FailsFrom, MakesNone, ReadsMore, with_steps};
 
 use crate::exit::ExitCode;
 use crate::opened::{Halt, read_word, without_source};
 use ebr_base::{Bytes, List, NoMemory};
 use ebr_outside::{Host, HostErr};
+use ebr_worker::{Sessions, sessions_of};
 use std::alloc::Global;
-
-/// The place of the first script's word.
-const FIRST_SCRIPT: u32 = 3;
 
 /// What is behind a script's word in the word of its sink.
 const OUT: &[u8] = b".out";
 
-/// Reads the scripts, in the order of their words.
-pub fn read_scripts<H: Host>(
+/// Reads the scripts from a place on, makes the sinks, and begins the sessions.
+pub fn begin_sessions<H: Host>(
     alloc: Global,
     words: &[Bytes],
+    first: u32,
+    host: &mut H,
+) -> Result<Sessions<H::Sink>, Halt<H::Source>>
+    requires some { first ≤ length words.now }
+    requires few { length words.now ≤ first + 32 }
+    requires near { first ≤ 3 }
+    ensures begun { IfOk result (λ scripts. AreScripts (H.bytes host.old) words.now first (length words.now) scripts) }
+    ensures fails { IfErr result (λ halt. FailsFrom (H.bytes host.old) words.now first (Rises (H.faults host.old) (H.faults host.new) ⊎ IsSomeAnd halt.source (λ s. 0 < H.Source.faults s)) halt.code) }
+    ensures source { IfErr result (λ halt. IfSome halt.source (λ s. IsHostFault halt.code × (0 < H.Source.faults s))) }
+    ensures same_disks { (w : List ℕ) → H.disk_bytes host.new w ≡ H.disk_bytes host.old w }
+    ensures counted { H.faults host.old ≤ H.faults host.new }
+    ensures opened { OnOk result (H.calls host.new ≡ with_steps (H.calls host.old) (scripts_and_sinks words.now first)) }
+    ensures called { IfErr result (λ halt. CallsInOrder (H.calls host.old) (H.calls host.new) (scripts_and_sinks words.now first) (own_fault halt.code halt.source)) }
+{
+    let scripts = match read_scripts(alloc, words, first, host) {
+        Ok(scripts) => scripts,
+        Err(halt) => return Err(halt),
+    };
+    let sinks = match make_sinks(alloc, words, first, host) {
+        Ok(sinks) => sinks,
+        Err(code) => return Err(without_source(code)),
+    };
+    match sessions_of(alloc, scripts.as_slice(), sinks) {
+        Ok(sessions) => Ok(sessions),
+        Err(NoMemory) => Err(without_source(ExitCode::NoMemory)),
+    }
+}
+
+/// Reads the scripts of the words from a place on, in order.
+fn read_scripts<H: Host>(
+    alloc: Global,
+    words: &[Bytes],
+    first: u32,
     host: &mut H,
 ) -> Result<List<Bytes>, Halt<H::Source>>
-    requires some { 3 ≤ length words.now }
+    requires some { first ≤ length words.now }
     requires few { length words.now ≤ 35 }
-    ensures read { IfOk result (λ scripts. AreScripts (H.bytes host.old) words.now 3 (length words.now) scripts) }
-    ensures fails { IfErr result (λ halt. FailsFrom (H.bytes host.old) words.now 3 (Rises (H.faults host.old) (H.faults host.new) ⊎ IsSomeAnd halt.source (λ s. 0 < H.Source.faults s)) halt.code) }
+    ensures read { IfOk result (λ scripts. AreScripts (H.bytes host.old) words.now first (length words.now) scripts) }
+    ensures fails { IfErr result (λ halt. FailsFrom (H.bytes host.old) words.now first (Rises (H.faults host.old) (H.faults host.new) ⊎ IsSomeAnd halt.source (λ s. 0 < H.Source.faults s)) halt.code) }
     ensures source { IfErr result (λ halt. IfSome halt.source (λ s. IsHostFault halt.code × (0 < H.Source.faults s))) }
     ensures same { (w : List ℕ) → H.bytes host.new w ≡ H.bytes host.old w }
     ensures same_disks { (w : List ℕ) → H.disk_bytes host.new w ≡ H.disk_bytes host.old w }
     ensures counted { H.faults host.old ≤ H.faults host.new }
-    ensures opened { OnOk result (H.calls host.new ≡ with_steps (H.calls host.old) (steps_from (source_at words.now) 3 (length words.now - 3))) }
-    ensures called { IfErr result (λ halt. CallsInOrder (H.calls host.old) (H.calls host.new) (steps_from (source_at words.now) 3 (length words.now - 3)) (own_fault halt.code halt.source)) }
+    ensures opened { OnOk result (H.calls host.new ≡ with_steps (H.calls host.old) (steps_from (source_at words.now) first (length words.now - first))) }
+    ensures called { IfErr result (λ halt. CallsInOrder (H.calls host.old) (H.calls host.new) (steps_from (source_at words.now) first (length words.now - first)) (own_fault halt.code halt.source)) }
 {
     let mut scripts = List::new(alloc);
-    for word in FIRST_SCRIPT..words.len() as u32 {
+    for word in first..words.len() as u32 {
         if let Err(halt) = read_more(alloc, words, word, host, &mut scripts) {
             return Err(halt);
         }
@@ -72,25 +103,26 @@ fn read_more<H: Host>(
     }
 }
 
-/// Makes the sinks, in the order of their scripts' words.
-pub fn make_sinks<H: Host>(
+/// Makes the sinks of the scripts of the words from a place on, in order.
+fn make_sinks<H: Host>(
     alloc: Global,
     words: &[Bytes],
+    first: u32,
     host: &mut H,
 ) -> Result<Vec<H::Sink>, ExitCode>
-    requires some { 3 ≤ length words.now }
+    requires some { first ≤ length words.now }
     requires few { length words.now ≤ 35 }
-    ensures made { IfOk result (λ sinks. AreUnwritten H.Sink.held H.Sink.faults 3 (length words.now) sinks.items) }
-    ensures fails { IfErr result (λ code. MakesNone words.now 3 (Rises (H.faults host.old) (H.faults host.new)) code) }
+    ensures made { IfOk result (λ sinks. AreUnwritten H.Sink.held H.Sink.faults first (length words.now) sinks.items) }
+    ensures fails { IfErr result (λ code. MakesNone words.now first (Rises (H.faults host.old) (H.faults host.new)) code) }
     ensures same { (w : List ℕ) → H.bytes host.new w ≡ H.bytes host.old w }
     ensures same_disks { (w : List ℕ) → H.disk_bytes host.new w ≡ H.disk_bytes host.old w }
     ensures counted { H.faults host.old ≤ H.faults host.new }
-    ensures opened { OnOk result (H.calls host.new ≡ with_steps (H.calls host.old) (steps_from (sink_at words.now) 3 (length words.now - 3))) }
-    ensures called { IfErr result (λ code. CallsInOrder (H.calls host.old) (H.calls host.new) (steps_from (sink_at words.now) 3 (length words.now - 3)) (fault_at code)) }
+    ensures opened { OnOk result (H.calls host.new ≡ with_steps (H.calls host.old) (steps_from (sink_at words.now) first (length words.now - first))) }
+    ensures called { IfErr result (λ code. CallsInOrder (H.calls host.old) (H.calls host.new) (steps_from (sink_at words.now) first (length words.now - first)) (fault_at code)) }
 {
     let mut sinks = Vec::new(alloc);
-    for word in FIRST_SCRIPT..words.len() as u32 {
-        let sink = make_sink(alloc, words, word, host)?;
+    for word in first..words.len() as u32 {
+        let sink = make_sink(alloc, words, first, word, host)?;
         if sinks.push(sink).is_err() {
             return Err(ExitCode::NoMemory);
         }
@@ -102,13 +134,14 @@ pub fn make_sinks<H: Host>(
 fn make_sink<H: Host>(
     alloc: Global,
     words: &[Bytes],
+    first: u32,
     word: u32,
     host: &mut H,
 ) -> Result<H::Sink, ExitCode>
     requires within { word < length words.now }
-    requires behind { 3 ≤ word }
+    requires behind { first ≤ word }
     ensures made { IfOk result (λ sink. IsUnwritten H.Sink.held H.Sink.faults sink) }
-    ensures fails { IfErr result (λ code. MakesNone words.now 3 (Rises (H.faults host.old) (H.faults host.new)) code) }
+    ensures fails { IfErr result (λ code. MakesNone words.now first (Rises (H.faults host.old) (H.faults host.new)) code) }
     ensures same { (w : List ℕ) → H.bytes host.new w ≡ H.bytes host.old w }
     ensures same_disks { (w : List ℕ) → H.disk_bytes host.new w ≡ H.disk_bytes host.old w }
     ensures counted { H.faults host.old ≤ H.faults host.new }

@@ -14,7 +14,7 @@ use Rattle.ebr_outside.specs.Disk.{Medium}
 use Rattle.ebr_record.specs.declared.record.Record.{Record}
 use Rattle.ebr_dump.specs.Dump.{Dump}
 use Rattle.ebr_server.specs.Disks.{DiskStops, Leaves, WasReadOff}
-use Rattle.ebr_server.specs.Program.{AreScripts, Handed, IsBehind, IsLong, IsOrder, IsShort, NoneRan, Outside, ScriptRan, Step, Tells, call_of, code_of_lines, journal_place, most}
+use Rattle.ebr_server.specs.Program.{AreScripts, Handed, IsBehind, IsLong, IsOrder, NoneRan, Outside, ScriptRan, ShortBetween, Step, Tells, call_of, code_of_lines, journal_place, most}
 
 -- the calls, and then those of steps that came through, where they are told
 abbrev pub with_steps : Option (List HostCall) → List Step → Option (List HostCall)
@@ -32,10 +32,6 @@ Fails bytes words at fails (code.HostFault w) = (w ≡ at) × fails
 Fails bytes words at fails (code.TooLong w) = (w ≡ at) × IsLong bytes words at
 Fails bytes words at fails code.NoMemory = Unit {0}
 Fails bytes words at fails c = ⊥
-
--- What is behind the words from one place up to another isn't too long, where it is told.
-abbrev pub ShortBetween : (List ℕ → Option (List ℕ)) → List (List ℕ) → ℕ → ℕ → Type 0
-ShortBetween bytes words first last = (v : ℕ) → first ≤ v → v < last → IsShort bytes words v
 
 -- why the words from a place on weren't all read
 abbrev pub FailsFrom : (List ℕ → Option (List ℕ)) → List (List ℕ) → ℕ → Type 0 → ExitCode → Type 0

@@ -1,6 +1,19 @@
+use Rattle.std.proofs.Common.{inl}
+use Rattle.ebr_faults.specs.Faults.{Rises}
+use Rattle.ebr_words.specs.declared.words.Command.TheVariants.{Rehearse}
+use Rattle.ebr_server.specs.Handed.{handed}
+use Rattle.ebr_server.specs.Program.{outside}
 use Rattle.ebr_server.proofs.Calls.{all_called}
 use Rattle.ebr_server.proofs.Causes.{ends_faultless}
+use Rattle.ebr_server.proofs.Serving.{stopped_so}
 use Rattle.ebr_server.proofs.command.rehearse.Goals as goal
 
 pub returns-in-Ok-clause-called : goal.returns-in-Ok-clause-called
 returns-in-Ok-clause-called g c = all_called _ _ _ _ c.in-Ok.ensures.opened (ends_faultless _ _ _ _ _ _ c.tell_ends-code.ensures)
+
+pub returns-in-Err-clause-served : goal.returns-in-Err-clause-served
+returns-in-Err-clause-served g c =
+    let h = c.args.host.now in
+    inl (stopped_so (outside (g.H.Host.bytes h) (g.H.Host.disk_bytes h) g.H.Sink.Sink.held g.H.Sink.Sink.faults g.H.Disk.Disk.as_medium) c.args.words.now Rehearse g.H.Source.Source.faults (Rises (g.H.Host.faults h) (g.H.Host.faults c.rehearsed.new.host)) c.in-Err.stop
+    c.stopped.result.source (handed g.H.Report.Sink.faults g.H.Report.Sink.held c.stopped.result) c.in-Err.ensures.stops c.in-Err.ensures.disk c.stopped.ensures.code c.stopped.ensures.source c.stopped.ensures.recovered c.stopped.ensures.history c.stopped.ensures.ends c.stopped.ensures.disk
+    c.stopped.ensures.failed c.stopped.ensures.report)

@@ -1,103 +1,102 @@
-use Rattle.std.proofs.Common.{◌<◌, ◌⊎◌}
+use Rattle.std.proofs.Common.{◌<◌, ◌⊎◌, Option, Some, sym, ap, subst, ◌∙◌}
 use Rattle.std.specs.Prelude.{IsSomeAnd}
 use Rattle.ebr_faults.specs.Faults.{Rises}
 use Rattle.ebr_words.specs.Words.{command_of}
+use Rattle.ebr_words.specs.declared.words.Command.{Command}
 use Rattle.ebr_server.specs.Handed.{handed}
-use Rattle.ebr_server.specs.Program.{outside}
-use Rattle.ebr_server.proofs.Causes.{bad_order, complete, complete_by, damaged, disk_fault, done, host_fault, legal, served_since, sink_fault, sink_stops, stops_bad, stops_damaged, stops_long, too_long, usage}
+use Rattle.ebr_server.specs.Program.{Served, outside}
+use Rattle.ebr_server.proofs.Causes.{bad_order, complete, complete_by, damaged, disk_fault, done, host_fault, legal, sink_fault, sink_stops, stops_bad, stops_damaged, stops_long, too_long, usage}
 use Rattle.ebr_server.proofs.InWords.{rehearse_long}
 use Rattle.ebr_server.proofs.command.serve.Goals as goal
 
-pub returns-clause-served : goal.returns-clause-served
-returns-clause-served g c =
+pub returns-in-Some-Run-clause-served : goal.returns-in-Some-Run-clause-served
+returns-in-Some-Run-clause-served g c =
     let h0 = c.args.host.now in
-    let h1 = c.report-report.new.self in
-    served_since g.H.Sink.Sink.held g.H.Sink.Sink.faults g.H.Disk.Disk.as_medium (IsSomeAnd c.do_command.result.source (λ s. 0 < g.H.Source.Source.faults s)) c.args.words.now (handed g.H.Report.Sink.faults g.H.Report.Sink.held c.do_command.result) (g.H.Host.bytes h0)
-    (g.H.Host.bytes h1) (g.H.Host.disk_bytes h0) (g.H.Host.disk_bytes h1) (command_of c.args.words.now) (g.H.Host.faults h0) (g.H.Host.faults h1) (g.H.Host.faults c.do_command.new.host) c.report-report.ensures.same c.report-report.ensures.same_disks
-    c.report-report.ensures.counted c.do_command.ensures.served
+    subst (λ (k : Option Command). Served k (outside (g.H.Host.bytes h0) (g.H.Host.disk_bytes h0) g.H.Sink.Sink.held g.H.Sink.Sink.faults g.H.Disk.Disk.as_medium) (Rises (g.H.Host.faults h0) (g.H.Host.faults c.serve_run.new.host) ⊎ IsSomeAnd c.serve_run.result.source (λ s. 0 < g.H.Source.Source.faults s)) c.args.words.now (handed g.H.Report.Sink.faults g.H.Report.Sink.held c.serve_run.result))
+    (sym (ap Some c.in-Some-Run.field-0-is) ∙ c.in-Some-Run.ensures) c.serve_run.ensures.served
 
-pub returns-clause-legal : goal.returns-clause-legal
-returns-clause-legal g c =
+pub returns-in-Some-Run-clause-legal : goal.returns-in-Some-Run-clause-legal
+returns-in-Some-Run-clause-legal g c =
     let h0 = c.args.host.now in
-    legal (outside (g.H.Host.bytes h0) (g.H.Host.disk_bytes h0) g.H.Sink.Sink.held g.H.Sink.Sink.faults g.H.Disk.Disk.as_medium) (Rises (g.H.Host.faults h0) (g.H.Host.faults c.do_command.new.host) ⊎ IsSomeAnd c.do_command.result.source (λ s. 0 < g.H.Source.Source.faults s)) c.args.words.now
-    (handed g.H.Report.Sink.faults g.H.Report.Sink.held c.do_command.result) (command_of c.args.words.now) (returns-clause-served g c)
+    legal (outside (g.H.Host.bytes h0) (g.H.Host.disk_bytes h0) g.H.Sink.Sink.held g.H.Sink.Sink.faults g.H.Disk.Disk.as_medium) (Rises (g.H.Host.faults h0) (g.H.Host.faults c.serve_run.new.host) ⊎ IsSomeAnd c.serve_run.result.source (λ s. 0 < g.H.Source.Source.faults s)) c.args.words.now
+    (handed g.H.Report.Sink.faults g.H.Report.Sink.held c.serve_run.result) (command_of c.args.words.now) (returns-in-Some-Run-clause-served g c)
 
-pub returns-clause-usage : goal.returns-clause-usage
-returns-clause-usage g c =
+pub returns-in-Some-Run-clause-usage : goal.returns-in-Some-Run-clause-usage
+returns-in-Some-Run-clause-usage g c =
     let h0 = c.args.host.now in
-    usage (outside (g.H.Host.bytes h0) (g.H.Host.disk_bytes h0) g.H.Sink.Sink.held g.H.Sink.Sink.faults g.H.Disk.Disk.as_medium) (Rises (g.H.Host.faults h0) (g.H.Host.faults c.do_command.new.host) ⊎ IsSomeAnd c.do_command.result.source (λ s. 0 < g.H.Source.Source.faults s)) c.args.words.now
-    (handed g.H.Report.Sink.faults g.H.Report.Sink.held c.do_command.result) (command_of c.args.words.now) (returns-clause-served g c)
+    usage (outside (g.H.Host.bytes h0) (g.H.Host.disk_bytes h0) g.H.Sink.Sink.held g.H.Sink.Sink.faults g.H.Disk.Disk.as_medium) (Rises (g.H.Host.faults h0) (g.H.Host.faults c.serve_run.new.host) ⊎ IsSomeAnd c.serve_run.result.source (λ s. 0 < g.H.Source.Source.faults s)) c.args.words.now
+    (handed g.H.Report.Sink.faults g.H.Report.Sink.held c.serve_run.result) (command_of c.args.words.now) (returns-in-Some-Run-clause-served g c)
 
-pub returns-clause-host_fault : goal.returns-clause-host_fault
-returns-clause-host_fault g c =
+pub returns-in-Some-Run-clause-host_fault : goal.returns-in-Some-Run-clause-host_fault
+returns-in-Some-Run-clause-host_fault g c =
     let h0 = c.args.host.now in
-    host_fault (outside (g.H.Host.bytes h0) (g.H.Host.disk_bytes h0) g.H.Sink.Sink.held g.H.Sink.Sink.faults g.H.Disk.Disk.as_medium) (Rises (g.H.Host.faults h0) (g.H.Host.faults c.do_command.new.host) ⊎ IsSomeAnd c.do_command.result.source (λ s. 0 < g.H.Source.Source.faults s)) c.args.words.now
-    (handed g.H.Report.Sink.faults g.H.Report.Sink.held c.do_command.result) (command_of c.args.words.now) (returns-clause-served g c)
+    host_fault (outside (g.H.Host.bytes h0) (g.H.Host.disk_bytes h0) g.H.Sink.Sink.held g.H.Sink.Sink.faults g.H.Disk.Disk.as_medium) (Rises (g.H.Host.faults h0) (g.H.Host.faults c.serve_run.new.host) ⊎ IsSomeAnd c.serve_run.result.source (λ s. 0 < g.H.Source.Source.faults s)) c.args.words.now
+    (handed g.H.Report.Sink.faults g.H.Report.Sink.held c.serve_run.result) (command_of c.args.words.now) (returns-in-Some-Run-clause-served g c)
 
-pub returns-clause-disk_fault : goal.returns-clause-disk_fault
-returns-clause-disk_fault g c =
+pub returns-in-Some-Run-clause-disk_fault : goal.returns-in-Some-Run-clause-disk_fault
+returns-in-Some-Run-clause-disk_fault g c =
     let h0 = c.args.host.now in
-    disk_fault (outside (g.H.Host.bytes h0) (g.H.Host.disk_bytes h0) g.H.Sink.Sink.held g.H.Sink.Sink.faults g.H.Disk.Disk.as_medium) (Rises (g.H.Host.faults h0) (g.H.Host.faults c.do_command.new.host) ⊎ IsSomeAnd c.do_command.result.source (λ s. 0 < g.H.Source.Source.faults s)) c.args.words.now
-    (handed g.H.Report.Sink.faults g.H.Report.Sink.held c.do_command.result) (command_of c.args.words.now) (returns-clause-served g c)
+    disk_fault (outside (g.H.Host.bytes h0) (g.H.Host.disk_bytes h0) g.H.Sink.Sink.held g.H.Sink.Sink.faults g.H.Disk.Disk.as_medium) (Rises (g.H.Host.faults h0) (g.H.Host.faults c.serve_run.new.host) ⊎ IsSomeAnd c.serve_run.result.source (λ s. 0 < g.H.Source.Source.faults s)) c.args.words.now
+    (handed g.H.Report.Sink.faults g.H.Report.Sink.held c.serve_run.result) (command_of c.args.words.now) (returns-in-Some-Run-clause-served g c)
 
-pub returns-clause-damaged : goal.returns-clause-damaged
-returns-clause-damaged g c =
+pub returns-in-Some-Run-clause-damaged : goal.returns-in-Some-Run-clause-damaged
+returns-in-Some-Run-clause-damaged g c =
     let h0 = c.args.host.now in
-    damaged (outside (g.H.Host.bytes h0) (g.H.Host.disk_bytes h0) g.H.Sink.Sink.held g.H.Sink.Sink.faults g.H.Disk.Disk.as_medium) (Rises (g.H.Host.faults h0) (g.H.Host.faults c.do_command.new.host) ⊎ IsSomeAnd c.do_command.result.source (λ s. 0 < g.H.Source.Source.faults s)) c.args.words.now
-    (handed g.H.Report.Sink.faults g.H.Report.Sink.held c.do_command.result) (command_of c.args.words.now) (returns-clause-served g c)
+    damaged (outside (g.H.Host.bytes h0) (g.H.Host.disk_bytes h0) g.H.Sink.Sink.held g.H.Sink.Sink.faults g.H.Disk.Disk.as_medium) (Rises (g.H.Host.faults h0) (g.H.Host.faults c.serve_run.new.host) ⊎ IsSomeAnd c.serve_run.result.source (λ s. 0 < g.H.Source.Source.faults s)) c.args.words.now
+    (handed g.H.Report.Sink.faults g.H.Report.Sink.held c.serve_run.result) (command_of c.args.words.now) (returns-in-Some-Run-clause-served g c)
 
-pub returns-clause-sink_fault : goal.returns-clause-sink_fault
-returns-clause-sink_fault g c =
+pub returns-in-Some-Run-clause-sink_fault : goal.returns-in-Some-Run-clause-sink_fault
+returns-in-Some-Run-clause-sink_fault g c =
     let h0 = c.args.host.now in
-    sink_fault (outside (g.H.Host.bytes h0) (g.H.Host.disk_bytes h0) g.H.Sink.Sink.held g.H.Sink.Sink.faults g.H.Disk.Disk.as_medium) (Rises (g.H.Host.faults h0) (g.H.Host.faults c.do_command.new.host) ⊎ IsSomeAnd c.do_command.result.source (λ s. 0 < g.H.Source.Source.faults s)) c.args.words.now
-    (handed g.H.Report.Sink.faults g.H.Report.Sink.held c.do_command.result) (command_of c.args.words.now) (returns-clause-served g c)
+    sink_fault (outside (g.H.Host.bytes h0) (g.H.Host.disk_bytes h0) g.H.Sink.Sink.held g.H.Sink.Sink.faults g.H.Disk.Disk.as_medium) (Rises (g.H.Host.faults h0) (g.H.Host.faults c.serve_run.new.host) ⊎ IsSomeAnd c.serve_run.result.source (λ s. 0 < g.H.Source.Source.faults s)) c.args.words.now
+    (handed g.H.Report.Sink.faults g.H.Report.Sink.held c.serve_run.result) (command_of c.args.words.now) (returns-in-Some-Run-clause-served g c)
 
-pub returns-clause-sink_stops : goal.returns-clause-sink_stops
-returns-clause-sink_stops g c =
+pub returns-in-Some-Run-clause-sink_stops : goal.returns-in-Some-Run-clause-sink_stops
+returns-in-Some-Run-clause-sink_stops g c =
     let h0 = c.args.host.now in
-    sink_stops (outside (g.H.Host.bytes h0) (g.H.Host.disk_bytes h0) g.H.Sink.Sink.held g.H.Sink.Sink.faults g.H.Disk.Disk.as_medium) (Rises (g.H.Host.faults h0) (g.H.Host.faults c.do_command.new.host) ⊎ IsSomeAnd c.do_command.result.source (λ s. 0 < g.H.Source.Source.faults s)) c.args.words.now
-    (handed g.H.Report.Sink.faults g.H.Report.Sink.held c.do_command.result) (command_of c.args.words.now) (returns-clause-served g c)
+    sink_stops (outside (g.H.Host.bytes h0) (g.H.Host.disk_bytes h0) g.H.Sink.Sink.held g.H.Sink.Sink.faults g.H.Disk.Disk.as_medium) (Rises (g.H.Host.faults h0) (g.H.Host.faults c.serve_run.new.host) ⊎ IsSomeAnd c.serve_run.result.source (λ s. 0 < g.H.Source.Source.faults s)) c.args.words.now
+    (handed g.H.Report.Sink.faults g.H.Report.Sink.held c.serve_run.result) (command_of c.args.words.now) (returns-in-Some-Run-clause-served g c)
 
-pub returns-clause-done : goal.returns-clause-done
-returns-clause-done g c =
+pub returns-in-Some-Run-clause-done : goal.returns-in-Some-Run-clause-done
+returns-in-Some-Run-clause-done g c =
     let h0 = c.args.host.now in
-    done (outside (g.H.Host.bytes h0) (g.H.Host.disk_bytes h0) g.H.Sink.Sink.held g.H.Sink.Sink.faults g.H.Disk.Disk.as_medium) (Rises (g.H.Host.faults h0) (g.H.Host.faults c.do_command.new.host) ⊎ IsSomeAnd c.do_command.result.source (λ s. 0 < g.H.Source.Source.faults s)) c.args.words.now
-    (handed g.H.Report.Sink.faults g.H.Report.Sink.held c.do_command.result) (command_of c.args.words.now) (returns-clause-served g c)
+    done (outside (g.H.Host.bytes h0) (g.H.Host.disk_bytes h0) g.H.Sink.Sink.held g.H.Sink.Sink.faults g.H.Disk.Disk.as_medium) (Rises (g.H.Host.faults h0) (g.H.Host.faults c.serve_run.new.host) ⊎ IsSomeAnd c.serve_run.result.source (λ s. 0 < g.H.Source.Source.faults s)) c.args.words.now
+    (handed g.H.Report.Sink.faults g.H.Report.Sink.held c.serve_run.result) (command_of c.args.words.now) (returns-in-Some-Run-clause-served g c)
 
-pub returns-clause-too_long : goal.returns-clause-too_long
-returns-clause-too_long g c =
+pub returns-in-Some-Run-clause-too_long : goal.returns-in-Some-Run-clause-too_long
+returns-in-Some-Run-clause-too_long g c =
     let h0 = c.args.host.now in
-    too_long (outside (g.H.Host.bytes h0) (g.H.Host.disk_bytes h0) g.H.Sink.Sink.held g.H.Sink.Sink.faults g.H.Disk.Disk.as_medium) (Rises (g.H.Host.faults h0) (g.H.Host.faults c.do_command.new.host) ⊎ IsSomeAnd c.do_command.result.source (λ s. 0 < g.H.Source.Source.faults s)) c.args.words.now
-    (handed g.H.Report.Sink.faults g.H.Report.Sink.held c.do_command.result) (command_of c.args.words.now) (returns-clause-served g c)
+    too_long (outside (g.H.Host.bytes h0) (g.H.Host.disk_bytes h0) g.H.Sink.Sink.held g.H.Sink.Sink.faults g.H.Disk.Disk.as_medium) (Rises (g.H.Host.faults h0) (g.H.Host.faults c.serve_run.new.host) ⊎ IsSomeAnd c.serve_run.result.source (λ s. 0 < g.H.Source.Source.faults s)) c.args.words.now
+    (handed g.H.Report.Sink.faults g.H.Report.Sink.held c.serve_run.result) (command_of c.args.words.now) (returns-in-Some-Run-clause-served g c)
 
-pub returns-clause-bad_order : goal.returns-clause-bad_order
-returns-clause-bad_order g c =
+pub returns-in-Some-Run-clause-bad_order : goal.returns-in-Some-Run-clause-bad_order
+returns-in-Some-Run-clause-bad_order g c =
     let h0 = c.args.host.now in
-    bad_order (outside (g.H.Host.bytes h0) (g.H.Host.disk_bytes h0) g.H.Sink.Sink.held g.H.Sink.Sink.faults g.H.Disk.Disk.as_medium) (Rises (g.H.Host.faults h0) (g.H.Host.faults c.do_command.new.host) ⊎ IsSomeAnd c.do_command.result.source (λ s. 0 < g.H.Source.Source.faults s)) c.args.words.now
-    (handed g.H.Report.Sink.faults g.H.Report.Sink.held c.do_command.result) (command_of c.args.words.now) (returns-clause-served g c)
+    bad_order (outside (g.H.Host.bytes h0) (g.H.Host.disk_bytes h0) g.H.Sink.Sink.held g.H.Sink.Sink.faults g.H.Disk.Disk.as_medium) (Rises (g.H.Host.faults h0) (g.H.Host.faults c.serve_run.new.host) ⊎ IsSomeAnd c.serve_run.result.source (λ s. 0 < g.H.Source.Source.faults s)) c.args.words.now
+    (handed g.H.Report.Sink.faults g.H.Report.Sink.held c.serve_run.result) (command_of c.args.words.now) (returns-in-Some-Run-clause-served g c)
 
-pub returns-clause-stops_long : goal.returns-clause-stops_long
-returns-clause-stops_long g c =
+pub returns-in-Some-Run-clause-stops_long : goal.returns-in-Some-Run-clause-stops_long
+returns-in-Some-Run-clause-stops_long g c =
     let h0 = c.args.host.now in
-    stops_long (outside (g.H.Host.bytes h0) (g.H.Host.disk_bytes h0) g.H.Sink.Sink.held g.H.Sink.Sink.faults g.H.Disk.Disk.as_medium) (Rises (g.H.Host.faults h0) (g.H.Host.faults c.do_command.new.host) ⊎ IsSomeAnd c.do_command.result.source (λ s. 0 < g.H.Source.Source.faults s)) c.args.words.now
-    (handed g.H.Report.Sink.faults g.H.Report.Sink.held c.do_command.result) (command_of c.args.words.now) (returns-clause-served g c)
+    stops_long (outside (g.H.Host.bytes h0) (g.H.Host.disk_bytes h0) g.H.Sink.Sink.held g.H.Sink.Sink.faults g.H.Disk.Disk.as_medium) (Rises (g.H.Host.faults h0) (g.H.Host.faults c.serve_run.new.host) ⊎ IsSomeAnd c.serve_run.result.source (λ s. 0 < g.H.Source.Source.faults s)) c.args.words.now
+    (handed g.H.Report.Sink.faults g.H.Report.Sink.held c.serve_run.result) (command_of c.args.words.now) (returns-in-Some-Run-clause-served g c)
 
-pub returns-clause-stops_bad : goal.returns-clause-stops_bad
-returns-clause-stops_bad g c =
+pub returns-in-Some-Run-clause-stops_bad : goal.returns-in-Some-Run-clause-stops_bad
+returns-in-Some-Run-clause-stops_bad g c =
     let h0 = c.args.host.now in
-    stops_bad (outside (g.H.Host.bytes h0) (g.H.Host.disk_bytes h0) g.H.Sink.Sink.held g.H.Sink.Sink.faults g.H.Disk.Disk.as_medium) (Rises (g.H.Host.faults h0) (g.H.Host.faults c.do_command.new.host) ⊎ IsSomeAnd c.do_command.result.source (λ s. 0 < g.H.Source.Source.faults s)) c.args.words.now
-    (handed g.H.Report.Sink.faults g.H.Report.Sink.held c.do_command.result) (command_of c.args.words.now) (rehearse_long c.args.words.now) (returns-clause-served g c)
+    stops_bad (outside (g.H.Host.bytes h0) (g.H.Host.disk_bytes h0) g.H.Sink.Sink.held g.H.Sink.Sink.faults g.H.Disk.Disk.as_medium) (Rises (g.H.Host.faults h0) (g.H.Host.faults c.serve_run.new.host) ⊎ IsSomeAnd c.serve_run.result.source (λ s. 0 < g.H.Source.Source.faults s)) c.args.words.now
+    (handed g.H.Report.Sink.faults g.H.Report.Sink.held c.serve_run.result) (command_of c.args.words.now) (rehearse_long c.args.words.now) (returns-in-Some-Run-clause-served g c)
 
-pub returns-clause-stops_damaged : goal.returns-clause-stops_damaged
-returns-clause-stops_damaged g c =
+pub returns-in-Some-Run-clause-stops_damaged : goal.returns-in-Some-Run-clause-stops_damaged
+returns-in-Some-Run-clause-stops_damaged g c =
     let h0 = c.args.host.now in
-    stops_damaged (outside (g.H.Host.bytes h0) (g.H.Host.disk_bytes h0) g.H.Sink.Sink.held g.H.Sink.Sink.faults g.H.Disk.Disk.as_medium) (Rises (g.H.Host.faults h0) (g.H.Host.faults c.do_command.new.host) ⊎ IsSomeAnd c.do_command.result.source (λ s. 0 < g.H.Source.Source.faults s)) c.args.words.now
-    (handed g.H.Report.Sink.faults g.H.Report.Sink.held c.do_command.result) c.a_database_is_not_damaged.ensures (command_of c.args.words.now) (returns-clause-served g c)
+    stops_damaged (outside (g.H.Host.bytes h0) (g.H.Host.disk_bytes h0) g.H.Sink.Sink.held g.H.Sink.Sink.faults g.H.Disk.Disk.as_medium) (Rises (g.H.Host.faults h0) (g.H.Host.faults c.serve_run.new.host) ⊎ IsSomeAnd c.serve_run.result.source (λ s. 0 < g.H.Source.Source.faults s)) c.args.words.now
+    (handed g.H.Report.Sink.faults g.H.Report.Sink.held c.serve_run.result) c.a_database_is_not_damaged.ensures (command_of c.args.words.now) (returns-in-Some-Run-clause-served g c)
 
-pub returns-clause-complete : goal.returns-clause-complete
-returns-clause-complete g c =
+pub returns-in-Some-Run-clause-complete : goal.returns-in-Some-Run-clause-complete
+returns-in-Some-Run-clause-complete g c =
     let h0 = c.args.host.now in
     let o = outside (g.H.Host.bytes h0) (g.H.Host.disk_bytes h0) g.H.Sink.Sink.held g.H.Sink.Sink.faults g.H.Disk.Disk.as_medium in
-    let run = handed g.H.Report.Sink.faults g.H.Report.Sink.held c.do_command.result in
-    complete_by g.H.Source.Source.faults c.do_command.result.source (g.H.Host.faults h0) (g.H.Host.faults c.do_command.new.host) o c.args.words.now run (command_of c.args.words.now)
-    (complete o (Rises (g.H.Host.faults h0) (g.H.Host.faults c.do_command.new.host) ⊎ IsSomeAnd c.do_command.result.source (λ s. 0 < g.H.Source.Source.faults s)) c.args.words.now run (command_of c.args.words.now) (returns-clause-served g c))
+    let run = handed g.H.Report.Sink.faults g.H.Report.Sink.held c.serve_run.result in
+    complete_by g.H.Source.Source.faults c.serve_run.result.source (g.H.Host.faults h0) (g.H.Host.faults c.serve_run.new.host) o c.args.words.now run (command_of c.args.words.now)
+    (complete o (Rises (g.H.Host.faults h0) (g.H.Host.faults c.serve_run.new.host) ⊎ IsSomeAnd c.serve_run.result.source (λ s. 0 < g.H.Source.Source.faults s)) c.args.words.now run (command_of c.args.words.now) (returns-in-Some-Run-clause-served g c))

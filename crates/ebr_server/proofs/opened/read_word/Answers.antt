@@ -1,6 +1,8 @@
-use Rattle.std.proofs.Common.{◌<◌, ◌≤◌, None, length, ap, arith, refl, rules}
+use Rattle.std.proofs.Common.{◌≡◌, ◌<◌, ◌≤◌, None, Err, length, ap, arith, refl, rules, subst}
+use Rattle.ebr_outside.specs.HostCalls.{calls_after}
+use Rattle.ebr_outside.specs.declared.host_call.HostMethod.TheVariants as method
 use Rattle.ebr_server.specs.Program.{fault_at}
-use Rattle.ebr_server.proofs.Calls.{all_called, fault_of}
+use Rattle.ebr_server.proofs.Calls.{all_called, fault_of, none_called}
 use Rattle.ebr_server.proofs.Opening.{opened_so, too_long, was_read}
 use Rattle.ebr_server.proofs.opened.read_word.Goals as goal
 
@@ -29,3 +31,8 @@ returns-in-Err-Failed-read_bytes-clause-called g c =
 pub returns-clause-called : goal.returns-clause-called
 returns-clause-called g c =
     all_called _ _ _ _ (opened_so c.args.words.now c.args.word _ _ _ _ c.requires.within c.index-words-word.is c.in-Ok.ensures.called) (fault_of _ _ None (search rules) (search rules))
+
+pub returns-in-Err-NoMemory-clause-called : goal.returns-in-Err-NoMemory-clause-called
+returns-in-Err-NoMemory-clause-called g c =
+    none_called _ _ _ _ (subst (λ e. g.H.Host.calls c.source.new.self ≡ calls_after {S = g.row.H-Source.Denot} (g.H.Host.calls c.args.host.now) method.Source c.index-words-word.result (Err e)) c.in-Err-NoMemory.field-0-is c.in-Err-NoMemory.ensures.called)
+    (fault_of _ _ None c.without_source-in-Err-NoMemory.ensures.source (ap fault_at c.without_source-in-Err-NoMemory.ensures.code))

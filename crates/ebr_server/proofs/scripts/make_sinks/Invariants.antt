@@ -6,10 +6,10 @@ use Rattle.ebr_server.proofs.scripts.make_sinks.Given as goal
 -- the sinks of the words so far are made
 abbrev pub invariant-loop-word : goal.invariant-loop-word
 invariant-loop-word g l = record {
-  from : 3 ≤ l.word;
-  sinks : AreUnwritten g.H.Sink.Sink.held g.H.Sink.Sink.faults 3 l.word l.sinks.items;
+  from : l.first ≤ l.word;
+  sinks : AreUnwritten g.H.Sink.Sink.held g.H.Sink.Sink.faults l.first l.word l.sinks.items;
   same : (w : List ℕ) → g.H.Host.bytes l.host w ≡ g.H.Host.bytes l.initial.host w;
   same_disks : (w : List ℕ) → g.H.Host.disk_bytes l.host w ≡ g.H.Host.disk_bytes l.initial.host w;
   counted : g.H.Host.faults l.initial.host ≤ g.H.Host.faults l.host;
-  called : g.H.Host.calls l.host ≡ with_steps (g.H.Host.calls l.initial.host) (steps_from (sink_at l.words) 3 (l.word - 3));
+  called : g.H.Host.calls l.host ≡ with_steps (g.H.Host.calls l.initial.host) (steps_from (sink_at l.words) l.first (l.word - l.first));
 }

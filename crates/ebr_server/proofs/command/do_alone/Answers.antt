@@ -4,7 +4,7 @@ use Rattle.ebr_words.specs.declared.words.Command.{Command}
 use Rattle.ebr_server.specs.Handed.{handed}
 use Rattle.ebr_server.specs.Program.{Served, fault_at, outside}
 use Rattle.ebr_server.proofs.Calls.{fault_of, none_called}
-use Rattle.ebr_server.proofs.command.do_command.Goals as goal
+use Rattle.ebr_server.proofs.command.do_alone.Goals as goal
 
 pub returns-in-Some-Try-clause-served : goal.returns-in-Some-Try-clause-served
 returns-in-Some-Try-clause-served g c =
