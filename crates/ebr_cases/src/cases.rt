@@ -5,6 +5,8 @@ use crate::script::Script;
 use crate::text::TEXT;
 use ebr_base::{Bytes, NoMemory};
 use std::alloc::Global;
+use std::sync::Wait;
+use std::thread::Threads;
 
 /// What stands in front of a case and its title.
 const CASE: &str = "\n=== ";
@@ -41,7 +43,8 @@ fn script_runs(
 }
 
 /// Runs a case of several scripts. None where the texts are no such case.
-fn rehearsal_runs(
+fn rehearsal_runs<R: Threads + Wait + Sync>(
+    rt: &R,
     alloc: Global,
     setup: &str,
     case: &str,
@@ -54,11 +57,12 @@ fn rehearsal_runs(
     if !rehearsal.add(alloc, case)? {
         return Ok(None);
     }
-    Ok(Some(rehearsal.runs(alloc, report)?))
+    Ok(Some(rehearsal.runs(rt, alloc, report)?))
 }
 
 /// Whether a case came to what is written. What it came to is told where it didn't.
-fn is_as_written(
+fn is_as_written<R: Threads + Wait + Sync>(
+    rt: &R,
     alloc: Global,
     setup: &str,
     case: &str,
@@ -71,7 +75,7 @@ fn is_as_written(
     if let Some(right) = script_runs(alloc, setup, case, report)? {
         return Ok(right);
     }
-    if let Some(right) = rehearsal_runs(alloc, setup, case, report)? {
+    if let Some(right) = rehearsal_runs(rt, alloc, setup, case, report)? {
         return Ok(right);
     }
     report.extend(b"neither a script with its replies nor a rehearsal\n")?;
@@ -87,9 +91,15 @@ fn title_of(case: &str) -> &str {
 }
 
 /// Whether a case came to what is written. It is told behind its title where it didn't.
-fn is_right(alloc: Global, setup: &str, case: &str, report: &mut Bytes) -> Result<bool, NoMemory> {
+fn is_right<R: Threads + Wait + Sync>(
+    rt: &R,
+    alloc: Global,
+    setup: &str,
+    case: &str,
+    report: &mut Bytes,
+) -> Result<bool, NoMemory> {
     let mut what = Bytes::new(alloc);
-    if is_as_written(alloc, setup, case, &mut what)? {
+    if is_as_written(rt, alloc, setup, case, &mut what)? {
         return Ok(true);
     }
     report.extend(b"=== ")?;
@@ -111,7 +121,12 @@ fn count_line(alloc: Global, name: &str, cases: u32, wrong: u32) -> Result<Strin
 }
 
 /// Runs the cases of a file, which has a newline in front of its first line and none at its end.
-fn check_cases(alloc: Global, name: &str, file: &str) -> Result<Checked, NoMemory> {
+fn check_cases<R: Threads + Wait + Sync>(
+    rt: &R,
+    alloc: Global,
+    name: &str,
+    file: &str,
+) -> Result<Checked, NoMemory> {
     let mut report = Bytes::new(alloc);
     let mut cases = 0u32;
     let mut wrong = 0u32;
@@ -119,7 +134,7 @@ fn check_cases(alloc: Global, name: &str, file: &str) -> Result<Checked, NoMemor
     let setup = parts.next().unwrap_or("");
     for case in parts {
         cases = cases.saturating_add(1);
-        if !is_right(alloc, setup, case, &mut report)? {
+        if !is_right(rt, alloc, setup, case, &mut report)? {
             wrong = wrong.saturating_add(1);
         }
     }
@@ -129,8 +144,13 @@ fn check_cases(alloc: Global, name: &str, file: &str) -> Result<Checked, NoMemor
 }
 
 /// Runs the cases of a file.
-pub fn check_file(alloc: Global, name: &str, file: &str) -> Result<Checked, NoMemory> {
+pub fn check_file<R: Threads + Wait + Sync>(
+    rt: &R,
+    alloc: Global,
+    name: &str,
+    file: &str,
+) -> Result<Checked, NoMemory> {
     let lines = file.strip_suffix('\n').unwrap_or(file);
     let lines = format!(in alloc; "\n{lines}")?;
-    check_cases(alloc, name, lines.as_str())
+    check_cases(rt, alloc, name, lines.as_str())
 }

@@ -20,7 +20,9 @@
 //! that of the last one is left out where the heading ends with `, no newline at its end`.
 //!
 //! A rehearsal has more texts: `--- order`, `--- session 1`, `--- replies 1`, `--- session 2` and so on, and `--- summary`. The sessions of
-//! a case go on from those that are set up.
+//! a case go on from those that are set up. They are run in threads too, behind a gate that keeps the rehearsal's order of asks, and come to
+//! the same. There all sessions leave at the end, since a gate can't see when one has left; where the replies rest on that, the case ends
+//! with the heading `--- rehearsed alone`.
 //!
 //! What came is shown beside what is written where they differ. The status is 1 where a case came to something else, and where a file can't
 //! be read, or has no case. The last files of `args` are wrong on purpose, so that this is tested too.
@@ -39,11 +41,17 @@ use std::alloc::Global;
 use std::fs;
 use std::io::Write;
 use std::process::ExitCode;
+use std::sync::Wait;
+use std::thread::Threads;
 
 /// Checks the cases of the file of this name.
-fn file_checked(rt: HostRuntime, name: &str) -> Result<Checked, NoMemory> {
+fn file_checked<R: Threads + Wait + Sync>(
+    rt: HostRuntime,
+    threads: &R,
+    name: &str,
+) -> Result<Checked, NoMemory> {
     match fs::read_to_string(&rt, name) {
-        Ok(file) => check_file(rt.alloc(), name, file.as_str()),
+        Ok(file) => check_file(threads, rt.alloc(), name, file.as_str()),
         Err(_) => unread(rt.alloc(), name),
     }
 }
@@ -58,21 +66,25 @@ fn unread(alloc: Global, name: &str) -> Result<Checked, NoMemory> {
 }
 
 /// Checks the file that a word names, and writes what it came to. Whether all is as written, and was told.
-fn word_checked(rt: HostRuntime, word: &[u8]) -> Result<bool, NoMemory> {
+fn word_checked<R: Threads + Wait + Sync>(
+    rt: HostRuntime,
+    threads: &R,
+    word: &[u8],
+) -> Result<bool, NoMemory> {
     let Ok(name) = str::from_utf8(word) else {
         return Ok(false);
     };
-    let checked = file_checked(rt, name)?;
+    let checked = file_checked(rt, threads, name)?;
     let written = rt.stdout().write_all(checked.report.as_slice()).is_ok();
     Ok(checked.right && written)
 }
 
 /// Checks all files that the words name.
-fn all_checked(rt: HostRuntime) -> Result<bool, NoMemory> {
+fn all_checked<R: Threads + Wait + Sync>(rt: HostRuntime, threads: &R) -> Result<bool, NoMemory> {
     let words = words(&rt)?;
     let mut right = !words.is_empty();
     for word in words.as_slice() {
-        if !word_checked(rt, word.as_slice())? {
+        if !word_checked(rt, threads, word.as_slice())? {
             right = false;
         }
     }
@@ -80,7 +92,7 @@ fn all_checked(rt: HostRuntime) -> Result<bool, NoMemory> {
 }
 
 fn main(rt: HostRuntime) -> ExitCode {
-    match all_checked(rt) {
+    match all_checked(rt, &rt) {
         Ok(true) => ExitCode::SUCCESS,
         Ok(false) | Err(NoMemory) => ExitCode::FAILURE,
     }

@@ -4,11 +4,18 @@ use crate::compare::{is_done, is_wanted};
 use crate::text::{TEXT, add_text};
 use ebr_base::{Bytes, List, NoMemory};
 use ebr_outside::MemFile;
-use ebr_trial::{MemOutcome, file, rehearse_words, rehearsed, release};
+use ebr_trial::{
+    MemOutcome, file, order_of, ran_in_order, rehearse_words, rehearsed, release, run_words,
+};
 use std::alloc::Global;
+use std::sync::Wait;
+use std::thread::Threads;
 
 /// How many sessions there may be.
 const MAX_SESSIONS: usize = 32;
+
+/// The heading behind the texts of a case that isn't run in threads.
+const ALONE: &str = "rehearsed alone";
 
 /// A script and its replies.
 #[derive(Drop)]
@@ -23,6 +30,8 @@ pub struct Rehearsal {
     order: Bytes,
     sessions: List<Session>,
     summary: Bytes,
+    /// Whether the scripts are rehearsed, and not run in threads.
+    alone: bool,
 }
 
 /// A session that has these two texts. None where their headings are others than those of the session with this number.
@@ -54,6 +63,16 @@ impl Rehearsal {
             order: Bytes::new(alloc),
             sessions: List::new(alloc),
             summary: Bytes::new(alloc),
+            alone: false,
+        }
+    }
+
+    /// Adds what stands behind the summary. False where that is something else.
+    fn add_rest(&mut self, rest: Option<&str>) -> bool {
+        self.alone = rest.is_some();
+        match rest {
+            Some(heading) => heading == ALONE,
+            None => true,
         }
     }
 
@@ -66,7 +85,7 @@ impl Rehearsal {
         for _ in 0..=MAX_SESSIONS {
             let text = texts.next();
             if add_text(text, "summary", &mut self.summary)? {
-                return Ok(texts.next().is_none());
+                return Ok(self.add_rest(texts.next()) && texts.next().is_none());
             }
             let number = self.sessions.len().saturating_add(1);
             let Some(session) = session_of(alloc, number, text, texts.next())? else {
@@ -127,13 +146,44 @@ impl Rehearsal {
         Ok(is_done(alloc, report, outcome.code.status())? && printed && summed)
     }
 
-    /// Rehearses the scripts. Whether they came to their replies and the summary; what they came to is told where they didn't.
-    pub fn runs(&self, alloc: Global, report: &mut Bytes) -> Result<bool, NoMemory> {
+    /// Runs the scripts in threads, whose asks pass in this order. Whether they came to their replies and the summary; what they came to is
+    /// told where they didn't.
+    fn runs_in_threads<R: Threads + Wait + Sync>(
+        &self,
+        rt: &R,
+        alloc: Global,
+        order: Vec<u32>,
+        report: &mut Bytes,
+    ) -> Result<bool, NoMemory> {
+        report.extend(b"in threads:\n")?;
+        let files = self.files(alloc, rehearse_words(self.sessions.len()))?;
+        let words = run_words(alloc, self.sessions.len())?;
+        let Some(outcome) = ran_in_order(rt, alloc, words.as_slice(), files, order) else {
+            report.extend(b"a session waited too long for its turn\n")?;
+            return Ok(false);
+        };
+        let so = self.is_so(alloc, &outcome, report);
+        release(outcome);
+        so
+    }
+
+    /// Rehearses the scripts, and then runs them in threads, where the asks pass in the same order. Whether they came to their replies and the
+    /// summary both times; what they came to is told where they didn't.
+    pub fn runs<R: Threads + Wait + Sync>(
+        &self,
+        rt: &R,
+        alloc: Global,
+        report: &mut Bytes,
+    ) -> Result<bool, NoMemory> {
         let words = rehearse_words(self.sessions.len());
         let files = self.files(alloc, words)?;
         let outcome = rehearsed(alloc, words, files, None, None)?;
         let so = self.is_so(alloc, &outcome, report);
+        let order = order_of(alloc, outcome.history.as_slice());
         release(outcome);
-        so
+        if self.alone || !so? {
+            return so;
+        }
+        self.runs_in_threads(rt, alloc, order?, report)
     }
 }

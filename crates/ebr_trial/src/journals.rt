@@ -2,7 +2,7 @@
 
 use crate::rehearsals::{file, rehearse_words, rehearsed};
 use crate::trial::{MemOutcome, release};
-use ebr_base::{List, NoMemory};
+use ebr_base::{Bytes, List, NoMemory};
 use ebr_outside::{Fail, MemFile};
 use ebr_server::ExitCode;
 use std::alloc::Global;
@@ -54,6 +54,14 @@ pub fn rehearsed_on(
     fail: Option<Fail>,
 ) -> Result<MemOutcome, NoMemory> {
     rehearsed_over(alloc, bytes, b"", &[script], fail)
+}
+
+/// The bytes of the disk that is handed back.
+pub fn bytes_of(alloc: Global, outcome: &MemOutcome) -> Result<Bytes, NoMemory> {
+    match &outcome.disk {
+        Some(disk) => Bytes::from_slice(alloc, disk.bytes()),
+        None => Ok(Bytes::new(alloc)),
+    }
 }
 
 /// Whether the disk that is handed back has these bytes.

@@ -1,10 +1,10 @@
 //! Rehearses scripts over a host in memory, byte for byte.
 
-use crate::trial::{MemOutcome, list_of, release, words_of};
+use crate::trial::{MemOutcome, alone, list_of, release, words_of};
 use ebr_base::{Bytes, List, NoMemory};
-use ebr_outside::{Fail, MemFile, MemHost, MemSink};
+use ebr_outside::{Fail, MemFile, MemHost, MemSink, OpenGate};
 use ebr_report::SessionEnd;
-use ebr_server::{ExitCode, serve};
+use ebr_server::ExitCode;
 use std::alloc::Global;
 
 /// The words of a rehearsal of 33 scripts, one more than there may be.
@@ -83,7 +83,7 @@ pub fn failing_sink(alloc: Global, word: &[u8], fail: Fail) -> Result<MemFile, N
     Ok(made)
 }
 
-/// `serve` with these words over these files. The writes of the report that `report` names fail, and of the host's own calls those
+/// `serve_alone` with these words over these files. The writes of the report that `report` names fail, and of the host's own calls those
 /// that `host` names.
 pub fn rehearsed(
     alloc: Global,
@@ -95,10 +95,10 @@ pub fn rehearsed(
     let owned = words_of(alloc, words)?;
     let report = list_of(alloc, report)?;
     let host = list_of(alloc, host)?;
-    let mut host = MemHost::new(alloc, files, report, host);
-    let outcome = serve(alloc, owned.as_slice(), &mut host);
+    let mut host = MemHost::new(alloc, files, report, host, OpenGate);
+    let outcome = alone(alloc, owned.as_slice(), &mut host);
     release(host);
-    Ok(outcome)
+    outcome
 }
 
 /// What follows the bytes of a sink and the `~` behind them, where these replies begin so.

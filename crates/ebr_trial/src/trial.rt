@@ -1,8 +1,9 @@
 //! Runs a script over a host in memory, byte for byte.
 
 use ebr_base::{Bytes, List, NoMemory};
-use ebr_outside::{Fail, MemDisk, MemFile, MemHost, MemSink, MemSource};
-use ebr_server::{ExitCode, Outcome, serve};
+use ebr_outside::{Fail, MemDisk, MemFile, MemHost, MemSink, MemSource, OpenGate};
+use ebr_server::{ExitCode, Outcome, serve_alone};
+use ebr_words::{Command, command_of};
 use std::alloc::Global;
 
 pub type MemOutcome = Outcome<MemSource, MemSink, MemSink, MemDisk>;
@@ -51,7 +52,7 @@ fn host_of(alloc: Global, script: &[u8], faults: Faults) -> Result<MemHost, NoMe
     files.push(file_of(alloc, script, list_of(alloc, faults.source)?)?)?;
     let report = list_of(alloc, faults.report)?;
     let host = list_of(alloc, faults.host)?;
-    Ok(MemHost::new(alloc, files, report, host))
+    Ok(MemHost::new(alloc, files, report, host, OpenGate))
 }
 
 /// Words of their own.
@@ -66,7 +67,15 @@ pub fn words_of(alloc: Global, words: &[&[u8]]) -> Result<List<Bytes>, NoMemory>
 /// Drops a value. It is generic so that for its caller the drop is one call.
 pub fn release<T: Drop>(_value: T) {}
 
-/// `serve` with these words, where `s.sql` has these bytes.
+/// `serve_alone` with these words. Those of `run`, which it doesn't serve, come to nothing.
+pub fn alone(alloc: Global, words: &[Bytes], host: &mut MemHost) -> Result<MemOutcome, NoMemory> {
+    match command_of(words) {
+        Some(Command::Run) => Err(NoMemory),
+        _ => Ok(serve_alone(alloc, words, host)),
+    }
+}
+
+/// `serve_alone` with these words, where `s.sql` has these bytes.
 pub fn served(
     alloc: Global,
     words: &[&[u8]],
@@ -75,9 +84,9 @@ pub fn served(
 ) -> Result<MemOutcome, NoMemory> {
     let owned = words_of(alloc, words)?;
     let mut host = host_of(alloc, script, faults)?;
-    let outcome = serve(alloc, owned.as_slice(), &mut host);
+    let outcome = alone(alloc, owned.as_slice(), &mut host);
     release(host);
-    Ok(outcome)
+    outcome
 }
 
 /// Whether a run ended with this code and this report.

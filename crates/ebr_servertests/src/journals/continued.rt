@@ -2,17 +2,9 @@
 
 use ebr_base::{Bytes, NoMemory};
 use ebr_server::ExitCode;
-use ebr_trial::{MemOutcome, came_to, dumps, rehearsed_on, rehearsed_over, release};
+use ebr_trial::{bytes_of, came_to, dumps, rehearsed_on, rehearsed_over, release};
 use std::alloc::Global;
 use std::test::Fail;
-
-/// The bytes that a run left.
-pub fn bytes_of(alloc: Global, outcome: &MemOutcome) -> Result<Bytes, NoMemory> {
-    match &outcome.disk {
-        Some(disk) => Bytes::from_slice(alloc, disk.bytes()),
-        None => Ok(Bytes::new(alloc)),
-    }
-}
 
 /// The bytes that a run of a script over a journal with these bytes leaves.
 pub fn bytes_behind(alloc: Global, bytes: &[u8], script: &[u8]) -> Result<Bytes, NoMemory> {
