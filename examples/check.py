@@ -75,7 +75,7 @@ def check_scripts(page, scripts, cases):
         if word != "sql":
             continue
         replies = shown[at + 1][1] if page.endswith("PROFILE.md") else ""
-        held = [it for it in cases if script in it.get("script", "") and replies in it.get("replies", "")]
+        held = [it for it in cases if any(script in text for text in it.values()) and replies in it.get("replies", "")]
         if not held and (replies or not any(script in it for it in scripts)):
             wrong.append(f"{page}: no example and no case has this script with its replies:\n{script}")
 
