@@ -2,8 +2,8 @@
 """Tries `run` of the program, where `rt ci` has built it, over journals that are files, and measures it.
 
 Words: what is to be done, each with how often behind it, where that is said: `usage`, `sinks`, `rows`, `fights` (200 times), `kills` (50
-times), `measure` (the least of 3 runs), `held` (once; it wants perf and strace); where there are none, all of it but the last two. It
-works in a folder of TMPDIR. What differs is told, and the status is 1.
+times), `measure` (the least of 3 runs), `held` (once; it wants perf, and the right to set probes); where there are none, all of it but the
+last two. It works in a folder of TMPDIR. What differs is told, and the status is 1.
 """
 import os
 import random
@@ -247,37 +247,56 @@ def measure(times):
             print(f"| {sessions} | " + " | ".join(cells) + " |", flush=True)
 
 
-def sampled(words):
-    """The share of the time in which a thread was inside the engine's answer, on a processor: of samples of all stacks, a thousand a second."""
-    record = ["perf", "record", "-q", "-F", "1000", "-e", "cpu-clock", "-g", "-o", "samples"]
-    subprocess.run([*record, PROGRAM, *words], stdout=subprocess.DEVNULL, check=True)
-    script = subprocess.run(["perf", "script", "-i", "samples", "-F", "time,ip,sym"], stdout=subprocess.PIPE, stderr=subprocess.DEVNULL, check=True)
-    stacks = [it for it in script.stdout.decode().split("\n\n") if it.strip()]
-    moments = [float(it.split()[0].rstrip(":")) for it in stacks]
-    return sum("engine::answer" in it for it in stacks) / 1000 / (max(moments) - min(moments))
+# The function that has the engine answer, which a thread is inside of just while it holds the turn.
+ANSWER = "ebr_worker::engine::answer::"
+PROBES = "/sys/kernel/tracing/uprobe_events"
 
 
-def synced(words):
-    """The share of the time in which a thread waited for a sync of the journal, which is inside the engine's answer too."""
-    began = time.perf_counter()
-    trace = ["strace", "-f", "-qq", "--seccomp-bpf", "-c", "-w", "-U", "time-total,name", "-e", "trace=fsync,fdatasync", "-o", "syncs"]
-    subprocess.run([*trace, PROGRAM, *words], stdout=subprocess.DEVNULL, check=True)
-    total = sum(float(it.split()[0]) for it in read("syncs").splitlines() if it.endswith("sync"))
-    return total / (time.perf_counter() - began)
+def told(*words):
+    return subprocess.run(words, stdout=subprocess.PIPE, stderr=subprocess.DEVNULL, check=True).stdout.decode()
+
+
+def place_in_file(name):
+    """Where a function begins in the program's file."""
+    (address,) = [int(line.split()[0], 16) for line in told("nm", PROGRAM).splitlines() if name in line]
+    for line in told("readelf", "-lW", PROGRAM).splitlines():
+        if line.split()[:1] == ["LOAD"]:
+            offset, start, _, size = (int(it, 16) for it in line.split()[1:5])
+            if start <= address < start + size:
+                return address - start + offset
+    sys.exit(f"{name} is in no part of the program that is loaded")
+
+
+def share_of_answers(words):
+    """The share of the time in which a thread was inside the engine's answer, by the moments at which each one enters and leaves it."""
+    subprocess.run(["perf", "record", "-q", "-m", "4096", "-e", "ebrd:asked", "-e", "ebrd:answered", "-o", "moments", PROGRAM, *words], stdout=subprocess.DEVNULL, check=True)
+    entered, moments, inside = {}, [], 0
+    for line in told("perf", "script", "-i", "moments", "-F", "tid,time,event").splitlines():
+        thread, moment, event = (it.rstrip(":") for it in line.split()[:3])
+        moments.append(float(moment))
+        if event == "ebrd:asked":
+            entered[thread] = float(moment)
+        elif thread in entered:
+            inside += float(moment) - entered.pop(thread)
+    return inside / (moments[-1] - moments[0])
 
 
 def held(_times):
-    """The share of the time in which the turn is held: inside the engine's answer, on a processor or waiting for the disk."""
+    """The share of the time in which the turn is held. Each answer costs two probes more, some microseconds."""
+    if subprocess.run(["mountpoint", "-q", os.path.dirname(PROBES)]).returncode:
+        subprocess.run(["mount", "-t", "tracefs", "none", os.path.dirname(PROBES)], check=True)
+    at = f"{PROGRAM}:{place_in_file(ANSWER):#x}"
+    write(PROBES, f"p:ebrd/asked {at}\nr:ebrd/answered {at}\n")
     make_tables()
-    print("\n| Sessions | " + " | ".join(f"{name}: on a processor | waiting for the disk" for name, _, _ in KINDS) + " |\n|---" + "|---" * 2 * len(KINDS) + "|")
+    print("\n| Sessions | " + " | ".join(name for name, _, _ in KINDS) + " |\n|---" + "|---" * len(KINDS) + "|")
     for sessions in SESSIONS:
         cells = []
         for _, make, count in KINDS:
-            words = ["run", "j", *write_scripts(make(count, sessions))]
-            for share in (sampled, synced):
-                shutil.copy("made", "j")
-                cells.append(f"{share(words):.0%}")
+            words = write_scripts(make(max(count, 4000), sessions))
+            shutil.copy("made", "j")
+            cells.append(f"{share_of_answers(['run', 'j', *words]):.0%}")
         print(f"| {sessions} | " + " | ".join(cells) + " |", flush=True)
+    write(PROBES, "")
 
 
 CHECKS = {"usage": check_usage, "sinks": check_sinks, "rows": check_rows, "fights": check_fights, "kills": check_kills, "measure": measure, "held": held}
