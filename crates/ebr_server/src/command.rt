@@ -8,12 +8,13 @@ ghost use Rattle.ebr_words.specs.declared.words.Command.TheVariants.{Dump, Rehea
 ghost use Rattle.ebr_startup.specs.Damage.{IsDamagedAt};
 ghost use Rattle.ebr_worker.specs.Runs.{IsUnwritten};
 ghost use Rattle.ebr_server.specs.Handed.{handed};
-ghost use Rattle.ebr_server.specs.Program.{AllEnded, AllRight, CallsInOrder, DiskFails, IsComplete, IsHostFault, IsLegal, IsLong, IsSinkStop, LineFailed, Opens, OpensJournal, OrderWrong, Reads, Reported, Served, SinkFailed, SinkFails, StopsBad, StopsBy, StopsDamaged, journal_place, last_line, order_of_work, order_place, outside, own_fault, sessions_of, told_at};
+ghost use Rattle.ebr_server.specs.Program.{AllEnded, AllRight, CallsInOrder, DiskFails, EndsTold, IsComplete, IsHostFault, IsLegal, IsLong, IsSinkStop, LineFailed, Opens, OpensJournal, OrderWrong, Reads, Reported, Served, SinkFailed, SinkFails, StopsBad, StopsBy, StopsDamaged, journal_place, last_line, order_of_work, order_place, outside, own_fault, sessions_of, told_at};
 ghost use Rattle.ebr_server.specs.inside.Opened.{ScriptServed};
 
 use crate::exit::ExitCode;
 use crate::journal::lines;
 use crate::opened::{Halt, Stop, open_disk, read_word, without_disk, without_source};
+use crate::over::Ended;
 use crate::read::MAX_SCRIPT;
 use crate::rehearsal::rehearsed;
 use crate::report::{tell_ends, tell_lines, tell_replies, write_last_line};
@@ -177,6 +178,35 @@ fn try_script<H: Host>(
     }
 }
 
+/// What sessions over a journal came to, as the report tells it.
+fn outcome_of<C: Drop, S: Drop, R: Sink, D: Drop>(
+    words: &[Bytes],
+    ended: Ended<S, D>,
+    report: R,
+) -> Outcome<C, S, R, D>
+    requires empty { IsUnwritten R.held R.faults report }
+    ensures source { result.source ≡ None }
+    ensures is { handed R.faults R.held result ≡ record { code = result.code; recovered = ended.recovered; history = ended.history; ends = ended.ends; disk = Some ended.disk; faults = R.faults result.report; held = R.held result.report } }
+    ensures told { EndsTold words.now ended.history result.code ended.ends (R.faults result.report) (R.held result.report) }
+{
+    let mut report = report;
+    let code = tell_ends(
+        &mut report,
+        words,
+        ended.history.as_slice(),
+        ended.ends.as_slice(),
+    );
+    Outcome {
+        code,
+        source: None,
+        report,
+        ends: ended.ends,
+        recovered: ended.recovered,
+        history: ended.history,
+        disk: Some(ended.disk),
+    }
+}
+
 /// Does `rehearse`.
 fn rehearse<H: Host>(
     alloc: Global,
@@ -192,24 +222,7 @@ fn rehearse<H: Host>(
     ensures called { CallsInOrder (H.calls host.old) (H.calls host.new) (order_of_work (Some Rehearse) words.now) (own_fault result.code result.source) }
 {
     match rehearsed(alloc, words, host) {
-        Ok(ended) => {
-            let mut report = report;
-            let code = tell_ends(
-                &mut report,
-                words,
-                ended.history.as_slice(),
-                ended.ends.as_slice(),
-            );
-            Outcome {
-                code,
-                source: None,
-                report,
-                ends: ended.ends,
-                recovered: ended.recovered,
-                history: ended.history,
-                disk: Some(ended.disk),
-            }
-        }
+        Ok(ended) => outcome_of(words, ended, report),
         Err(stop) => stopped(alloc, words, stop, report),
     }
 }
@@ -230,24 +243,7 @@ fn run_scripts<H: Host, R: Threads + Wait + Sync>(
     ensures called { CallsInOrder (H.calls host.old) (H.calls host.new) (order_of_work (Some Run) words.now) (own_fault result.code result.source) }
 {
     match ran_in_threads(rt, alloc, words, host) {
-        Ok(ended) => {
-            let mut report = report;
-            let code = tell_ends(
-                &mut report,
-                words,
-                ended.history.as_slice(),
-                ended.ends.as_slice(),
-            );
-            Outcome {
-                code,
-                source: None,
-                report,
-                ends: ended.ends,
-                recovered: ended.recovered,
-                history: ended.history,
-                disk: Some(ended.disk),
-            }
-        }
+        Ok(ended) => outcome_of(words, ended, report),
         Err(stop) => stopped(alloc, words, stop, report),
     }
 }
