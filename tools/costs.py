@@ -1,5 +1,5 @@
 #!/usr/bin/env python3
-"""costs.py RUN [FILE]: measures a run of `rt ci` while it is at work, and writes what each crate cost.
+"""costs.py RUN [FILE] [--add]: measures a run of `rt ci` while it is at work, and writes what each crate cost.
 
 RUN is the folder in which the run was started, or the number of its process. FILE is docs/COSTS.md where none is named; what
 stands there between two marks is replaced. Start the run, then this beside it: it looks at the run's processes every five seconds
@@ -7,7 +7,7 @@ stands there between two marks is replaced. Start the run, then this beside it: 
 belongs to a crate and to its proof, its tests or its edits by its command line and its folder; the run of a program or of tests is
 among the tests. Where one process ended between two looks, the times of the run's ended processes tell its whole time to the
 hundredth of a second; where several did, what is left over is shared among them. What the run didn't do itself, since an earlier
-run had done it, has no figure.
+run had done it, has no figure, or with --add the one that FILE has.
 """
 import collections
 import os
@@ -66,9 +66,11 @@ def folder_of(number):
 
 
 def find(run):
-    """The number of the run's process. A run that was told names works in a copy, so of these there may be only one."""
+    """The number of the run's process. A run that was told names works in a copy, and is told by its crates.txt."""
     if run.isdigit():
         return int(run)
+    if not os.path.isfile(f"{run}/crates.txt"):
+        sys.exit(f"costs.py: {run} has no crates.txt: name the folder in which rt ci was started")
     here, copies = [], []
     for number in look():
         words = words_of(number)
@@ -77,7 +79,7 @@ def find(run):
             folder = folder_of(number)
             if folder == os.path.realpath(run):
                 here.append(number)
-            elif os.path.basename(os.path.dirname(folder)).startswith(f"rt-copy-{number}-"):
+            elif f"/rt-copy-{number}-" in folder and text_of(f"{folder}/crates.txt") == text_of(f"{run}/crates.txt"):
                 copies.append(number)
     found = here or copies
     if len(found) != 1:
@@ -189,14 +191,24 @@ def row(name, cells):
     return " ".join(["|", f"`{name}`", "|", *(f"{it} |" if it else "|" for it in cells)])
 
 
-def chain(below, cost):
-    """The line on the longest chain, given what each crate's proof costs."""
+def chain(below, cells):
+    """The line on the longest chain, given the cells of each crate."""
+    cost = lambda it: int((re.findall(r"\d+", cells[it][0]) or [0])[0])
     seconds, names = longest(below, cost)
-    return f"The longest chain of proofs takes {seconds:.0f} s of these: " + ", ".join(f"`{it}`" for it in names)
+    return f"The longest chain of proofs takes {seconds} s of these: " + ", ".join(f"`{it}`" for it in names) + "."
 
 
-def page(measured):
-    """The lines that stand in FILE between the marks."""
+def figures(file):
+    """The cells of the rows that the file has, by their crates."""
+    try:
+        rows = re.findall(r"^\| `(\w+)` \|(.*)\|$", text_of(file), re.M)
+    except FileNotFoundError:
+        rows = []
+    return {name: [it.strip() for it in cells.split("|")] for name, cells in rows}
+
+
+def page(measured, earlier):
+    """The lines that stand in FILE between the marks. The cells that the run doesn't fill are those of earlier ones."""
     below, seconds = crates(), measured.so_far()
     proof = lambda it: seconds[it, "proof"]
     sums = {kind: sum(value for task, value in seconds.items() if task and task[1] == kind) for kind in KINDS}
@@ -206,16 +218,17 @@ def page(measured):
              f"{sum(sums.values()) / 60:.0f} processor minutes, {sums['proof'] / 60:.0f} of proofs, {sums['tests'] / 60:.0f} of tests, "
              f"{sums['edits'] / 60:.0f} of edits; `rt` itself took {measured.own / 60:.0f} more."]
     if len(seen) < len(below):
-        lines[0] += f" {len(below) - len(seen)} of {len(below)} crates weren't proved while it was measured, and have no figure: an earlier run had proved them."
+        lines[0] += f" {len(below) - len(seen)} of {len(below)} crates weren't proved while it was measured"
+        lines[0] += ": what figures they have are of earlier runs, which may be of other machines." if earlier else ", and have no figure."
     if measured.missed + seconds[None] > 60:
         lines[0] += f" {(measured.missed + seconds[None]) / 60:.0f} minutes of what had ended before the first look are in no row."
-    _, names = longest(below, proof)
-    clock = sum(last - first for first, last in (measured.clock[it, "proof"] for it in names if (it, "proof") in measured.clock))
-    lines += ["", f"{chain(below, proof)}; by the clock these proofs took {clock:.0f} s.", ""]
-    lines += ["| Crate | Proof | Tests | Edits |", "|---|---|---|---|"]
+    cells = {}
     for it in below:
         edits = rounded(seconds[it, "edits"]) + (f" ({measured.edits[it]})" if measured.edits[it] else "")
-        lines += [row(it, [rounded(proof(it)), rounded(seconds[it, "tests"]), edits])]
+        new = [rounded(proof(it)), rounded(seconds[it, "tests"]), edits]
+        cells[it] = [here or before for here, before in zip(new, earlier.get(it, [""] * 3))]
+    lines += ["", chain(below, cells), "", "| Crate | Proof | Tests | Edits |", "|---|---|---|---|"]
+    lines += [row(it, cells[it]) for it in below]
     lines += ["", "Beside the seconds of edits stands how many were tried; the checks of the crate as it is, with which they begin and end, are in the seconds."]
     return lines
 
@@ -233,17 +246,19 @@ def put(file, lines):
 
 
 def main():
-    if len(sys.argv) not in (2, 3) or sys.argv[1].startswith("-"):
+    words = [it for it in sys.argv[1:] if it != "--add"]
+    if len(words) not in (1, 2) or any(it.startswith("-") for it in words):
         sys.exit(__doc__)
-    measured = Measured(find(sys.argv[1]))
-    file = sys.argv[2] if len(sys.argv) > 2 else f"{TOP}/docs/COSTS.md"
+    file = words[1] if len(words) > 1 else f"{TOP}/docs/COSTS.md"
+    earlier = figures(file) if "--add" in sys.argv else {}
+    measured = Measured(find(words[0]))
 
     def stop(*_):
         raise KeyboardInterrupt
 
     signal.signal(signal.SIGTERM, stop)
     def write():
-        put(file, page(measured))
+        put(file, page(measured, earlier))
 
     looks = 0
     try:
