@@ -200,10 +200,7 @@ def chain(below, cells):
 
 def figures(file):
     """The cells of the rows that the file has, by their crates."""
-    try:
-        rows = re.findall(r"^\| `(\w+)` \|(.*)\|$", text_of(file), re.M)
-    except FileNotFoundError:
-        rows = []
+    rows = re.findall(r"^\| `(\w+)` \|(.*)\|$", text_of(file), re.M) if os.path.exists(file) else []
     return {name: [it.strip() for it in cells.split("|")] for name, cells in rows}
 
 
@@ -234,15 +231,11 @@ def page(measured, earlier):
 
 
 def put(file, lines):
-    """Writes the lines into the file, in place of those between the marks, or by themselves where it has none."""
-    try:
-        text = text_of(file)
-    except FileNotFoundError:
-        text = ""
-    before, found, rest = text.partition(FIRST)
-    after = rest.partition(LAST)[2] if found else ""
+    """Writes the lines into the file, in place of those between the marks."""
+    before, _, rest = (text_of(file) if os.path.exists(file) else "").partition(FIRST)
+    after = rest.partition(LAST)[2] or "\n"
     with open(file, "w", encoding="utf-8") as out:
-        out.write(f"{before if found else ''}{FIRST}\n" + "\n".join(lines) + f"\n{LAST}{after or chr(10)}")
+        out.write(f"{before}{FIRST}\n" + "\n".join(lines) + f"\n{LAST}{after}")
 
 
 def main():
@@ -250,15 +243,21 @@ def main():
     if len(words) not in (1, 2) or any(it.startswith("-") for it in words):
         sys.exit(__doc__)
     file = words[1] if len(words) > 1 else f"{TOP}/docs/COSTS.md"
+    if os.path.exists(file) and FIRST not in text_of(file):
+        sys.exit(f"costs.py: {file} is there and has no marks")
     earlier = figures(file) if "--add" in sys.argv else {}
-    measured = Measured(find(words[0]))
+    try:
+        measured = Measured(find(words[0]))
+    except OSError:
+        sys.exit(f"costs.py: there is no process {words[0]}")
 
     def stop(*_):
         raise KeyboardInterrupt
 
-    signal.signal(signal.SIGTERM, stop)
     def write():
         put(file, page(measured, earlier))
+
+    signal.signal(signal.SIGTERM, stop)
 
     looks = 0
     try:
