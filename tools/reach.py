@@ -111,7 +111,7 @@ class Reach:
         own, imported = self.parse(file)
         for whole in NAME.findall(text):
             head, _, rest = whole.partition(".")
-            for word in {whole, head}:
+            for word in dict.fromkeys((whole, head)):
                 if word in imported:
                     crate, path, name = imported[word]
                     self.reach(crate, path, name or rest.split(".")[0], by)
@@ -129,7 +129,7 @@ class Reach:
         """Notes the types that a declaration names."""
         uses = re.findall(r"(?<!ghost )\buse (ebr_\w+|crate)::([^;]+);", self.texts[file])
         imported = {word: crate for crate, names in uses for word in re.findall(r"\w+", names)}
-        for name in {*re.findall(r"\b[A-Z]\w+", block)}:
+        for name in sorted({*re.findall(r"\b[A-Z]\w+", block)}):
             crate = imported.get(name, "crate").replace("crate", file.split("/")[0])
             declares = re.compile(rf"^ *pub(?:\(crate\))? (?:struct|enum|trait) {name}\b", re.M)
             files = [file, *(it for it in self.texts if name in imported and it.startswith(f"{crate}/src/"))]
