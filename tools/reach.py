@@ -172,7 +172,7 @@ def check(lines):
     wrong = [] if told in page else [f"docs/DEFINITIONS.md doesn't tell the totals: {told}"]
     for file in sorted({file for file, _ in lines if file.endswith(".antt")}):
         crate, _, name = file.partition("/specs/")
-        section = re.search(rf"^#+ .*`{crate}`.*?(?=^#|\Z)", page, re.M | re.S)
+        section = re.search(rf"^#[^\n]*`{crate}`.*?(?=^#|\Z)", page, re.M | re.S)
         if not section or f"`{name.removesuffix('.antt')}`" not in section[0]:
             wrong.append(f"docs/DEFINITIONS.md has no {file}")
     print("\n".join(wrong or [told]))
