@@ -73,12 +73,13 @@ def table(of):
 
 
 def tell_families(page, of):
-    """Prints what the list of families lacks, and what it has too much."""
+    """Prints what the list of families lacks, and what it has too much. Crates of tests have none."""
     named = re.findall(r"`(\w+)`", "".join(re.findall(r"^\| [A-Z].*?\|(.*)\|$", page.partition(BEGIN)[0], re.M)))
     full = {it if it in of else f"ebr_{it}" for it in named}
-    for crate in [*(it for it in of if it not in full), *sorted(full - {*of})]:
-        print(f"the families of docs/DESIGN.md: {crate} is {'left out' if crate in of else 'no crate'}")
-    return full == {*of}
+    product = {it for it in of if not TESTS.fullmatch(it)}
+    for crate in sorted(full ^ product):
+        print(f"the families of docs/DESIGN.md: {crate} is {'left out' if crate in product else 'no crate of the product'}")
+    return full == product
 
 
 def main():
