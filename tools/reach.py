@@ -4,7 +4,8 @@
     tools/reach.py            prints the totals, and those of each crate
     tools/reach.py --files    prints besides what is reached in each file
     tools/reach.py --why NAME tells, for each definition or type of that name, what it is reached through
-    tools/reach.py --check    the status is 1 where docs/DEFINITIONS.md tells other totals, or leaves a file out
+    tools/reach.py --check    the status is 1 where docs/DEFINITIONS.md tells other totals, leaves a file out, or has one before another
+                              that it uses
 
 It begins with the clauses of `serve` in ebr_server/src/command.rt and the traits of the outside, on which they are said, and follows
 each name in a clause or a definition through the `use` lines of its file. Of a definition lines count that are no comment, of a type
@@ -41,6 +42,7 @@ class Reach:
         self.texts = sources()
         self.parsed = {}
         self.through = {}  # what is reached, a file and a name, with what it is reached through
+        self.uses = set()  # pairs of files, of which the first names something of the second
         self.ahead = collections.deque()
         self.lines = collections.Counter()  # how many lines of each definition or type
 
@@ -102,6 +104,8 @@ class Reach:
         return next(same, None) or next(having, None)
 
     def note(self, file, name, by):
+        if name:
+            self.uses.add((by.split()[0], file))
         if name and (file, name) not in self.through:
             self.through[file, name] = by
             self.ahead.append((file, name))
@@ -164,18 +168,33 @@ def totals(lines):
     return len(defined), sum(defined.values()), of_types, len({file for file, _ in defined})
 
 
-def check(lines):
+def places(page):
+    """Returns the files that the page lists, each with its place in the order."""
+    found, crates = {}, []
+    for line in page.partition("\n## Behind other promises")[0].splitlines():
+        if line.startswith("#"):
+            crates = re.findall(r"`(ebr_\w+)`", line)
+        for name in re.findall(r"`([^`]+)`", line.partition(": ")[0]) if line.startswith("- ") else ():
+            for file in (f"{crate}/specs/{name}.antt" for crate in crates):
+                if os.path.exists(f"{TOP}/crates/{file}"):
+                    found.setdefault(file, len(found))
+    return found
+
+
+def check(reach):
     """Compares the page with what is reached, and prints what differs."""
     with open(PAGE, encoding="utf-8") as file:
         page = file.read()
-    told = "{:,} definitions in {:,} lines of {} files, and {:,} lines of types".format(*(totals(lines)[it] for it in (0, 1, 3, 2)))
-    wrong = [] if told in page else [f"docs/DEFINITIONS.md doesn't tell the totals: {told}"]
-    for file in sorted({file for file, _ in lines if file.endswith(".antt")}):
-        crate, _, name = file.partition("/specs/")
-        section = re.search(rf"^#[^\n]*`{crate}`.*?(?=^#|\Z)", page, re.M | re.S)
-        if not section or f"`{name.removesuffix('.antt')}`" not in section[0]:
-            wrong.append(f"docs/DEFINITIONS.md has no {file}")
-    print("\n".join(wrong or [told]))
+    told = "{:,} definitions in {:,} lines of {} files, and {:,} lines of types".format(*(totals(reach.lines)[it] for it in (0, 1, 3, 2)))
+    place = places(page)
+    files = {file for file, _ in reach.lines if file.endswith(".antt")}
+    wrong = [] if told in page else [f"doesn't tell the totals: {told}"]
+    wrong += [f"leaves out {it}" for it in sorted(files - {*place})]
+    turned = (it for it in sorted(reach.uses) if place.get(it[0], len(place)) < place.get(it[1], 0))
+    wrong += [f"has {first} before {second}, which it uses" for first, second in turned]
+    for it in wrong:
+        print(f"docs/DEFINITIONS.md {it}")
+    print(told)
     return 1 if wrong else 0
 
 
@@ -183,7 +202,7 @@ def main():
     reach = Reach()
     reach.run("ebr_server/src/command.rt", "serve")
     if "--check" in sys.argv:
-        return check(reach.lines)
+        return check(reach)
     if "--why" in sys.argv:
         for (file, name), by in sorted(reach.through.items()):
             if name == sys.argv[-1]:
