@@ -1,7 +1,7 @@
 #!/usr/bin/env python3
 """Checks what the manual shows, where `rt ci` has passed: the program is built, and the cases of ebr_cases came out as written.
 
-The commands of README.md, docs/TOUR.md and examples/README.md print what stands behind them. Each script that these and
+The commands of README.md, docs/TOUR.md, docs/OPERATING.md and examples/README.md print what stands behind them. Each script that these and
 docs/PROFILE.md show stands in an example or in a case, in PROFILE with the replies beneath it. PROFILE's examples of functions and
 its table of codes are those of the cases, and the table has each code that the sources name. The cases that hold an example hold it
 word for word. What differs is told, and the status is 1.
@@ -138,7 +138,7 @@ def main():
     with tempfile.TemporaryDirectory() as folder:
         os.symlink(f"{TOP}/ebrd", f"{folder}/ebrd")
         shutil.copytree(f"{TOP}/examples", f"{folder}/examples")
-        for page in ("README.md", "docs/TOUR.md", "examples/README.md"):
+        for page in ("README.md", "docs/TOUR.md", "docs/OPERATING.md", "examples/README.md"):
             count += run_commands(page, folder)
             check_scripts(page, scripts, cases)
     check_scripts("docs/PROFILE.md", scripts, cases)

@@ -81,7 +81,7 @@ def wait_for_program(rt, words):
             return program
         if time.monotonic() >= told + PAUSE:
             told += PAUSE
-            tell(f"compiling for {int(told - began)} seconds, of some 180 to 420")
+            tell(f"compiling for {int(told - began)} seconds; it takes 180 to 420 where little else is at work")
         time.sleep(0.5)
     return None
 

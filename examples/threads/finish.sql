@@ -1,4 +1,5 @@
--- The next run begins in the second version. What the tills sold before it had its trigger gets its euros and cents.
+-- Behind the tills: what they sold before the new version had its trigger gets its euros and cents.
+ALTER SESSION SET EDITION = v2;
 APPLY TRIGGER sale_f;
 COMMIT;
 SELECT COUNT(*), SUM(eur * 100 + ct) FROM sale;
