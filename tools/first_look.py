@@ -142,7 +142,7 @@ def main():
         program = f"{KEPT}/{sources}"
         if not os.path.exists(program):
             make(program, sources)
-        tell("a first look: unproved, checked as it runs, some fifty times slower; `rt ci` proves everything and builds the program")
+        tell("a first look: unproved, checked as it runs, some hundreds of times slower; `rt ci` proves everything and builds the program")
         # (Python ignores these; the program need not)
         for it in (signal.SIGPIPE, signal.SIGXFSZ):
             signal.signal(it, signal.SIG_DFL)
