@@ -23,14 +23,13 @@ CRATE = f"{TOP}/crates/ebrd"
 KEPT = f"{CRATE}/first-look"
 # Seconds between two lines that tell how far it is.
 PAUSE = 30
-
-
-# What prctl has to be told for a signal to come when the parent ends (Linux, as `rt try`).
+# Of prctl, which Linux has, and `rt try` runs on no other system.
 PR_SET_PDEATHSIG = 1
 LIBC = ctypes.CDLL(None)
 
 
 def end_with_parent():
+    """Has a signal sent to this process when the one that started it ends, in whatever way."""
     LIBC.prctl(PR_SET_PDEATHSIG, signal.SIGTERM)
 
 
@@ -127,10 +126,10 @@ def make(program, sources):
         if sum_of_sources() != sources:
             os.remove(f"{KEPT}/new")
             fail("the sources were changed while they were compiled: call it again")
-        for name in os.listdir(KEPT):
-            if name not in ("lock", "new"):
-                os.remove(f"{KEPT}/{name}")
         os.rename(f"{KEPT}/new", program)
+        for name in os.listdir(KEPT):
+            if name not in ("lock", os.path.basename(program)):
+                os.remove(f"{KEPT}/{name}")
 
 
 def main():
