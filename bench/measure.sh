@@ -1,6 +1,6 @@
 #!/bin/sh
-# Makes the tables "Measured" of docs/PROFILE.md: for each kind of script and each size the processor time, the least of some
-# runs, and the memory that `ebrd` takes; and, where valgrind is there, instructions. Run it by hand, as `bench/measure.sh` at the
+# Makes the figures of scripts, code and rows of bench/RESULTS.md: for each kind of script and each size the processor time, the least of
+# some runs, and the memory that `ebrd` takes; and, where valgrind is there, instructions. Run it by hand, as `bench/measure.sh` at the
 # top of the repository; it wants GNU time and bash. Nothing here is a test.
 set -eu
 top=$(dirname -- "$(readlink -f -- "$0")")/..
