@@ -1,10 +1,12 @@
 #!/usr/bin/env python3
 """Checks what the manual shows, where `rt ci` has passed: the program is built, and the cases of ebr_cases came out as written.
 
-The commands of README.md, docs/TOUR.md, docs/OPERATING.md and examples/README.md print what stands behind them. Each script that these and
-docs/PROFILE.md show stands in an example or in a case, in PROFILE with the replies beneath it. PROFILE's examples of functions and
-its table of codes are those of the cases, and the table has each code that the sources name. The cases that hold an example hold it
-word for word. What differs is told, and the status is 1.
+The commands of README.md, docs/TOUR.md, docs/OPERATING.md and examples/README.md print what stands behind them. Each script
+that these and docs/PROFILE.md show stands in an example or in a case, in PROFILE with the replies beneath it. PROFILE's examples of functions are
+those of the cases, its tables of limits and codes have each code that the sources name, and each of these has a script in
+examples/cures, or one that is made here: it holds the smallest script that the cases have for the code, then the cure, and what goes
+with it, and its replies are those that stand in it. The cases that hold an example hold it word for word. What differs is told, and
+the status is 1.
 """
 import os
 import re
@@ -15,9 +17,13 @@ import tempfile
 
 TOP = os.path.dirname(os.path.dirname(os.path.realpath(__file__)))
 CASES = f"{TOP}/crates/ebr_cases/data"
+CURES = f"{TOP}/examples/cures"
+PROGRAM = f"{TOP}/ebrd"
 MARK = "@@ the next command @@"
 # Codes that no script is known to come to, and one that tests alone name.
 UNKNOWN = {"EBR-0000", "EBR-0001", "EBR-0015"}
+# A journal of 512 MiB is tried by hand.
+UNTRIED = {"EBR-0042"}
 wrong = []
 
 
@@ -94,26 +100,100 @@ def check_functions(page):
             same(f"{page}: {expression}", value, f"`{came}`" if came else "NULL")
 
 
+def written_cures():
+    """Returns the scripts of examples/cures by their names, each with its replies, which stand there behind `--> `."""
+    texts_of = {it[: -len(".sql")]: read(f"{CURES}/{it}") for it in sorted(os.listdir(CURES))}
+    return {name: (re.sub(r"^--> .*\n", "", text, flags=re.M), re.findall(r"^--> (.*)$", text, re.M)) for name, text in texts_of.items()}
+
+
+def made_cures():
+    """Returns scripts that are too long to be written down, by their codes, each with its last replies."""
+
+    def nested(depth, inside):
+        return "BEGIN " * depth + inside + " END;" * depth + "\n/\n"
+
+    def table(name, count):
+        columns = ", ".join(f"c{it} NUMBER" for it in range(count))
+        return f"CREATE TABLE {name} ({columns});\n"
+
+    long, word = "x" * 32768, "n" * 129
+    printed = "BEGIN DBMS_OUTPUT.PUT_LINE(LENGTH('{}') + LENGTH('{}')); END;\n/\n"
+    fill = "FOR i IN :NEW.c0 .. :NEW.c1 LOOP INSERT INTO v VALUES (i); END LOOP;"
+    filled = f"CREATE TRIGGER r AFTER INSERT ON u FOR EACH ROW BEGIN {fill} END;\n/\n"
+    parts = "INSERT INTO u VALUES (1, 100000);\nCOMMIT;\nINSERT INTO u VALUES (100001, 200000);\nCOMMIT;\n"
+    units = [f"CREATE PROCEDURE p{it} IS BEGIN NULL; END;\n/\n" for it in range(4097)]
+    editions = [f"CREATE EDITION e{it};\n" for it in range(256)]
+    tables = [table(f"t{it}", 1) for it in range(1001)]
+    return {
+        "EBR-0023": (f"SELECT 1 AS {word} FROM dual;\nSELECT 1 AS {word[1:]} FROM dual;\n", ["EBR-0023", "1", "1 rows"]),
+        "EBR-0024": (printed.format(long, "") + printed.format(long[1:], "x"), ["EBR-0024", "32768", "OK"]),
+        "EBR-0025": (nested(65, "NULL;") + "CREATE PROCEDURE p IS " + nested(40, "NULL;") + nested(40, "p();"), ["EBR-0025", "OK", "OK"]),
+        "EBR-0036": (table("u", 65) + table("u", 60) + table("v", 5), ["EBR-0036", "OK", "OK"]),
+        "EBR-0040": (table("u", 2) + table("v", 1) + filled + "INSERT INTO u VALUES (1, 200000);\n" + parts, ["EBR-0040", *["1 rows", "OK"] * 2]),
+        "EBR-0037": ("".join(tables) + "DROP TABLE t0;\n" + tables[-1], ["EBR-0037", "OK", "OK"]),
+        "EBR-0035": ("".join(editions) + "DROP EDITION e254;\n" + editions[-1], ["EBR-0035", "OK", "OK"]),
+        "EBR-0034": ("".join(units) + "DROP PROCEDURE p0;\n" + units[-1], ["EBR-0034", "OK", "OK"]),
+    }
+
+
+def dropped(script):
+    """Returns a script that drops what another one makes."""
+    made = re.findall(r"^CREATE (?:OR REPLACE )?(?:EDITIONING )?(EDITION|TABLE|VIEW|PROCEDURE|FUNCTION|PACKAGE|TRIGGER) (\w+)", script, re.M)
+    drops = [f"DROP {kind} {name}" + " CASCADE" * (kind == "EDITION") for kind, name in reversed(made)]
+    return ";\n".join(["ROLLBACK", "ALTER SESSION SET EDITION = ora$base", "ALTER DATABASE DEFAULT EDITION = ora$base", *drops, ""])
+
+
+def run_program(folder, words):
+    ran = subprocess.run([PROGRAM, *words], cwd=folder, stdin=subprocess.DEVNULL, stdout=subprocess.PIPE, stderr=subprocess.STDOUT)
+    return ran.stdout.decode(errors="replace")
+
+
+def run_cures(folder):
+    """Runs the cures: those of one session in one script, which drops behind each of them what it made; the others as sessions, one
+    behind the other, each of a code first and then that which goes on."""
+    written, made = written_cures(), made_cures()
+    sessions = sorted(it for it in written if it[:8] + "-2" in written)
+    cures = {**{it: written[it] for it in written if it not in sessions}, **made}
+    # (a text without an end takes what stands behind it along)
+    cures["EBR-0021"] = cures.pop("EBR-0021")
+    mark = f"BEGIN DBMS_OUTPUT.PUT_LINE('{MARK}'); END;\n/\n"
+    with open(f"{folder}/cures.sql", "w", encoding="utf-8") as file:
+        file.write("".join(script + mark + dropped(script) + mark for script, _ in cures.values()))
+    came = run_program(folder, ["try", "cures.sql"]).split(f"{MARK}\nOK\n")[::2]
+    for name in sessions:
+        with open(f"{folder}/{name}.sql", "w", encoding="utf-8") as file:
+            file.write(written[name][0])
+    run_program(folder, ["rehearse", "cures", "/dev/null", *(f"{it}.sql" for it in sessions)])
+    came += [read(f"{folder}/{it}.sql.out") for it in sessions]
+    names = [*cures, *sessions]
+    same("the number of cures that ran", len(names), len(came))
+    for name, replies in zip(names, came):
+        wanted = (cures.get(name) or written[name])[1]
+        last = len(wanted) if name in made or name in sessions else 0
+        same(f"examples/cures: {name}", wanted, replies.splitlines()[-last:])
+
+
 def check_codes(page):
-    """Compares the table of codes with the cases and with the sources."""
-    rows = re.findall(r"^\| `((?:ORA|EBR)-[^`]*)` \|(.*)\|$", read(f"{TOP}/{page}").replace("\\|", "\0"), re.M)
-    table = {code: cells.split("|")[1].replace("\0", "|").strip() for code, cells in rows if cells.count("|") == 2}
+    """Compares the tables of limits and codes with the cases, the cures and the sources."""
+    rows = re.findall(r"^\| `((?:ORA|EBR)-[^`]*)` \|(.*)\|$", read(f"{TOP}/{page}").replace("\\|", ""), re.M)
+    table = {code for code, cells in rows if cells.count("|") == 1}
+    scripts = {name[:9]: script for name, (script, _) in {**written_cures(), **made_cures()}.items() if not name.endswith("-2")}
     cases = cases_of("manual_codes.txt")
     setup = texts(read(f"{CASES}/manual_codes.txt").split("=== ")[0].rstrip("\n"))["script"]
-    for code, cell in table.items():
-        if cell.startswith("`"):
-            script = cases[code]["script"][len(setup) :] if code in cases else ""
-            same(f"{page}: {code}", cell, "`" + " ".join(it for it in script.splitlines() if it != "/") + "`")
     for code, case in cases.items():
         if code not in table or " to " not in code and case["replies"].split()[-1] != code:
-            wrong.append(f"manual_codes.txt: {code} isn't in the table, or isn't the last reply of its case")
+            wrong.append(f"manual_codes.txt: {code} isn't in the tables, or isn't the last reply of its case")
+        if case["script"][len(setup) :] not in scripts.get(code[:9], ""):
+            wrong.append(f"examples/cures: {code} hasn't the script of its case")
+    for code in sorted({it[:9] for it in table} - UNTRIED ^ {*scripts}):
+        wrong.append(f"{page}, examples/cures: {code} is in one of the two alone")
     named = set()
     for at, _, files in os.walk(f"{TOP}/crates"):
         if "/src" in at and not re.search("tests|ebr_cases|ebr_trial", at):
             for kind, number in re.findall(r"\b(Ora|Ebr)\((\d[\d_]*)\)", "".join(read(f"{at}/{it}") for it in files)):
                 named.add(f"ORA-{int(number):05}" if kind == "Ora" else f"EBR-{int(number):04}")
-    for code in sorted(named - {*table} - UNKNOWN):
-        wrong.append(f"{page}: the table has no {code}, which the sources name")
+    for code in sorted(named - table - UNKNOWN):
+        wrong.append(f"{page}: the tables have no {code}, which the sources name")
 
 
 def check_examples():
@@ -141,6 +221,7 @@ def main():
         for page in ("README.md", "docs/TOUR.md", "docs/OPERATING.md", "examples/README.md"):
             count += run_commands(page, folder)
             check_scripts(page, scripts, cases)
+        run_cures(folder)
     check_scripts("docs/PROFILE.md", scripts, cases)
     check_functions("docs/PROFILE.md")
     check_codes("docs/PROFILE.md")

@@ -1,0 +1,4 @@
+BEGIN DBMS_OUTPUT.PUT_LINE('one more'); END;
+/
+--> one more
+--> OK

@@ -1,0 +1,6 @@
+DECLARE x VARCHAR2(32767) := 'a'; BEGIN FOR i IN 1 .. 14 LOOP x := x || x; END LOOP; x := x || SUBSTR(x, 1, 16383); FOR i IN 1 .. 512 LOOP DBMS_OUTPUT.PUT_LINE(x); END LOOP; END;
+/
+--> OK
+BEGIN DBMS_OUTPUT.PUT_LINE('one more'); END;
+/
+--> EBR-0009

@@ -1,0 +1,2 @@
+ROLLBACK;
+--> OK

@@ -1,0 +1,10 @@
+CREATE TABLE u (a NUMBER);
+--> OK
+BEGIN FOR i IN 1 .. 101 LOOP INSERT INTO u VALUES (i); END LOOP; END;
+/
+--> OK
+SELECT COUNT(*) FROM u, u b, u c, u d;
+--> EBR-0013
+SELECT COUNT(*) FROM u, u b;
+--> 10201
+--> 1 rows

@@ -1,0 +1,4 @@
+CREATE EDITION ora$base;
+--> EBR-0031
+CREATE EDITION v2;
+--> OK

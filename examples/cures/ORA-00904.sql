@@ -1,0 +1,28 @@
+CREATE TABLE t (id NUMBER(3) PRIMARY KEY, v VARCHAR2(4) NOT NULL, n NUMBER(3));
+--> OK
+INSERT INTO t VALUES (1, 'a', 10);
+--> 1 rows
+INSERT INTO t VALUES (2, 'b', 20);
+--> 1 rows
+COMMIT;
+--> OK
+SELECT x FROM t;
+--> ORA-00904
+SELECT v FROM t;
+--> a
+--> b
+--> 2 rows
+CREATE EDITIONING VIEW w AS SELECT id FROM t;
+--> OK
+SELECT v FROM w;
+--> ORA-00904
+CREATE EDITION v2;
+--> OK
+ALTER SESSION SET EDITION = v2;
+--> OK
+CREATE OR REPLACE EDITIONING VIEW w AS SELECT id, v FROM t;
+--> OK
+SELECT v FROM w;
+--> a
+--> b
+--> 2 rows

@@ -1,0 +1,11 @@
+ROLLBACK TO s;
+--> ORA-01086
+SAVEPOINT s;
+--> OK
+ROLLBACK TO s;
+--> OK
+-- A COMMIT drops it.
+COMMIT;
+--> OK
+ROLLBACK TO s;
+--> ORA-01086

@@ -1,0 +1,12 @@
+CREATE TABLE t (id NUMBER(3) PRIMARY KEY, v VARCHAR2(4) NOT NULL, n NUMBER(3));
+--> OK
+INSERT INTO t VALUES (1, 'a', 10);
+--> 1 rows
+INSERT INTO t VALUES (2, 'b', 20);
+--> 1 rows
+COMMIT;
+--> OK
+UPDATE t SET n = 1000;
+--> ORA-01438
+UPDATE t SET n = 999;
+--> 2 rows

@@ -1,0 +1,17 @@
+CREATE TABLE t (id NUMBER(3) PRIMARY KEY, v VARCHAR2(4) NOT NULL, n NUMBER(3));
+--> OK
+INSERT INTO t VALUES (1, 'a', 10);
+--> 1 rows
+INSERT INTO t VALUES (2, 'b', 20);
+--> 1 rows
+COMMIT;
+--> OK
+SELECT TRUNC(1 / 0) FROM dual;
+--> ORA-01476
+UPDATE t SET n = 0 WHERE id = 1;
+--> 1 rows
+SELECT TRUNC(100 /n) FROM t;
+--> ORA-01476
+SELECT TRUNC(100 /n) FROM t WHERE n <> 0;
+--> 5
+--> 1 rows

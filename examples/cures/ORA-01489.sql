@@ -1,0 +1,7 @@
+DECLARE x VARCHAR2(2048) := 'a'; n NUMBER; BEGIN FOR i IN 1 .. 11 LOOP x := x || x; END LOOP; SELECT LENGTH(x || x) INTO n FROM dual; END;
+/
+--> ORA-01489
+DECLARE x VARCHAR2(2048) := 'a'; y VARCHAR2(4096); n NUMBER; BEGIN FOR i IN 1 .. 11 LOOP x := x || x; END LOOP; y := x || x; SELECT LENGTH(y) INTO n FROM dual; DBMS_OUTPUT.PUT_LINE(n); END;
+/
+--> 4096
+--> OK

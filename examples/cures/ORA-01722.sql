@@ -1,0 +1,17 @@
+CREATE TABLE t (id NUMBER(3) PRIMARY KEY, v VARCHAR2(4) NOT NULL, n NUMBER(3));
+--> OK
+INSERT INTO t VALUES (1, 'a', 10);
+--> 1 rows
+INSERT INTO t VALUES (2, 'b', 20);
+--> 1 rows
+COMMIT;
+--> OK
+SELECT TO_NUMBER('x') FROM dual;
+--> ORA-01722
+UPDATE t SET v = '7' WHERE id = 1;
+--> 1 rows
+SELECT TO_NUMBER(v) FROM t;
+--> ORA-01722
+SELECT TO_NUMBER(v) FROM t WHERE id = 1;
+--> 7
+--> 1 rows

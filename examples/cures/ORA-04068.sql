@@ -1,0 +1,15 @@
+CREATE PACKAGE k IS x NUMBER; END;
+/
+--> OK
+BEGIN k.x := 1; END;
+/
+--> OK
+CREATE OR REPLACE PACKAGE k IS x NUMBER; END;
+/
+--> OK
+BEGIN k.x := 1; END;
+/
+--> ORA-04068
+BEGIN k.x := 1; END;
+/
+--> OK

@@ -1,0 +1,6 @@
+BEGIN x := 1; END;
+/
+--> ORA-06550
+DECLARE x NUMBER; BEGIN x := 1; END;
+/
+--> OK
