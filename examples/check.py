@@ -154,11 +154,11 @@ def run_cures(folder):
     written, made = written_cures(), made_cures()
     sessions = sorted(it for it in written if it[:8] + "-2" in written)
     cures = {**{it: written[it] for it in written if it not in sessions}, **made}
-    # (a text without an end takes what stands behind it along)
-    cures["EBR-0021"] = cures.pop("EBR-0021")
+    # (a text without an end takes what stands behind it along: nothing may)
+    last = cures["EBR-0021"] = cures.pop("EBR-0021")
     mark = f"BEGIN DBMS_OUTPUT.PUT_LINE('{MARK}'); END;\n/\n"
     with open(f"{folder}/cures.sql", "w", encoding="utf-8") as file:
-        file.write("".join(script + mark + dropped(script) + mark for script, _ in cures.values()))
+        file.write("".join(it[0] + mark + dropped(it[0]) + mark for it in cures.values() if it is not last) + last[0])
     came = run_program(folder, ["try", "cures.sql"]).split(f"{MARK}\nOK\n")[::2]
     for name in sessions:
         with open(f"{folder}/{name}.sql", "w", encoding="utf-8") as file:
@@ -169,8 +169,8 @@ def run_cures(folder):
     same("the number of cures that ran", len(names), len(came))
     for name, replies in zip(names, came):
         wanted = (cures.get(name) or written[name])[1]
-        last = len(wanted) if name in made or name in sessions else 0
-        same(f"examples/cures: {name}", wanted, replies.splitlines()[-last:])
+        told = len(wanted) if name in made or name in sessions else 0
+        same(f"examples/cures: {name}", wanted, replies.splitlines()[-told:])
 
 
 def check_codes(page):
