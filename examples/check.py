@@ -101,7 +101,7 @@ def check_functions(page):
 
 
 def written_cures():
-    """Returns the scripts of examples/cures by their names, each with its replies, which stand there behind `--> `."""
+    """Returns the scripts of examples/cures by their names, each with its replies, which stand there after `--> `."""
     texts_of = {it[: -len(".sql")]: read(f"{CURES}/{it}") for it in sorted(os.listdir(CURES))}
     return {name: (re.sub(r"^--> .*\n", "", text, flags=re.M), re.findall(r"^--> (.*)$", text, re.M)) for name, text in texts_of.items()}
 
@@ -149,12 +149,12 @@ def run_program(folder, words):
 
 
 def run_cures(folder):
-    """Runs the cures: those of one session in one script, which drops behind each of them what it made; the others as sessions, one
-    behind the other, each of a code first and then that which goes on."""
+    """Runs the cures: those of one session in one script, which drops after each of them what it made; the others as sessions, one
+    after the other, of each code first the one that is refused and then the one that goes on."""
     written, made = written_cures(), made_cures()
     sessions = sorted(it for it in written if it[:8] + "-2" in written)
     cures = {**{it: written[it] for it in written if it not in sessions}, **made}
-    # (a text without an end takes what stands behind it along: nothing may)
+    # (a string without an end takes what stands after it along, so nothing does)
     last = cures["EBR-0021"] = cures.pop("EBR-0021")
     mark = f"BEGIN DBMS_OUTPUT.PUT_LINE('{MARK}'); END;\n/\n"
     with open(f"{folder}/cures.sql", "w", encoding="utf-8") as file:
