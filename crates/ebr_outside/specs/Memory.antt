@@ -9,21 +9,24 @@ use Rattle.ebr_outside.specs.declared.host_call.HostMethod.{HostMethod}
 use Rattle.ebr_outside.specs.Calls.{after_call, after_fault, none_made}
 use Rattle.ebr_outside.specs.MemDisk.{DiskState}
 
--- a source: the bytes that are still to be read, and its calls of `read`
+-- a source: its word, the bytes that are still to be read, and its calls of `read`
 pub record SourceState : Type 0 where
+  pub word : List ℕ
   pub left : List ℕ
   pub calls : Calls
 
--- a sink: the bytes that were written, and its calls of `write`
+-- a sink: its word, the bytes that were written, and its calls of `write`
 pub record SinkState : Type 0 where
+  pub word : List ℕ
   pub held : List ℕ
   pub calls : Calls
 
--- A host: its files, the writes of the next report that fail, and its calls of `source`, `sink` and `disk`, as they are counted and
--- as they are told.
+-- A host: its files, the writes of the next report that fail, how many reports were made, and its calls of `source`, `sink` and `disk`,
+-- as they are counted and as they are told.
 pub record HostState : Type 0 where
   pub files : List MemFile
   pub report : List Fail
+  pub reports : ℕ
   pub calls : Calls
   pub made : List HostCall
 
@@ -45,7 +48,7 @@ bytes_of files word = option_map (λ (file : MemFile). file.bytes) (file_of file
 
 -- a source of the bytes behind a word, where a file has it
 abbrev pub source_of : List MemFile → List ℕ → Option SourceState
-source_of files word = option_map (λ (file : MemFile). record { left = file.bytes; calls = none_made file.source }) (file_of files word)
+source_of files word = option_map (λ (file : MemFile). record { word = word; left = file.bytes; calls = none_made file.source }) (file_of files word)
 
 -- the writes that fail of a sink that is made for a word: none where no file has it
 abbrev pub failing_writes : List MemFile → List ℕ → List Fail

@@ -3,7 +3,12 @@
 mod disk;
 mod file_number;
 mod host;
+mod in_use;
+mod open_disk;
+mod open_sink;
+mod open_source;
 mod out;
+mod path;
 mod sink;
 mod source;
 

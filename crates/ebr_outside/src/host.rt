@@ -1,7 +1,7 @@
 //! What opens sources and disks, and makes sinks.
 
 ghost use Rattle.std.specs.Prelude.{◌≡◌, ℕ, ◌≤◌, List, [], Option, Some, IfOk, IfSome, IsErrOf};
-ghost use Rattle.ebr_faults.specs.Faults.{Rises};
+ghost use Rattle.ebr_faults.specs.Faults.{Rises, one_more};
 ghost use Rattle.ebr_outside.specs.Disk.{HoldsJust};
 ghost use Rattle.ebr_outside.specs.HostCalls.{calls_after};
 ghost use Rattle.ebr_outside.specs.declared.host.HostErr.TheVariants as variants;
@@ -61,6 +61,9 @@ pub trait Host {
     /// 2^64 - 1.
     ghost faults: { Self → ℕ };
 
+    /// How many reports were made. It stands still at its end, 2^64 - 1.
+    ghost reports: { Self → ℕ };
+
     /// Opens the source that a word names, at its first byte.
     ///
     /// `Failed` comes only where the host's count of faults rose in this call, or stands at its
@@ -69,9 +72,11 @@ pub trait Host {
         ensures told { IfOk result (λ s.
             IfSome (bytes self.old word.now) (λ b. Self.Source.left s ≡ Some b)) }
         ensures fresh { IfOk result (λ s. Self.Source.faults s ≡ 0) }
+        ensures asked { IfOk result (λ s. Self.Source.word s ≡ word.now) }
         ensures same { (w : List ℕ) → bytes self.new w ≡ bytes self.old w }
         ensures same_disks { (w : List ℕ) → disk_bytes self.new w ≡ disk_bytes self.old w }
         ensures called { calls self.new ≡ calls_after (calls self.old) method.Source word.now result }
+        ensures same_reports { reports self.new ≡ reports self.old }
         ensures counted { faults self.old ≤ faults self.new }
         ensures failed { IsErrOf result HostErr.Failed
             → Rises (faults self.old) (faults self.new) };
@@ -83,9 +88,11 @@ pub trait Host {
     fn sink(&mut self, word: &Bytes) -> Result<Self::Sink, HostErr>
         ensures empty { IfOk result (λ s. IfSome (Self.Sink.held s) (λ h. h ≡ [])) }
         ensures fresh { IfOk result (λ s. Self.Sink.faults s ≡ 0) }
+        ensures asked { IfOk result (λ s. Self.Sink.word s ≡ word.now) }
         ensures same { (w : List ℕ) → bytes self.new w ≡ bytes self.old w }
         ensures same_disks { (w : List ℕ) → disk_bytes self.new w ≡ disk_bytes self.old w }
         ensures called { calls self.new ≡ calls_after (calls self.old) method.Sink word.now result }
+        ensures same_reports { reports self.new ≡ reports self.old }
         ensures counted { faults self.old ≤ faults self.new }
         ensures failed { IsErrOf result HostErr.Failed
             → Rises (faults self.old) (faults self.new) };
@@ -101,17 +108,19 @@ pub trait Host {
         ensures same { (w : List ℕ) → bytes self.new w ≡ bytes self.old w }
         ensures same_disks { (w : List ℕ) → disk_bytes self.new w ≡ disk_bytes self.old w }
         ensures called { calls self.new ≡ calls_after (calls self.old) method.Disk word.now result }
+        ensures same_reports { reports self.new ≡ reports self.old }
         ensures counted { faults self.old ≤ faults self.new }
         ensures failed { IsErrOf result HostErr.Failed
             → Rises (faults self.old) (faults self.new) };
 
-    /// Makes the sink for the report, with no bytes in it.
+    /// Makes the sink for the report, with no bytes in it, and counts it.
     fn report(&mut self) -> Self::Report
         ensures empty { IfSome (Self.Report.held result) (λ h. h ≡ []) }
         ensures fresh { Self.Report.faults result ≡ 0 }
         ensures same { (w : List ℕ) → bytes self.new w ≡ bytes self.old w }
         ensures same_disks { (w : List ℕ) → disk_bytes self.new w ≡ disk_bytes self.old w }
-        ensures uncalled { calls self.new ≡ calls self.old }
+        ensures reported { reports self.new ≡ one_more (reports self.old) }
+        ensures same_calls { calls self.new ≡ calls self.old }
         ensures counted { faults self.old ≤ faults self.new };
 
     /// The gate that the sessions of a run pass.

@@ -7,6 +7,9 @@ use crate::source::Failed;
 
 /// Takes bytes in order.
 pub trait Sink: Drop {
+    /// The word that it was made for; none where it is no word's.
+    ghost word: { Self → List ℕ };
+
     /// The bytes that were written, where the sink tells them.
     ghost held: { Self → Option (List ℕ) };
 
@@ -23,5 +26,6 @@ pub trait Sink: Drop {
         ensures grown { IfOk result (λ n.
             held self.new ≡ appended (held self.old) (take n bytes.now)) }
         ensures kept { OnErr result (held self.new ≡ held self.old) }
-        ensures counted { faults self.new ≡ faults_after (is_ok result) (faults self.old) };
+        ensures counted { faults self.new ≡ faults_after (is_ok result) (faults self.old) }
+        ensures same { word self.new ≡ word self.old };
 }

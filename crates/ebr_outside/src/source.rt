@@ -10,6 +10,9 @@ pub struct Failed;
 
 /// Gives bytes in order, each once.
 pub trait Source: Drop {
+    /// The word that it was opened for.
+    ghost word: { Self → List ℕ };
+
     /// The bytes that are still to be read, where the source tells them.
     ghost left: { Self → Option (List ℕ) };
 
@@ -27,5 +30,6 @@ pub trait Source: Drop {
         ensures taken { IfOk result (λ n. Takes (left self.old) n into.new (left self.new)) }
         ensures kept { OnErr result (left self.new ≡ left self.old) }
         ensures counted { faults self.old ≤ faults self.new }
-        ensures failed { OnErr result (Rises (faults self.old) (faults self.new)) };
+        ensures failed { OnErr result (Rises (faults self.old) (faults self.new)) }
+        ensures same { word self.new ≡ word self.old };
 }

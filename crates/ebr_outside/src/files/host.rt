@@ -1,63 +1,67 @@
 //! The host of a process.
 
 ghost use Rattle.std.specs.Prelude.{◌≡◌, IfOk, OnOk, IsErrOf, None};
+ghost use Rattle.ebr_faults.specs.Faults.{one_more};
 
 use crate::files::disk::FileDisk;
-use crate::files::file_number::FileNumber;
+use crate::files::in_use::InUse;
+use crate::files::open_disk::{open_disk, open_disk_to_read};
+use crate::files::open_sink::open_sink;
+use crate::files::open_source::open_source;
 use crate::files::out::OutSink;
 use crate::files::sink::FileSink;
 use crate::files::source::FileSource;
 use crate::gate::OpenGate;
 use crate::host::{Host, HostErr};
-use ebr_base::{Bytes, List};
+use ebr_base::{Bytes, CloneIn, List};
 use ebr_faults::one_more;
-use std::fs;
-use std::fs::{File, Metadata};
+use std::fs::File;
 use std::io::{self, ErrorKind};
 use std::marker::Model;
 
 /// Opens and makes the files of the system, and reports to the standard output. It tells no bytes and no calls:
 /// what files there are, and what they hold, is not claimed.
 ///
-/// A word that isn't UTF-8 is a fault of each call, and so is each error of the system but want of memory.
+/// A word that isn't UTF-8 is a fault of each call, and so is each error of the system but want of memory. So is a file that is the
+/// standard output, where the system tells it.
 #[derive(Drop)]
 pub struct FileHost {
     rt: HostRuntime,
-    words: List<Bytes>,
-    sinks: Vec<FileNumber>,
+    in_use: InUse,
     faults: u64,
+    reports: u64,
     placeholders: [Option<File>; 3],
 }
 
 impl Model for FileHost {
-    ghost use Rattle.ebr_outside.specs.Files.{FileState};
+    ghost use Rattle.ebr_outside.specs.Files.{OpenerState};
 
-    ghost Value = { FileState };
+    ghost Value = { OpenerState };
 
-    ghost view = { λ h. record { faults = h.faults } };
+    ghost view = { λ h. record { faults = h.faults; reports = h.reports } };
 }
 
 impl FileHost {
-    ghost use Rattle.ebr_outside.specs.Files.{no_faults, one_fault_more};
+    ghost use Rattle.ebr_outside.specs.Files.{no_calls, opener_failed};
 
     /// The host of this process. The words of its command line behind the first may name files, and no sink is made of one of
-    /// these.
+    /// these. Where the words are `dump` and another one, disks are only read.
     pub fn new(rt: HostRuntime, words: List<Bytes>) -> FileHost
-        ensures { result ≡ no_faults }
+        ensures { result ≡ no_calls }
     {
         let placeholders = [placeholder(&rt), placeholder(&rt), placeholder(&rt)];
         FileHost {
             rt,
-            words,
-            sinks: Vec::new(rt.alloc()),
+            in_use: InUse::new(&rt, words),
             faults: 0,
+            reports: 0,
             placeholders,
         }
     }
 
     /// Why a call failed. It is counted, but for want of memory.
     fn failed(&mut self, error: io::Error) -> HostErr
-        ensures failed { result ≡ HostErr.Failed → self.new ≡ one_fault_more self.old }
+        ensures failed { result ≡ HostErr.Failed → self.new ≡ opener_failed self.old }
         ensures no_memory { result ≡ HostErr.NoMemory → self.new ≡ self.old }
     {
         if error.kind() == ErrorKind::OutOfMemory {
@@ -67,59 +71,13 @@ impl FileHost {
         HostErr::Failed
     }
 
-    /// Opens a file for reading.
-    fn open_source(&self, word: &Bytes) -> io::Result<File> {
-        File::open(&self.rt, path_of(word)?)
-    }
-
-    /// Makes or empties a file for writing. It isn't emptied where a word names it, or where it is a sink already.
-    fn make_sink(&mut self, word: &Bytes) -> io::Result<File>
-        ensures { self.new ≡ self.old }
-    {
-        let path = path_of(word)?;
-        let file = File::options()
-            .write(true)
-            .create(true)
-            .open(&self.rt, path)?;
-        let metadata = file.metadata()?;
-        let number = FileNumber::of(&metadata);
-        if is_named(&self.rt, self.words.as_slice(), number) || self.is_written(&metadata) {
-            return Err(ErrorKind::AlreadyExists.into());
-        }
-        self.sinks.push(number)?;
-        if metadata.len() > 0 {
-            file.set_len(0)?;
-        }
-        Ok(file)
-    }
-
-    /// Whether a file is a sink already. A device may be several.
-    fn is_written(&self, metadata: &Metadata) -> bool {
-        metadata.is_file() && self.sinks.contains(&FileNumber::of(metadata))
-    }
-
-    /// Opens or makes a file for reading and writing, and locks it.
+    /// Opens the file of a disk: for reading alone, where the command does no more.
     fn open_disk(&self, word: &Bytes) -> io::Result<File> {
-        let path = path_of(word)?;
-        let file = File::options()
-            .read(true)
-            .write(true)
-            .create(true)
-            .open(&self.rt, path)?;
-        file.try_lock()?;
-        let metadata = file.metadata()?;
-        if self.has_other_use(word, FileNumber::of(&metadata)) {
-            return Err(ErrorKind::AlreadyExists.into());
+        if self.in_use.only_reads_disk() {
+            open_disk_to_read(&self.rt, &self.in_use, word)
+        } else {
+            open_disk(&self.rt, &self.in_use, word)
         }
-        if metadata.len() == 0 {
-            sync_folder(&self.rt, path)?;
-        }
-        Ok(file)
-    }
-
-    /// Whether a file is a sink, or one that another word names.
-    fn has_other_use(&self, own: &Bytes, file: FileNumber) -> bool {
-        self.sinks.contains(&file) || is_named_besides(&self.rt, self.words.as_slice(), own, file)
     }
 }
 
@@ -134,7 +92,7 @@ impl Host for FileHost {
 
     type Gate = OpenGate;
 
-    ghost use Rattle.ebr_outside.specs.Files.{no_faults, one_fault_more};
+    ghost use Rattle.ebr_outside.specs.Files.{no_faults, opener_failed, stream_of};
 
     ghost bytes = { λ h w. None };
 
@@ -146,40 +104,49 @@ impl Host for FileHost {
 
     ghost faults = { λ h. h.faults };
 
-    /// Opens the file whose path the word is, from the current folder on.
+    ghost reports = { λ h. h.reports };
+
+    /// Opens the file whose path the word is, from the current folder on. The standard output stays as it is, and is a fault.
     fn source(&mut self, word: &Bytes) -> Result<FileSource, HostErr>
-        ensures fresh { IfOk result (λ s. s ≡ no_faults) }
+        ensures fresh { IfOk result (λ s. s ≡ stream_of word.now) }
         ensures ok { OnOk result (self.new ≡ self.old) }
-        ensures failed { IsErrOf result HostErr.Failed → self.new ≡ one_fault_more self.old }
+        ensures failed { IsErrOf result HostErr.Failed → self.new ≡ opener_failed self.old }
         ensures no_memory { IsErrOf result HostErr.NoMemory → self.new ≡ self.old }
     {
-        match self.open_source(word) {
-            Ok(file) => Ok(FileSource::new(file)),
+        let own = word.clone_in(self.rt.alloc())?;
+        match open_source(&self.rt, &self.in_use, word) {
+            Ok(file) => Ok(FileSource::new(own, file)),
             Err(error) => Err(self.failed(error)),
         }
     }
 
-    /// Makes the file whose path the word is, from the current folder on, or empties it. A file that a word of the command line
-    /// names, by whatever path, stays as it is and is a fault, and so is one that is a sink already.
+    /// Makes the file whose path the word is, from the current folder on, or empties it. A regular file is locked until the sink is
+    /// dropped. One that is locked already stays as it is and is a fault; so does one that a word of the command line names, by
+    /// whatever path, one that is a sink already, and the standard output.
     fn sink(&mut self, word: &Bytes) -> Result<FileSink, HostErr>
-        ensures fresh { IfOk result (λ s. s ≡ no_faults) }
+        ensures fresh { IfOk result (λ s. s ≡ stream_of word.now) }
         ensures ok { OnOk result (self.new ≡ self.old) }
-        ensures failed { IsErrOf result HostErr.Failed → self.new ≡ one_fault_more self.old }
+        ensures failed { IsErrOf result HostErr.Failed → self.new ≡ opener_failed self.old }
         ensures no_memory { IsErrOf result HostErr.NoMemory → self.new ≡ self.old }
     {
-        match self.make_sink(word) {
-            Ok(file) => Ok(FileSink::new(file)),
+        let own = word.clone_in(self.rt.alloc())?;
+        match open_sink(&self.rt, &mut self.in_use, word) {
+            Ok(file) => Ok(FileSink::new(own, file)),
             Err(error) => Err(self.failed(error)),
         }
     }
 
     /// Opens the file whose path the word is, from the current folder on, and makes it where there is none; the folder of an empty
     /// one is synced. The file is locked until the disk is dropped. One that is locked already stays as it is, and is a fault; so is
-    /// one that a sink is, or that another word of the command line names, by whatever path.
+    /// one that isn't regular, that is a sink or the standard output, or that another word of the command line names, by whatever
+    /// path. No file is made where its folder can't be synced.
+    ///
+    /// Where the command is `dump` the file is opened for reading alone, under a lock that others may have for reading too, and where
+    /// there is none it is a fault.
     fn disk(&mut self, word: &Bytes) -> Result<FileDisk, HostErr>
         ensures fresh { IfOk result (λ d. d ≡ no_faults) }
         ensures ok { OnOk result (self.new ≡ self.old) }
-        ensures failed { IsErrOf result HostErr.Failed → self.new ≡ one_fault_more self.old }
+        ensures failed { IsErrOf result HostErr.Failed → self.new ≡ opener_failed self.old }
         ensures no_memory { IsErrOf result HostErr.NoMemory → self.new ≡ self.old }
     {
         match self.open_disk(word) {
@@ -188,12 +155,18 @@ impl Host for FileHost {
         }
     }
 
-    /// The standard output.
+    /// The standard output. Where it is a file that a word of the command line behind the first names, or the sink of a script, each
+    /// write of it fails, so that the file stays as it is.
     fn report(&mut self) -> OutSink
         ensures fresh { result ≡ no_faults }
-        ensures same { self.new ≡ self.old }
+        ensures counted { self.new ≡ record self.old { reports = one_more self.old.reports } }
     {
-        OutSink::new(self.rt)
+        self.reports = one_more(self.reports);
+        if self.in_use.has_out(&self.rt) {
+            OutSink::failing()
+        } else {
+            OutSink::new(self.rt)
+        }
     }
 
     /// It is always open.
@@ -206,45 +179,4 @@ impl Host for FileHost {
 /// the standard output, where the report would be written into it.
 fn placeholder(rt: &HostRuntime) -> Option<File> {
     File::open(rt, "/dev/null").ok()
-}
-
-/// The path that a word is.
-fn path_of(word: &Bytes) -> io::Result<&str> {
-    match str::from_utf8(word.as_slice()) {
-        Ok(path) => Ok(path),
-        Err(_) => Err(ErrorKind::InvalidFilename.into()),
-    }
-}
-
-/// Whether a word of a command line, behind the first, names the file.
-fn is_named(rt: &HostRuntime, words: &[Bytes], file: FileNumber) -> bool {
-    words.iter().skip(1).any(|word| names(rt, word, file))
-}
-
-/// The same of a word but this one.
-fn is_named_besides(rt: &HostRuntime, words: &[Bytes], own: &Bytes, file: FileNumber) -> bool {
-    let mut others = words.iter().skip(1);
-    others.any(|word| word != own && names(rt, word, file))
-}
-
-/// Whether a word names the file, as far as the system tells.
-fn names(rt: &HostRuntime, word: &Bytes, file: FileNumber) -> bool {
-    match number_of(rt, word) {
-        Ok(number) => number == file,
-        Err(_) => false,
-    }
-}
-
-/// The number of the file that a word names.
-fn number_of(rt: &HostRuntime, word: &Bytes) -> io::Result<FileNumber> {
-    Ok(FileNumber::of(&fs::metadata(rt, path_of(word)?)?))
-}
-
-/// Brings the entry of a file in its folder to the device.
-fn sync_folder(rt: &HostRuntime, path: &str) -> io::Result<()> {
-    let whole = fs::canonicalize(rt, path)?;
-    let Some(folder) = whole.parent() else {
-        return Ok(());
-    };
-    File::open(rt, folder)?.sync_all()
 }

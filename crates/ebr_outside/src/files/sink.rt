@@ -4,6 +4,7 @@ ghost use Rattle.std.specs.Prelude.{◌≡◌, ◌<◌, ◌≤◌, length, IfOk,
 
 use crate::sink::Sink;
 use crate::source::Failed;
+use ebr_base::Bytes;
 use ebr_faults::one_more;
 use std::fs::File;
 use std::io::Write;
@@ -13,31 +14,38 @@ use std::marker::Model;
 /// not claimed.
 #[derive(Drop)]
 pub struct FileSink {
+    word: Bytes,
     file: File,
     faults: u64,
 }
 
 impl Model for FileSink {
-    ghost use Rattle.ebr_outside.specs.Files.{FileState};
+    ghost use Rattle.ebr_outside.specs.Files.{StreamState};
 
-    ghost Value = { FileState };
+    ghost Value = { StreamState };
 
-    ghost view = { λ s. record { faults = s.faults } };
+    ghost view = { λ s. record { word = s.word; faults = s.faults } };
 }
 
 impl FileSink {
-    ghost use Rattle.ebr_outside.specs.Files.{no_faults};
+    ghost use Rattle.ebr_outside.specs.Files.{stream_of};
 
-    /// A file, from where it stands.
-    pub fn new(file: File) -> FileSink
-        ensures { result ≡ no_faults }
+    /// The file that was opened for a word, from where it stands.
+    pub fn new(word: Bytes, file: File) -> FileSink
+        ensures { result ≡ stream_of word }
     {
-        FileSink { file, faults: 0 }
+        FileSink {
+            word,
+            file,
+            faults: 0,
+        }
     }
 }
 
 impl Sink for FileSink {
-    ghost use Rattle.ebr_outside.specs.Files.{one_fault_more};
+    ghost use Rattle.ebr_outside.specs.Files.{stream_failed};
+
+    ghost word = { λ s. s.word };
 
     ghost held = { λ s. None };
 
@@ -48,7 +56,7 @@ impl Sink for FileSink {
         requires { 0 < length bytes.now }
         ensures some { IfOk result (λ n. (0 < n) × (n ≤ length bytes.now)) }
         ensures ok { OnOk result (self.new ≡ self.old) }
-        ensures err { OnErr result (self.new ≡ one_fault_more self.old) }
+        ensures err { OnErr result (self.new ≡ stream_failed self.old) }
     {
         match self.file.write(bytes) {
             Ok(n) if n > 0 => Ok(n),

@@ -2,6 +2,7 @@
 
 ghost use Rattle.std.specs.Prelude.{◌≡◌, [], false, ◌⊎◌, IsTrue, IsErr, IsErrOf, IsNone, IsSomeAnd, IfOk, OnOk};
 ghost use Rattle.std.specs.Option.{option_copied};
+ghost use Rattle.ebr_faults.specs.Faults.{one_more};
 ghost use Rattle.ebr_outside.specs.Memory.{disk_of, failing_writes, file_of, source_of};
 ghost use Rattle.ebr_outside.specs.declared.host_call.HostMethod.TheVariants as method;
 
@@ -13,6 +14,7 @@ use crate::memory::host::MemFile;
 use crate::memory::sink::MemSink;
 use crate::memory::source::MemSource;
 use ebr_base::{Bytes, CloneIn, List, NoMemory};
+use ebr_faults::one_more;
 use std::alloc::Global;
 use std::marker::Model;
 use std::mem;
@@ -23,6 +25,7 @@ pub(crate) struct Files {
     alloc: Global,
     files: List<MemFile>,
     report: List<Fail>,
+    reports: u64,
     calls: Calls,
     made: List<HostCall>,
 }
@@ -32,7 +35,7 @@ impl Model for Files {
 
     ghost Value = { HostState };
 
-    ghost view = { λ h. record { files = h.files; report = h.report; calls = h.calls; made = h.made } };
+    ghost view = { λ h. record { files = h.files; report = h.report; reports = h.reports; calls = h.calls; made = h.made } };
 }
 
 impl Files {
@@ -46,12 +49,13 @@ impl Files {
         report: List<Fail>,
         failing: List<Fail>,
     ) -> Files
-        ensures { result ≡ record { files = files; report = report; calls = none_made failing; made = [] } }
+        ensures { result ≡ record { files = files; report = report; reports = 0; calls = none_made failing; made = [] } }
     {
         Files {
             alloc,
             files,
             report,
+            reports: 0,
             calls: Calls::new(failing),
             made: List::new(alloc),
         }
@@ -93,7 +97,7 @@ impl Files {
         ensures fails { IsErrOf result HostErr.Failed
             → IsTrue (fails_next self.old.calls) ⊎ IsNone (file_of self.old.files word.now) }
         ensures made { IfOk result (λ s. IsSomeAnd (file_of self.old.files word.now)
-            (λ file. s ≡ record { left = file.bytes; calls = none_made file.source })) }
+            (λ file. s ≡ record { word = word.now; left = file.bytes; calls = none_made file.source })) }
 
         // What becomes of the host.
         ensures ok { OnOk result (self.new ≡ called self.old method.Source word.now) }
@@ -118,7 +122,7 @@ impl Files {
         ensures named { IsTrue (fails_next self.old.calls) → IsErr result }
         ensures fails { IsErrOf result HostErr.Failed → IsTrue (fails_next self.old.calls) }
         ensures made { IfOk result (λ s.
-            s ≡ record { held = []; calls = none_made (failing_writes self.old.files word.now) }) }
+            s ≡ record { word = word.now; held = []; calls = none_made (failing_writes self.old.files word.now) }) }
 
         // What becomes of the host.
         ensures ok { OnOk result (self.new ≡ called self.old method.Sink word.now) }
@@ -126,8 +130,9 @@ impl Files {
         ensures no_memory { IsErrOf result HostErr.NoMemory → self.new ≡ self.old }
     {
         let failing = failing_writes(self.alloc, self.files.as_slice(), word.as_slice())?;
+        let own = word.clone_in(self.alloc)?;
         self.call(HostMethod::Sink, word, true)?;
-        Ok(MemSink::new(self.alloc, failing))
+        Ok(MemSink::for_word(self.alloc, own, failing))
     }
 
     /// A disk of the bytes behind a word, empty where no file has the word. `Failed` comes only where this call is named.
@@ -149,10 +154,11 @@ impl Files {
     /// An empty sink. The first report fails at the writes that the host was made with, and a later
     /// one at none.
     pub(crate) fn report(&mut self) -> MemSink
-        ensures made { result ≡ record { held = []; calls = none_made self.old.report } }
-        ensures spent { self.new ≡ record self.old { report = [] } }
+        ensures made { result ≡ record { word = []; held = []; calls = none_made self.old.report } }
+        ensures spent { self.new ≡ record self.old { report = []; reports = one_more self.old.reports } }
     {
         let failing = mem::replace(&mut self.report, List::new(self.alloc));
+        self.reports = one_more(self.reports);
         MemSink::new(self.alloc, failing)
     }
 }
@@ -172,7 +178,8 @@ fn source_of(alloc: Global, files: &[MemFile], word: &[u8]) -> Result<Option<Mem
         Some(file) => {
             let bytes = file.bytes.clone_in(alloc)?;
             let failing = file.source.clone_in(alloc)?;
-            Ok(Some(MemSource::new(bytes, failing)))
+            let own = Bytes::from_slice(alloc, word)?;
+            Ok(Some(MemSource::new(own, bytes, failing)))
         }
         None => Ok(None),
     }

@@ -1,6 +1,7 @@
 //! A host in memory.
 
 ghost use Rattle.std.specs.Prelude.{◌≡◌, [], ◌⊎◌, IsTrue, IsErr, IsErrOf, IsNone, IsSomeAnd, IfOk, OnOk, Some};
+ghost use Rattle.ebr_faults.specs.Faults.{one_more};
 ghost use Rattle.ebr_outside.specs.Memory.{file_of};
 ghost use Rattle.ebr_outside.specs.declared.host_call.HostMethod.TheVariants as method;
 
@@ -56,7 +57,7 @@ impl<G: Gate> MemHost<G> {
         failing: List<Fail>,
         gate: G,
     ) -> MemHost<G>
-        ensures { result ≡ record { files = files; report = report; calls = none_made failing; made = [] } }
+        ensures { result ≡ record { files = files; report = report; reports = 0; calls = none_made failing; made = [] } }
     {
         MemHost {
             files: Files::new(alloc, files, report, failing),
@@ -97,13 +98,15 @@ impl<G: Gate> Host for MemHost<G> {
 
     ghost faults = { λ h. h.calls.faults };
 
+    ghost reports = { λ h. h.reports };
+
     /// A source of the bytes behind a word. `Failed` comes where this call is named or no file has the word.
     fn source(&mut self, word: &Bytes) -> Result<MemSource, HostErr>
         ensures named { IsTrue (fails_next self.old.calls) → IsErr result }
         ensures fails { IsErrOf result HostErr.Failed
             → IsTrue (fails_next self.old.calls) ⊎ IsNone (file_of self.old.files word.now) }
         ensures made { IfOk result (λ s. IsSomeAnd (file_of self.old.files word.now)
-            (λ file. s ≡ record { left = file.bytes; calls = none_made file.source })) }
+            (λ file. s ≡ record { word = word.now; left = file.bytes; calls = none_made file.source })) }
 
         // What becomes of the host.
         ensures ok { OnOk result (self.new ≡ called self.old method.Source word.now) }
@@ -119,7 +122,7 @@ impl<G: Gate> Host for MemHost<G> {
         ensures named { IsTrue (fails_next self.old.calls) → IsErr result }
         ensures fails { IsErrOf result HostErr.Failed → IsTrue (fails_next self.old.calls) }
         ensures made { IfOk result (λ s.
-            s ≡ record { held = []; calls = none_made (failing_writes self.old.files word.now) }) }
+            s ≡ record { word = word.now; held = []; calls = none_made (failing_writes self.old.files word.now) }) }
 
         // What becomes of the host.
         ensures ok { OnOk result (self.new ≡ called self.old method.Sink word.now) }
@@ -146,8 +149,8 @@ impl<G: Gate> Host for MemHost<G> {
     /// An empty sink. The first report fails at the writes that the host was made with, and a later
     /// one at none.
     fn report(&mut self) -> MemSink
-        ensures made { result ≡ record { held = []; calls = none_made self.old.report } }
-        ensures spent { self.new ≡ record self.old { report = [] } }
+        ensures made { result ≡ record { word = []; held = []; calls = none_made self.old.report } }
+        ensures spent { self.new ≡ record self.old { report = []; reports = one_more self.old.reports } }
     {
         self.files.report()
     }

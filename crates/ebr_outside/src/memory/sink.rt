@@ -12,6 +12,7 @@ use std::marker::Model;
 /// A sink that keeps its bytes and tells them.
 #[derive(Debug, Drop)]
 pub struct MemSink {
+    word: Bytes,
     bytes: Bytes,
     calls: Calls,
 }
@@ -21,17 +22,25 @@ impl Model for MemSink {
 
     ghost Value = { SinkState };
 
-    ghost view = { λ s. record { held = s.bytes; calls = s.calls } };
+    ghost view = { λ s. record { word = s.word; held = s.bytes; calls = s.calls } };
 }
 
 impl MemSink {
     ghost use Rattle.ebr_outside.specs.Calls.{none_made};
 
-    /// An empty sink. The writes that `failing` names fail.
+    /// An empty sink that is no word's. The writes that `failing` names fail.
     pub fn new(alloc: Global, failing: List<Fail>) -> MemSink
-        ensures { result ≡ record { held = []; calls = none_made failing } }
+        ensures { result ≡ record { word = []; held = []; calls = none_made failing } }
+    {
+        MemSink::for_word(alloc, Bytes::new(alloc), failing)
+    }
+
+    /// An empty sink of a word. The writes that `failing` names fail.
+    pub fn for_word(alloc: Global, word: Bytes, failing: List<Fail>) -> MemSink
+        ensures { result ≡ record { word = word; held = []; calls = none_made failing } }
     {
         MemSink {
+            word,
             bytes: Bytes::new(alloc),
             calls: Calls::new(failing),
         }
@@ -48,6 +57,8 @@ impl MemSink {
 impl Sink for MemSink {
     ghost use Rattle.ebr_outside.specs.Calls.{fails_next, after_call, after_fault};
 
+    ghost word = { λ s. s.word };
+
     ghost held = { λ s. Some s.held };
 
     ghost faults = { λ s. s.calls.faults };
@@ -59,6 +70,7 @@ impl Sink for MemSink {
         ensures whole { IfOk result (λ n. n ≡ length bytes.now) }
         ensures grown { OnOk result (self.new.held ≡ self.old.held ++ bytes.now) }
         ensures ok { OnOk result (self.new.calls ≡ after_call self.old.calls) }
+        ensures same { self.new.word ≡ self.old.word }
         ensures err { OnErr result
             (self.new ≡ record self.old { calls = after_fault self.old.calls }) }
     {

@@ -10,6 +10,7 @@ use std::marker::Model;
 /// Bytes as a source that tells them.
 #[derive(Debug, Drop)]
 pub struct MemSource {
+    word: Bytes,
     bytes: Bytes,
     place: usize,
     calls: Calls,
@@ -21,7 +22,7 @@ impl Model for MemSource {
 
     ghost Value = { SourceState };
 
-    ghost view = { λ s. record { left = drop s.place s.bytes; calls = s.calls } };
+    ghost view = { λ s. record { word = s.word; left = drop s.place s.bytes; calls = s.calls } };
 
     ghost invariant = { λ s. s.place ≤ length s.bytes };
 }
@@ -29,11 +30,12 @@ impl Model for MemSource {
 impl MemSource {
     ghost use Rattle.ebr_outside.specs.Calls.{none_made};
 
-    /// A source of these bytes. The reads that `failing` names fail.
-    pub fn new(bytes: Bytes, failing: List<Fail>) -> MemSource
-        ensures { result ≡ record { left = bytes; calls = none_made failing } }
+    /// A source of a word, with these bytes. The reads that `failing` names fail.
+    pub fn new(word: Bytes, bytes: Bytes, failing: List<Fail>) -> MemSource
+        ensures { result ≡ record { word = word; left = bytes; calls = none_made failing } }
     {
         MemSource {
+            word,
             bytes,
             place: 0,
             calls: Calls::new(failing),
@@ -43,6 +45,8 @@ impl MemSource {
 
 impl Source for MemSource {
     ghost use Rattle.ebr_outside.specs.Calls.{fails_next, after_call, after_fault};
+
+    ghost word = { λ s. s.word };
 
     ghost left = { λ s. Some s.left };
 
@@ -56,6 +60,7 @@ impl Source for MemSource {
         ensures copied { IfOk result (λ n. into.new ≡ take n self.old.left ++ drop n into.old) }
         ensures rest { IfOk result (λ n. self.new.left ≡ drop n self.old.left) }
         ensures ok { OnOk result (self.new.calls ≡ after_call self.old.calls) }
+        ensures same { self.new.word ≡ self.old.word }
         ensures err { OnErr result
             (self.new ≡ record self.old { calls = after_fault self.old.calls }) }
     {
