@@ -17,6 +17,7 @@ pub fn offer<S: Sink>(sink: &mut S, bytes: &[u8], from: usize) -> usize
     ensures within { result ≤ length bytes.now }
     ensures held { S.held sink.new ≡ appended (S.held sink.old) (take (result - from) (drop from bytes.now)) }
     ensures counted { S.faults sink.new ≡ faults_after (result == length bytes.now) (S.faults sink.old) }
+    ensures same { S.word sink.new ≡ S.word sink.old }
 {
     let mut at = from;
     while at < bytes.len() {

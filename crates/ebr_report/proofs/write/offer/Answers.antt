@@ -8,4 +8,5 @@ loop-at-preserved g c = record {
   within = omega (arith, c.in-Ok.ensures.some);
   held = held_on _ _ _ _ _ _ _ c.loop-at.invariant.onward c.loop-at.invariant.held c.in-Ok.ensures.grown;
   counted = c.in-Ok.ensures.counted ∙ c.loop-at.invariant.counted;
+  same = c.write.ensures.same ∙ c.loop-at.invariant.same;
 }

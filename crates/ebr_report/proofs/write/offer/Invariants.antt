@@ -9,6 +9,7 @@ invariant-loop-at g l = record {
   within : l.at ≤ length l.bytes;
   held : g.S.Sink.held l.sink ≡ appended (g.S.Sink.held l.initial.sink) (take (l.at - l.from) (drop l.from l.bytes));
   counted : g.S.Sink.faults l.sink ≡ g.S.Sink.faults l.initial.sink;
+  same : g.S.Sink.word l.sink ≡ g.S.Sink.word l.initial.sink;
 }
 
 abbrev pub decreases-loop-at : goal.decreases-loop-at
