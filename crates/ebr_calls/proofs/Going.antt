@@ -5,7 +5,8 @@ use Rattle.ebr_asks.specs.declared.ask.Ask.TheVariants as ask
 use Rattle.ebr_asks.specs.declared.answer.Answer.{Answer}
 use Rattle.ebr_asks.specs.declared.answer.Answer.TheVariants as answer
 use Rattle.ebr_calls.specs.Steps.{State, Step, Ended, ended, then_run, one_less, less, next_answer, leaving, on_answer, asked, printing, usable}
-use Rattle.ebr_calls.specs.Courses.{Course, Place, GoesOn, Asks, AsksNext, Continues, AllContinue, state_at, later, after, with_answer, with_ask, takes}
+use Rattle.ebr_calls.specs.Continuation.{Continues, AllContinue}
+use Rattle.ebr_calls.specs.Courses.{Course, Place, GoesOn, Asks, AsksNext, state_at, later, after, with_answer, with_ask, takes}
 
 -- ---- moments of quitting
 

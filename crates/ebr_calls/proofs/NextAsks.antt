@@ -22,7 +22,8 @@ use Rattle.ebr_machine.specs.declared.machine.Machine.{Machine}
 use Rattle.ebr_machine.specs.Has.{Has, IsOut, within}
 use Rattle.ebr_calls.specs.Asked.{HasTaken}
 use Rattle.ebr_calls.specs.Steps.{State, Step, asked, asking, behind, closing, ending, less, lines_of, most_steps, open_behind, printing, printing_result, run_of, run_on, run_stands, run_valid, then_run, usable}
-use Rattle.ebr_calls.specs.Courses.{AllContinue, Asks, Continues, Course, GoesOn, IsIn, Place, after, place, state_at, with_answer, later}
+use Rattle.ebr_calls.specs.Continuation.{AllContinue, Continues}
+use Rattle.ebr_calls.specs.Courses.{Asks, Course, GoesOn, IsIn, Place, after, place, state_at, with_answer, later}
 use Rattle.ebr_calls.proofs.Counted.{code_counted, stands_count}
 use Rattle.ebr_calls.proofs.Going.{after_later, all_more, asks_where, less_after, usable_after}
 use Rattle.ebr_calls.proofs.Runs.{asking_last, drop_all, lines_more, open_with}

@@ -27,7 +27,8 @@ use Rattle.ebr_base.specs.Code.{code_text}
 use Rattle.ebr_calls.specs.Asked.{AreOfRun, IsCounted, IsOfRun}
 use Rattle.ebr_calls.proofs.Counted.{code_counted}
 use Rattle.ebr_calls.specs.Steps.{State, Step, then_run, less, asked, line_of, lines_of, printing, usable, behind, open_after, open_behind, asking, closing, ending, run_stands, run_on, run_of, run_valid, most_steps}
-use Rattle.ebr_calls.specs.Courses.{Course, Place, GoesOn, Asks, IsIn, Continues, state_at, later, after, with_answer, with_ask, place, finishing, Comes}
+use Rattle.ebr_calls.specs.Continuation.{Continues}
+use Rattle.ebr_calls.specs.Courses.{Course, Place, GoesOn, Asks, IsIn, state_at, later, after, with_answer, with_ask, place, finishing, Comes}
 use Rattle.ebr_calls.proofs.Going.{less_after, after_later, usable_after, all_more, asks_where}
 
 -- ---- lists

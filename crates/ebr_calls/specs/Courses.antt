@@ -2,7 +2,6 @@
 use Rattle.std.specs.Prelude.{ℕ, zero, suc, ◌≡◌, true, false, codes, List, [], ◌∷◌, ◌++◌, length, Option, Some, None}
 use Rattle.ebr_asks.specs.declared.ask.Ask.{Ask}
 use Rattle.ebr_asks.specs.declared.answer.Answer.{Answer}
-use Rattle.ebr_asks.specs.declared.answer.Answer.TheVariants as answer
 use Rattle.ebr_run.specs.Packages.{PackageState}
 use Rattle.ebr_run.specs.Run.{Seen}
 use Rattle.ebr_code.specs.Books.{Book}
@@ -14,6 +13,7 @@ use Rattle.ebr_machine.specs.declared.next.Next.TheVariants as next
 use Rattle.ebr_machine.specs.declared.machine.Machine.{Machine}
 use Rattle.ebr_machine.specs.Has.{Has}
 use Rattle.ebr_calls.specs.Asked.{IsCounted, IsOfRun}
+use Rattle.ebr_calls.specs.Continuation.{AllContinue}
 use Rattle.ebr_calls.specs.Steps.{State, Outcome, Step, Out, asked, ended, leaving, then_run, lines_of, most_steps, run_on, open_behind, ending, closing}
 
 -- What a session does by the answers still to come and the number of them after which it quits.
@@ -54,17 +54,6 @@ takes f x σ = f (x ∷ σ.coming) (later σ.quit)
 -- It makes this ask, and takes the answer.
 abbrev pub Asks : Course → Ask → Place → Type 0
 Asks f q p = GoesOn f (asked q (takes f)) p
-
--- an answer behind which the session goes on with its script
-abbrev pub Continues : Answer → Type 0
-Continues answer.DiskFault = ⊥
-Continues answer.NoMemory = ⊥
-Continues answer.Stopped = ⊥
-Continues x = Unit {0}
-
-abbrev pub AllContinue : List Answer → Type 0
-AllContinue [] = Unit {0}
-AllContinue (x ∷ xs) = Continues x × AllContinue xs
 
 -- A block runs, of which so many lines are printed: where it began, what it asked and was answered since, and what comes
 -- behind it.

@@ -12,7 +12,8 @@ ghost use Rattle.ebr_laws.specs.Served.{HasCodeOf};
 ghost use Rattle.ebr_code.specs.Units.{Codes};
 ghost use Rattle.ebr_machine.specs.Has.{IsAsk, IsOut, SaysAsk};
 ghost use Rattle.ebr_calls.specs.Steps.{Step, lines_of, run_valid, then_run};
-ghost use Rattle.ebr_calls.specs.Courses.{Comes, Continues, Course, GoesOn, IsIn, Place, place, with_answer};
+ghost use Rattle.ebr_calls.specs.Continuation.{Continues};
+ghost use Rattle.ebr_calls.specs.Courses.{Comes, Course, GoesOn, IsIn, Place, place, with_answer};
 ghost use Rattle.ebr_calls.specs.Levels.{OpensBy};
 
 use crate::levels::Levels;

@@ -1,5 +1,5 @@
 -- The keeper with which a history began beside the one that it leaves.
-use Rattle.std.specs.Prelude.{◌≡◌, IsTrue, Bool, true, false, List, [], ◌∷◌, ◌++◌, Option, Some, None}
+use Rattle.std.specs.Prelude.{IsTrue, Bool, true, false, List, [], ◌∷◌, Option, Some, None}
 use Rattle.ebr_base.specs.declared.numbers.SessionId.{SessionId}
 use Rattle.ebr_asks.specs.declared.ask.Ask.{Ask}
 use Rattle.ebr_asks.specs.declared.answer.Answer.{Answer}
@@ -12,6 +12,7 @@ use Rattle.ebr_database.specs.declared.failure.Halt.TheVariants as why
 use Rattle.ebr_database.specs.Database.{Database}
 use Rattle.ebr_database.specs.Shows.{Grew, GaveUp, Holds}
 use Rattle.ebr_core.specs.Engine.{AnswersAsk, EngineState, first_of}
+use Rattle.ebr_core.specs.FirstRecords.{Begins}
 use Rattle.ebr_core.specs.History.{Acknowledged, Records, is_idle}
 
 -- why the engine gives up with an answer, if it does
@@ -32,11 +33,6 @@ or_else (Some cause) other = Some cause
 abbrev pub given_up_by : List Entry → Option Halt
 given_up_by [] = None
 given_up_by (x ∷ history) = or_else (cause_of x) (given_up_by history)
-
--- these records, and more
-pub record Begins (records l : List Record) : Type 0 where
-  pub more : List Record
-  pub is : l ≡ records ++ more
 
 -- It gave up while these records were to be kept, and the acknowledged ones are the first of those that were.
 pub record KeptUntil (old new : Keeper) (made acknowledged : List Record) (cause : Halt) : Type 0 where

@@ -5,6 +5,7 @@ pub mod ReadBack
 pub mod Asked
 pub mod Recovered
 pub mod Engine
+pub mod FirstRecords
 pub mod Kept
 pub mod Rebuilt
 pub mod Apart

@@ -8,12 +8,14 @@ use Rattle.ebr_asks.specs.declared.ask.Ask.{Ask}
 use Rattle.ebr_asks.specs.declared.ask.Ask.TheVariants as ask
 use Rattle.ebr_asks.specs.declared.entry.Exchange.{Exchange}
 use Rattle.ebr_code.specs.Books.{Book}
-use Rattle.ebr_calls.specs.Courses.{AllContinue, Continues, Course, GoesOn, place, with_answer}
+use Rattle.ebr_calls.specs.Continuation.{AllContinue, Continues}
+use Rattle.ebr_calls.specs.Courses.{Course, GoesOn, place, with_answer}
 use Rattle.ebr_session.specs.declared.next.NextAsk.{NextAsk}
 use Rattle.ebr_session.specs.declared.session.Phase.{Phase}
 use Rattle.ebr_session.specs.declared.session.Phase.TheVariants as phase
 use Rattle.ebr_session.specs.declared.work.Work.{Work}
-use Rattle.ebr_session.specs.Has.{Advances, Follows, IsPrefix, MakesAsk, Progress, Suits, answers, asks, is_leaving, is_short, printed_before}
+use Rattle.ebr_session.specs.Has.{Advances, Follows, MakesAsk, Progress, Suits, is_leaving, is_short}
+use Rattle.ebr_session.specs.Transcripts.{IsPrefix, answers, asks, printed_before}
 use Rattle.ebr_session.specs.inside.Kept.{HasRoom, Kept, last_of}
 use Rattle.ebr_session.specs.inside.Requests.{Reading, rest_of}
 use Rattle.ebr_session.specs.inside.Stages.{Awaits, IsReady, here}

@@ -21,14 +21,16 @@ use Rattle.ebr_script.specs.declared.piece.PieceKind.{PieceKind}
 use Rattle.ebr_script.specs.declared.piece.PieceKind.TheVariants as piece
 use Rattle.ebr_script.specs.Pieces.{text_of}
 use Rattle.ebr_calls.specs.Steps.{Step, asked, closing, ending, leaving, printing, printing_result, result_lines, run_valid, then_run}
-use Rattle.ebr_calls.specs.Courses.{Asks, AsksNext, Continues, Course, GoesOn, Place, place, with_answer, with_ask}
+use Rattle.ebr_calls.specs.Continuation.{Continues}
+use Rattle.ebr_calls.specs.Courses.{Asks, AsksNext, Course, GoesOn, Place, place, with_answer, with_ask}
 use Rattle.ebr_calls.proofs.Going.{asks_next, asks_then, goes_answered, goes_printed, leaves_next}
 use Rattle.ebr_calls.proofs.NextAsks.{begins_next, goes_next}
 use Rattle.ebr_session.specs.declared.after.After.{After}
 use Rattle.ebr_session.specs.declared.after.After.TheVariants as after
 use Rattle.ebr_session.specs.declared.work.Stage.{Stage}
 use Rattle.ebr_session.specs.declared.work.Stage.TheVariants as stage
-use Rattle.ebr_session.specs.Has.{IsFit, IsPrefix, Suits}
+use Rattle.ebr_session.specs.Has.{IsFit, Suits}
+use Rattle.ebr_session.specs.Transcripts.{IsPrefix}
 use Rattle.ebr_session.specs.Sessions.{printing_edition, run_piece, run_pieces, run_statement}
 use Rattle.ebr_session.specs.inside.Requests.{Stays, behind, packages_behind}
 use Rattle.ebr_session.specs.inside.Stages.{Awaits, IsReady}

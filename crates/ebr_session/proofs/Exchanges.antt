@@ -3,9 +3,10 @@ use Rattle.std.proofs.Common.{ℕ, zero, suc, ◌≡◌, List, [], ◌∷◌, �
 use Rattle.std.proofs.lemmas.List.{map-append}
 use Rattle.ebr_asks.specs.declared.answer.Answer.{Answer}
 use Rattle.ebr_asks.specs.declared.entry.Exchange.{Exchange}
-use Rattle.ebr_calls.specs.Courses.{AllContinue, Continues, after, later, with_answer}
+use Rattle.ebr_calls.specs.Continuation.{AllContinue, Continues}
+use Rattle.ebr_calls.specs.Courses.{after, later, with_answer}
 use Rattle.ebr_calls.proofs.Going.{after_later}
-use Rattle.ebr_session.specs.Has.{answers, asks}
+use Rattle.ebr_session.specs.Transcripts.{answers, asks}
 use Rattle.ebr_session.specs.Sessions.{SessionRun}
 use Rattle.ebr_session.specs.inside.Holds.{course_behind}
 

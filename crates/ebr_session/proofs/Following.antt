@@ -12,11 +12,13 @@ use Rattle.ebr_asks.specs.declared.answer.Answer.TheVariants as answer
 use Rattle.ebr_asks.specs.declared.entry.Exchange.{Exchange}
 use Rattle.ebr_code.specs.Books.{Book}
 use Rattle.ebr_calls.specs.Steps.{Out, Ended, Outcome, ended, leaving}
-use Rattle.ebr_calls.specs.Courses.{AllContinue, Asks, AsksNext, Continues, Course, GoesOn, Place, place, state_at, with_answer, with_ask}
+use Rattle.ebr_calls.specs.Continuation.{AllContinue, Continues}
+use Rattle.ebr_calls.specs.Courses.{Asks, AsksNext, Course, GoesOn, Place, place, state_at, with_answer, with_ask}
 use Rattle.ebr_calls.proofs.Going.{goes_short, leaves_next}
 use Rattle.ebr_session.specs.declared.session.Phase.{Phase}
 use Rattle.ebr_session.specs.declared.session.Phase.TheVariants as phase
-use Rattle.ebr_session.specs.Has.{Made, Follows, GoesBehind, HasAsked, HasPrinted, IsPrefix, Suits, answers, asks, ends, exchange, is_short, printed_before, stops, wants}
+use Rattle.ebr_session.specs.Has.{Made, Follows, GoesBehind, HasAsked, HasPrinted, Suits, is_short, wants}
+use Rattle.ebr_session.specs.Transcripts.{IsPrefix, answers, asks, ends, exchange, printed_before, stops}
 use Rattle.ebr_session.specs.declared.work.Stage.TheVariants as stage
 use Rattle.ebr_session.specs.declared.work.Work.{Work}
 use Rattle.ebr_session.specs.Sessions.{Printed, SessionRun, most_room, run_pieces}

@@ -6,10 +6,11 @@ use Rattle.ebr_asks.specs.declared.ask.Ask.TheVariants as ask
 use Rattle.ebr_asks.specs.declared.answer.Answer.{Answer}
 use Rattle.ebr_asks.specs.declared.answer.Answer.TheVariants as answer
 use Rattle.ebr_code.specs.Books.{Book}
-use Rattle.ebr_calls.specs.Courses.{Continues}
+use Rattle.ebr_calls.specs.Continuation.{Continues}
 use Rattle.ebr_session.specs.declared.session.Phase.{Phase}
 use Rattle.ebr_session.specs.declared.session.Phase.TheVariants as phase
-use Rattle.ebr_session.specs.Has.{Suits, answered, ends, exchange, quitting, stops}
+use Rattle.ebr_session.specs.Has.{Suits, answered, quitting}
+use Rattle.ebr_session.specs.Transcripts.{ends, exchange, stops}
 use Rattle.ebr_session.specs.inside.Kept.{HasRoom, Kept}
 use Rattle.ebr_session.specs.inside.Holds.{HasQuit, Holds, Parts, Waits, is_over, out_of, phase_behind, phase_by, progress}
 use Rattle.ebr_session.specs.inside.Requests.{Stays}

@@ -1,5 +1,5 @@
 -- Where a session stands, as its callers see it, and what it has done by then.
-use Rattle.std.specs.Prelude.{ℕ, zero, suc, ◌≡◌, ◌≤◌, ◌⊎◌, ◌||◌, Bool, true, false, List, [], ◌∷◌, ◌++◌, length, map, take, Option, Some, None, IfSome, is_some, Result, Ok, Err}
+use Rattle.std.specs.Prelude.{ℕ, ◌≡◌, ◌≤◌, ◌⊎◌, ◌||◌, Bool, true, false, List, [], ◌∷◌, ◌++◌, length, take, Option, Some, None, IfSome, is_some, Result, Ok, Err}
 use Rattle.std.specs.List.{list_any}
 use Rattle.ebr_base.specs.declared.clone_in.NoMemory.{NoMemory}
 use Rattle.ebr_base.specs.declared.numbers.EditionNo.{EditionNo}
@@ -15,20 +15,11 @@ use Rattle.ebr_asks.specs.declared.entry.Exchange.{Exchange}
 use Rattle.ebr_code.specs.Books.{Book}
 use Rattle.ebr_laws.specs.Served.{HasCodeOf}
 use Rattle.ebr_calls.specs.Steps.{Outcome, Flow, Out, Ended, most_steps}
-use Rattle.ebr_calls.specs.Courses.{AllContinue}
+use Rattle.ebr_calls.specs.Continuation.{AllContinue}
 use Rattle.ebr_session.specs.declared.next.NextAsk.{NextAsk}
 use Rattle.ebr_session.specs.declared.next.NextAsk.TheVariants as next
 use Rattle.ebr_session.specs.Sessions.{SessionRun, Printed}
-
--- the asks and the answers of a transcript
-abbrev pub asks : List Exchange → List Ask
-asks mine = map (λ (x : Exchange). x.ask) mine
-
-abbrev pub answers : List Exchange → List Answer
-answers mine = map (λ (x : Exchange). x.answer) mine
-
-abbrev pub exchange : Ask → Answer → Exchange
-exchange q x = record { ask = q; answer = x }
+use Rattle.ebr_session.specs.Transcripts.{IsPrefix, answers, asks, ends, exchange, printed_before}
 
 -- Where a session stands.
 pub record Progress : Type 0 where
@@ -44,17 +35,6 @@ pub record Progress : Type 0 where
 
 abbrev pub begun : SessionId → List ℕ → Progress
 begun id script = record { session = id; script = script; transcript = []; printed = []; quit = None; out = None; ended = false }
-
--- an answer after which a session goes on with nothing
-abbrev pub stops : Answer → Bool
-stops answer.DiskFault = true
-stops answer.Stopped = true
-stops x = false
-
--- whether a session ends with this answer to its ask
-abbrev pub ends : Ask → Answer → Bool
-ends ask.Leave x = true
-ends q x = stops x
 
 -- an answer behind which a session is to leave
 abbrev pub wants : Answer → Bool
@@ -101,10 +81,6 @@ Suits serves (answer.View v) (Some b) = IsInOrder v × HasCodeOf v (serves b v.e
 Suits serves (answer.View v) None = ⊥
 Suits serves x book = Unit {0}
 
-pub record IsPrefix (xs ys : List ℕ) : Type 0 where
-  pub rest : List ℕ
-  pub whole : ys ≡ xs ++ rest
-
 -- The next ask is out. A session that is to leave does so, and prints nothing more.
 pub record MakesAsk (q : Ask) (old new : Progress) : Type 0 where
   pub goes_on : old.ended ≡ false
@@ -124,11 +100,6 @@ Advances (Err e) old new = (old.ended ≡ false) × (is_leaving old ≡ false) �
 -- what its script does with the answers that it took
 abbrev pub run_of : Progress → Outcome
 run_of s = SessionRun s.script (answers s.transcript) s.quit
-
--- what a script prints for all but the last of so many answers; nothing where there is none
-abbrev pub printed_before : List ℕ → List Answer → ℕ → List ℕ
-printed_before script given zero = []
-printed_before script given (suc n) = Printed script (take n given)
 
 -- The run stands so, and has made just these asks.
 pub record Made (flow : Flow) (made : List Ask) (s : Progress) : Type 0 where

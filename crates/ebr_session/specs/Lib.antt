@@ -1,3 +1,4 @@
 pub mod Sessions
+pub mod Transcripts
 pub mod Has
 pub mod inside

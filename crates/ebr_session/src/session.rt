@@ -4,13 +4,14 @@ ghost use Rattle.std.specs.Prelude.{◌≡◌, ◌≤◌, ℕ, [], ◌∷◌, �
 ghost use Rattle.std.specs.Prelude.{List as Sequence};
 ghost use Rattle.std.specs.Option.{option_copied};
 ghost use Rattle.ebr_asks.specs.declared.ask.Ask as asked;
-ghost use Rattle.ebr_calls.specs.Courses.{Continues, Course, GoesOn, place, with_answer};
-ghost use Rattle.ebr_session.specs.Has as spec;
+ghost use Rattle.ebr_calls.specs.Continuation.{Continues};
+ghost use Rattle.ebr_calls.specs.Courses.{Course, GoesOn, place, with_answer};
 ghost use Rattle.ebr_session.specs.Has.{Advances, Follows, Suits, answered, begun, most_bytes, quitting};
 ghost use Rattle.ebr_session.specs.inside.Holds as inside;
 ghost use Rattle.ebr_session.specs.inside.Kept.{HasRoom, last_of};
 ghost use Rattle.ebr_session.specs.inside.Requests.{rest_of};
 ghost use Rattle.ebr_session.specs.inside.Stages.{Awaits, IsReady, here};
+ghost use Rattle.ebr_session.specs.Transcripts as transcripts;
 
 use crate::held::{put, twice, value_if_done};
 use crate::next::NextAsk;
@@ -267,7 +268,7 @@ fn ask_next<B: CodeBook + Drop>(
 
 /// Whether a session ends with this answer to its ask.
 fn ends(ask: &Ask, answer: &Answer) -> bool
-    ensures { result ≡ spec.ends ask.now answer.now }
+    ensures { result ≡ transcripts.ends ask.now answer.now }
 {
     match ask {
         Ask::Leave => true,
@@ -277,7 +278,7 @@ fn ends(ask: &Ask, answer: &Answer) -> bool
 
 /// Whether a session goes on with nothing after this answer.
 fn stops(answer: &Answer) -> bool
-    ensures { result ≡ spec.stops answer.now }
+    ensures { result ≡ transcripts.stops answer.now }
 {
     matches!(answer, Answer::DiskFault | Answer::Stopped)
 }

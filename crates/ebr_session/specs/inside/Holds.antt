@@ -9,11 +9,13 @@ use Rattle.ebr_code.specs.Books.{Book}
 use Rattle.ebr_asks.specs.declared.answer.Answer.{Answer}
 use Rattle.ebr_asks.specs.declared.answer.Answer.TheVariants as answer
 use Rattle.ebr_calls.specs.Steps.{leaving}
-use Rattle.ebr_calls.specs.Courses.{AllContinue, AsksNext, Course, GoesOn, Place, after, place}
+use Rattle.ebr_calls.specs.Continuation.{AllContinue}
+use Rattle.ebr_calls.specs.Courses.{AsksNext, Course, GoesOn, Place, after, place}
 use Rattle.ebr_session.specs.declared.session.Phase.{Phase}
 use Rattle.ebr_session.specs.declared.session.Phase.TheVariants as phase
 use Rattle.ebr_session.specs.declared.work.Work.{Work}
-use Rattle.ebr_session.specs.Has.{Follows, GoesBehind, IsPrefix, IsShort, Progress, Suits, answers, asks, printed_before}
+use Rattle.ebr_session.specs.Has.{Follows, GoesBehind, IsShort, Progress, Suits}
+use Rattle.ebr_session.specs.Transcripts.{IsPrefix, answers, asks, printed_before}
 use Rattle.ebr_session.specs.Sessions.{SessionRun}
 use Rattle.ebr_session.specs.inside.Kept.{HasRoom, Kept}
 use Rattle.ebr_session.specs.inside.Requests.{Reading, rest_of}
