@@ -10,8 +10,8 @@ use Rattle.ebr_record.specs.declared.record.Record.{Record}
 use Rattle.ebr_record.specs.Keeper.{Keeper, share, max_journal, IsAtRest, Becomes, WithOrWithout}
 use Rattle.ebr_record.specs.Keeper as keeper
 use Rattle.ebr_encoding.specs.declared.form.Form.{Form}
-use Rattle.ebr_journal.specs.Journal.{Layout, form_of, records_in, share_in}
-use Rattle.ebr_journal.specs.Keeper.{kept, keeper_of, HasFront, IsSettled, IsSound, Appends}
+use Rattle.ebr_journal.specs.Journal.{Layout, form_of, last_gate, records_in, share_in}
+use Rattle.ebr_journal.specs.Keeper.{beside, kept, keeper_of, HasFront, IsSettled, IsSound, Appends}
 use Rattle.ebr_journal.specs.Crash.{Puts, added}
 use Rattle.ebr_journal.proofs.Gates.{has_front}
 use Rattle.ebr_journal.proofs.Layouts.{added_records, added_form, used_more, bounds}
@@ -41,20 +41,23 @@ module _ (m : Medium) (gate used : ℕ) (form : Form) (stopped : Bool) (r : Reco
     back : IsTrue new.tells → IsTrue m.tells
     back told = subst IsTrue goes.tells told
 
+    -- the next gate leaves room
+    room : (gate + share_in form r ≤ last_gate form) × (gate + share_in form r + beside form ≤ used + share r)
+    room = bounds form gate used r sound.room fits
+
     module _ (gate' used' : ℕ) (gate_is : gate' ≡ gate + share_in form r) (used_is : used' ≡ used + share r)
-        (puts : IsTrue m.tells → (l : Layout) → IsSettled m gate l → form ≡ form_of l.long → Puts m gate (share_in form r) l (added l r) (Ok tt) new) where
+        (puts : IsTrue m.tells → (l : Layout) → IsSettled m gate l → form ≡ form_of l.long → gate + share_in form r ≤ last_gate form → Puts m gate (share_in form r) l (added l r) (Ok tt) new) where
       settled : (told : IsTrue m.tells) → IsSettled new gate' (added (sound.kept told).layout r)
       settled told =
           let k' = sound.kept told in
-          let holds : IsSettled new (gate + share_in form r) (added k'.layout r) = (puts told k'.layout (k'.settled going) k'.follows).holds in
-          record { ends = holds.ends; place = gate_is ∙ holds.place; only = holds.only }
+          let holds : IsSettled new (gate + share_in form r) (added k'.layout r) = (puts told k'.layout (k'.settled going) k'.follows room.0).holds in
+          record { safe = holds.safe; place = gate_is ∙ holds.place; only = holds.only }
 
       front : (told : IsTrue m.tells) → HasFront new.reads gate' (added (sound.kept told).layout r)
-      front told = let s = settled told in has_front (added (sound.kept told).layout r) gate' s.place new.reads s.ends
+      front told = let s = settled told in has_front (added (sound.kept told).layout r) gate' s.place new.reads s.safe.ends
 
       pub grown : IsSound new gate' used' form false
       grown =
-          let room = bounds form gate used r sound.room fits in
           record {
             least = omega (arith, gate_is, sound.least);
             within = omega (arith, gate_is, room.0);
@@ -86,12 +89,12 @@ module _ (m : Medium) (gate used : ℕ) (form : Form) (stopped : Bool) (r : Reco
         };
         rest = at_rest new gate' used' form false law' grown;
         moments = λ told. let k' = sound.kept told in
-            passes_more m new gate used gate' used' stopped false k'.layout (added k'.layout r) (k'.settled going) (puts told k'.layout (k'.settled going) k'.follows).time k'.front r (added_records k'.layout r);
+            passes_more m new gate used gate' used' stopped false k'.layout (added k'.layout r) (k'.settled going) (puts told k'.layout (k'.settled going) k'.follows room.0).time k'.front r (added_records k'.layout r);
       }
 
-    module _ (e : DiskErr) (puts : IsTrue m.tells → (l : Layout) → IsSettled m gate l → form ≡ form_of l.long → Puts m gate (share_in form r) l (added l r) (Err e) new) where
+    module _ (e : DiskErr) (puts : IsTrue m.tells → (l : Layout) → IsSettled m gate l → form ≡ form_of l.long → gate + share_in form r ≤ last_gate form → Puts m gate (share_in form r) l (added l r) (Err e) new) where
       front_left : (told : IsTrue m.tells) → HasFront new.reads gate (sound.kept told).layout
-      front_left told = let k' = sound.kept told in (puts told k'.layout (k'.settled going) k'.follows).holds
+      front_left told = let k' = sound.kept told in (puts told k'.layout (k'.settled going) k'.follows room.0).holds
 
       pub broken : IsSound new gate used form true
       broken = record {
@@ -116,7 +119,7 @@ module _ (m : Medium) (gate used : ℕ) (form : Form) (stopped : Bool) (r : Reco
 
       time : IsTrue m.tells → keeper.Passes k (keeper_of new gate used true) (WithOrWithout k.records r)
       time told = let k' = sound.kept told in
-          passes_more m new gate used gate used stopped true k'.layout (added k'.layout r) (k'.settled going) (puts told k'.layout (k'.settled going) k'.follows).time k'.front r (added_records k'.layout r)
+          passes_more m new gate used gate used stopped true k'.layout (added k'.layout r) (k'.settled going) (puts told k'.layout (k'.settled going) k'.follows room.0).time k'.front r (added_records k'.layout r)
 
       pub disk_failed : Rises m.faults new.faults → Appends k (keeper_of new gate used true) r (Err fault.DiskFault)
       disk_failed rises = record { why = (going, fits, rises); after = becomes fault.DiskFault refl; rest = at_rest new gate used form true law' broken; moments = time }

@@ -7,8 +7,7 @@ use Rattle.ebr_record.specs.declared.record.Record.{Record}
 use Rattle.ebr_encoding.specs.declared.form.Form.{Form}
 use Rattle.ebr_encoding.specs.declared.form.Form.TheVariants.{Short, Long}
 use Rattle.ebr_journal.specs.declared.found.Found.{Found}
-use Rattle.ebr_journal.specs.Journal.{entry, mark, MayAllStand, Layout, long_in, form_of, behind_short, front, IsBlank, Ends, walked, with_first, laid_out}
-use Rattle.ebr_journal.specs.Keeper.{last_gate}
+use Rattle.ebr_journal.specs.Journal.{entry, mark, MayAllStand, Layout, long_in, form_of, behind_short, front, last_gate, IsBlank, Ends, walked, with_first, laid_out}
 use Rattle.ebr_journal.specs.Found.{Holds, HasNoRoom, IsBadRecord, IsDamaged, IsRecordAt, IsWhole, LeadsTo, StandsWhole}
 use Rattle.ebr_journal.proofs.Records.{walked_past, laid_out_past, laid_out_all, recovered_ends}
 use Rattle.ebr_journal.proofs.Reading.{leads_end}
@@ -47,7 +46,7 @@ laid_mark m n records rest is all = ap (λ (l : List Record). record { short = [
 -- ---- what stands behind them
 
 -- a record of the form, or where no mark came before, the mark
-abbrev Next : List ℕ → ℕ → Form → Type 0
+abbrev pub Next : List ℕ → ℕ → Form → Type 0
 Next b at form = ((r : Record) × IsRecordAt b at form r) ⊎ ((form ≡ Short) × StandsWhole b at mark)
 
 there_is : (b : List ℕ) (at : ℕ) (piece more : List ℕ) → drop at b ≡ piece ++ more → 0 < length more → StandsWhole b at piece
@@ -113,7 +112,7 @@ module _ (b : List ℕ) (l : Layout) (ends : Ends b l) (at : ℕ) where
     from_there more is =
         ap (λ (x : List ℕ). drop at x) ends.is ∙ ap (λ (k : ℕ). drop k (1 ∷ all)) place ∙ ap (λ (x : List ℕ). drop (length fronts) x) is ∙ drop_at fronts more (length fronts) refl
 
-  next_of : (short : List Record) (long : Option (List Record)) → LeadsTo b (record { short = short; long = long }) at → get_or b at 0 ≡ 1 → Next b at (form_of long)
+  pub next_of : (short : List Record) (long : Option (List Record)) → LeadsTo b (record { short = short; long = long }) at → get_or b at 0 ≡ 1 → Next b at (form_of long)
   next_of short None leads opened =
       let t = laid_out many (drop at b) in
       let fronts = shorts short ++ [] in
@@ -148,7 +147,7 @@ module _ (b : List ℕ) (l : Layout) (ends : Ends b l) (at : ℕ) where
       let spelled : MayAllStand Long t = later_stand Long long t (subst (λ (x : Layout). MayAllStand Long (long_in x.long)) is ends.spelled.long) in
       next_long b at ends.gate ends.rest t (from_there fronts leads.front leads.place (longs t ++ ends.gate ∷ ends.rest) shape) ends.closed spelled opened
 
-first_is : (b : List ℕ) (l : Layout) (at : ℕ) → LeadsTo b l at → get_or b 0 0 ≡ 1
+pub first_is : (b : List ℕ) (l : Layout) (at : ℕ) → LeadsTo b l at → get_or b 0 0 ≡ 1
 first_is b l at leads = sym (get_or-take at b 0 0 (omega (arith, leads.place))) ∙ ap (λ (x : List ℕ). get_or x 0 0) leads.front
 
 not_blank : (b : List ℕ) (l : Layout) (at : ℕ) → LeadsTo b l at → IsBlank b → ⊥

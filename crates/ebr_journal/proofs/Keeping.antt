@@ -5,7 +5,7 @@ use Rattle.ebr_record.specs.declared.record.Record.{Record}
 use Rattle.ebr_record.specs.Keeper.{Keeper, used_by, IsAtRest, LeavesJust, WithOrWithout, kept_after}
 use Rattle.ebr_record.specs.Keeper as keeper
 use Rattle.ebr_encoding.specs.declared.form.Form.{Form}
-use Rattle.ebr_journal.specs.Journal.{Layout, records_in, Ends, HasRecords}
+use Rattle.ebr_journal.specs.Journal.{Layout, records_in, IsSafe, HasRecords}
 use Rattle.ebr_journal.specs.Keeper.{kept, keeper_of, AreThese, HasFront, HasNoOther, IsSettled, IsKept, IsSound}
 use Rattle.ebr_journal.specs.Crash.{IsBeforeOrAfter}
 use Rattle.ebr_journal.proofs.Records.{recovered_is, recovered_ends}
@@ -44,13 +44,13 @@ more_told b b' same x x' r is = subst (λ (c : Bool). (if c then Some x' else No
     by true is = ap (λ (l : List Record). Some l) (is refl)
     by false is = refl
 
--- bytes that end so have these records
-of_ends : (image : List ℕ) (l : Layout) → Ends image l → HasRecords image (records_in l)
-of_ends image l ends = inr (record { layout = l; ends = ends; are = refl })
+-- bytes with this layout have these records
+of_safe : (image : List ℕ) (l : Layout) → IsSafe image l → HasRecords image (records_in l)
+of_safe image l safe = inr (record { layout = l; safe = safe; are = refl })
 
 -- and no others
-ends_are : (image : List ℕ) (k : List Record) (l : Layout) → HasRecords image k → Ends image l → k ≡ records_in l
-ends_are image k l found ends = sym (recovered_is image k found) ∙ ap records_in (recovered_ends image l ends)
+they_are : (image : List ℕ) (k : List Record) (l : Layout) → HasRecords image k → IsSafe image l → k ≡ records_in l
+they_are image k l found safe = sym (recovered_is image k found) ∙ ap records_in (recovered_ends image l safe.ends)
 
 -- between two calls
 pub at_rest : (m : Medium) (gate used : ℕ) (form : Form) (stopped : Bool) → (IsTrue m.tells → LeavesNow m m.reads) → IsSound m gate used form stopped → IsAtRest (keeper_of m gate used stopped)
@@ -65,15 +65,15 @@ at_rest m gate used form stopped law sound = record {
     just told k going l =
         let s = k.settled going in
         let is = kept_is m.reads gate k.layout k.front in (
-          λ left. sym (left.2 (records_in k.layout) (of_ends left.0 k.layout (subst (λ (b : List ℕ). Ends b k.layout) (sym (s.only left.0 left.1)) s.ends))) ∙ sym is,
-          λ same. (m.reads, law told, λ others has. ends_are m.reads others k.layout has s.ends ∙ sym (same ∙ is)),
+          λ left. sym (left.2 (records_in k.layout) (of_safe left.0 k.layout (subst (λ (b : List ℕ). IsSafe b k.layout) (sym (s.only left.0 left.1)) s.safe))) ∙ sym is,
+          λ same. (m.reads, law told, λ others has. they_are m.reads others k.layout has s.safe ∙ sym (same ∙ is)),
         )
 
 -- what a crash leaves at the moments of a call, as lists of records
 module _ (old new : Medium) (gate used gate' used' : ℕ) (was stopped : Bool) (l next : Layout) (settled : IsSettled old gate l) (time : Passes old new (IsBeforeOrAfter l next)) where
   module _ (Q : List Record → Type 0) (means : (image : List ℕ) (k : List Record) → HasNoOther image k → IsBeforeOrAfter l next image → Q k) where
     here : (image : List ℕ) → LeavesNow old image → IsBeforeOrAfter l next image
-    here image left = inl (subst (λ (b : List ℕ). Ends b l) (sym (settled.only image left)) settled.ends)
+    here image left = inl (subst (λ (b : List ℕ). IsSafe b l) (sym (settled.only image left)) settled.safe)
 
     passes : keeper.Passes (keeper_of old gate used was) (keeper_of new gate' used' stopped) Q
     passes = record {
@@ -91,12 +91,12 @@ module _ (old new : Medium) (gate used gate' used' : ℕ) (was stopped : Bool) (
     passes_more r more = passes (WithOrWithout (keeper_of old gate used was).records r) (λ image k none either. or_told old.tells (kept old.reads gate) k r (one image k none either))
       where
         one : (image : List ℕ) (k : List Record) → HasNoOther image k → IsBeforeOrAfter l next image → (k ≡ kept old.reads gate) ⊎ (k ≡ kept old.reads gate ++ r ∷ [])
-        one image k none (inl before) = inl (sym (none (records_in l) (of_ends image l before)) ∙ sym is)
-        one image k none (inr after) = inr (sym (none (records_in next) (of_ends image next after)) ∙ more ∙ ap (λ (x : List Record). x ++ r ∷ []) (sym is))
+        one image k none (inl before) = inl (sym (none (records_in l) (of_safe image l before)) ∙ sym is)
+        one image k none (inr after) = inr (sym (none (records_in next) (of_safe image next after)) ∙ more ∙ ap (λ (x : List Record). x ++ r ∷ []) (sym is))
 
     pub passes_same : records_in next ≡ records_in l → keeper.Passes (keeper_of old gate used was) (keeper_of new gate' used' stopped) (AreThese (keeper_of old gate used was).records)
     passes_same same = passes (AreThese (keeper_of old gate used was).records) (λ image k none either. these_told old.tells (kept old.reads gate) k (one image k none either))
       where
         one : (image : List ℕ) (k : List Record) → HasNoOther image k → IsBeforeOrAfter l next image → k ≡ kept old.reads gate
-        one image k none (inl before) = sym (none (records_in l) (of_ends image l before)) ∙ sym is
-        one image k none (inr after) = sym (none (records_in next) (of_ends image next after)) ∙ same ∙ sym is
+        one image k none (inl before) = sym (none (records_in l) (of_safe image l before)) ∙ sym is
+        one image k none (inr after) = sym (none (records_in next) (of_safe image next after)) ∙ same ∙ sym is

@@ -12,8 +12,8 @@ use Rattle.ebr_record.specs.Payload.{HasPayload, IsOfFew, payload}
 use Rattle.ebr_encoding.specs.declared.form.Form.{Form}
 use Rattle.ebr_encoding.specs.declared.form.Form.TheVariants.{Short, Long}
 use Rattle.ebr_encoding.specs.Spelled.{HasForm, changes_of}
-use Rattle.ebr_journal.specs.Journal.{body, entry, share_in, mark, mark_body, MayStand, MayAllStand, Layout, long_in, form_of, front, records_in, AreSpelled}
-use Rattle.ebr_journal.specs.Keeper.{last_gate, beside}
+use Rattle.ebr_journal.specs.Journal.{body, entry, share_in, mark, mark_body, MayStand, MayAllStand, Layout, long_in, form_of, front, last_gate, records_in, AreSpelled}
+use Rattle.ebr_journal.specs.Keeper.{beside}
 use Rattle.ebr_journal.specs.Crash.{added_to, added, marked, IsNext, IsPiece}
 use Rattle.ebr_journal.specs.Found.{head}
 use Rattle.ebr_journal.proofs.Records.{length-entry}
@@ -68,14 +68,30 @@ pub added_spelled : (short : List Record) (long : Option (List Record)) (r : Rec
 added_spelled short None r all one = record { short = all_more Short short r all.short one; long = tt }
 added_spelled short (Some long) r all one = record { short = all.short; long = all_more Long long r all.long one }
 
-pub added_next : (l : Layout) (r : Record) (form : Form) (piece : List ℕ) → form ≡ form_of l.long → HasForm form r → IsPiece form piece r → AreSpelled l → IsNext l (added l r) piece
-added_next l r form piece follows has is_piece all =
+added_form_to : (short : List Record) (long : Option (List Record)) (r : Record) → form_of (added_to short long r).long ≡ form_of long
+added_form_to short None r = refl
+added_form_to short (Some long) r = refl
+
+pub added_form : (l : Layout) (r : Record) → form_of (added l r).long ≡ form_of l.long
+added_form l r = added_form_to l.short l.long r
+
+added_room : (l : Layout) (r : Record) (form : Form) → form ≡ form_of l.long → length (front l) + share_in form r ≤ last_gate form → length (front (added l r)) ≤ last_gate (form_of (added l r).long)
+added_room l r form follows room =
+    let grown : length (front (added l r)) ≡ length (front l) + share_in (form_of l.long) r =
+    ap length (added_front l.short l.long r) ∙ length-append (front l) (entry (form_of l.long) r) ∙ ap (λ (n : ℕ). length (front l) + n) (length-entry (form_of l.long) r) in
+    let fits : length (front l) + share_in (form_of l.long) r ≤ last_gate (form_of l.long) = subst (λ (f : Form). length (front l) + share_in f r ≤ last_gate f) follows room in
+    subst (λ (f : Form). length (front (added l r)) ≤ last_gate f) (sym (added_form l r)) (omega (arith, grown, fits))
+
+pub added_next : (l : Layout) (r : Record) (form : Form) (piece : List ℕ) → form ≡ form_of l.long → HasForm form r → IsPiece form piece r → AreSpelled l → length (front l) + share_in form r ≤ last_gate form
+    → IsNext l (added l r) piece
+added_next l r form piece follows has is_piece all room =
     let may : MayStand (form_of l.long) r = subst (λ (f : Form). MayStand f r) follows (record { spelled = is_piece.spelled; fits = has }) in
     record {
       behind = body form r;
       is = is_piece.is;
       grows = added_front l.short l.long r ∙ ap (λ (f : Form). front l ++ entry f r) (sym follows);
       spelled = added_spelled l.short l.long r all may;
+      room = added_room l r form follows room;
     }
 
 added_records_to : (short : List Record) (long : Option (List Record)) (r : Record) → records_in (added_to short long r) ≡ (short ++ long_in long) ++ r ∷ []
@@ -84,13 +100,6 @@ added_records_to short (Some long) r = sym (append_assoc short long (r ∷ []))
 
 pub added_records : (l : Layout) (r : Record) → records_in (added l r) ≡ records_in l ++ r ∷ []
 added_records l r = added_records_to l.short l.long r
-
-added_form_to : (short : List Record) (long : Option (List Record)) (r : Record) → form_of (added_to short long r).long ≡ form_of long
-added_form_to short None r = refl
-added_form_to short (Some long) r = refl
-
-pub added_form : (l : Layout) (r : Record) → form_of (added l r).long ≡ form_of l.long
-added_form l r = added_form_to l.short l.long r
 
 pub used_more : (records : List Record) (r : Record) → used_by (records ++ r ∷ []) ≡ used_by records + share r
 used_more records r = omega (arith, sum_by_push share records r)
@@ -113,5 +122,14 @@ pub marked_front : (short : List Record) (long : Option (List Record)) → form_
 marked_front short None unmarked = ap (λ (l : List ℕ). 1 ∷ l) (ap (λ (l : List ℕ). l ++ mark) (sym (append-nil (flat_map (entry Short) short))))
 marked_front short (Some long) unmarked = absurd (long_is_not_short unmarked)
 
-pub marked_next : (l : Layout) → form_of l.long ≡ Short → AreSpelled l → IsNext l (marked l) (mark_body ++ 0 ∷ [])
-marked_next l unmarked all = record { behind = mark_body; is = refl; grows = marked_front l.short l.long unmarked; spelled = record { short = all.short; long = all.long } }
+pub marked_next : (l : Layout) → form_of l.long ≡ Short → AreSpelled l → length (front l) ≤ last_gate (form_of l.long) → IsNext l (marked l) (mark_body ++ 0 ∷ [])
+marked_next l unmarked all room =
+    let grown : length (front (marked l)) ≡ length (front l) + 7 = ap length (marked_front l.short l.long unmarked) ∙ length-append (front l) mark in
+    let fits : length (front l) ≤ last_gate Short = subst (λ (f : Form). length (front l) ≤ last_gate f) unmarked room in
+    record {
+      behind = mark_body;
+      is = refl;
+      grows = marked_front l.short l.long unmarked;
+      spelled = record { short = all.short; long = all.long };
+      room = omega (arith, grown, fits);
+    }

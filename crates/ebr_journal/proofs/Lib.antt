@@ -13,3 +13,5 @@ pub mod Making
 pub mod Opening
 pub mod Starting
 pub mod Damage
+pub mod Places
+pub mod Deciding

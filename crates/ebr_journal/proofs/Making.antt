@@ -5,7 +5,7 @@ use Rattle.std.proofs.lemmas.List.{length-take}
 use Rattle.std.proofs.lemmas.Bool.{cases_eq}
 use Rattle.ebr_outside.specs.declared.disk.DiskErr.{DiskErr}
 use Rattle.ebr_outside.specs.Disk.{Medium, LeavesLess, LeavesNow, Torn, Cut, written, Passes, Writes, Shortens, Syncs}
-use Rattle.ebr_journal.specs.Journal.{none_yet, IsBlank, Ends, HasRecords}
+use Rattle.ebr_journal.specs.Journal.{none_yet, IsBlank, IsSafe, HasRecords}
 use Rattle.ebr_journal.specs.Start.{IsFresh, Makes, Spans}
 use Rattle.ebr_journal.proofs.Moments.{begins, goes_on, told_after}
 
@@ -37,11 +37,15 @@ second_blank image torn = elim (cases_eq (length image) 2) [
   | inr other ↦ inl (omega (arith, torn.no_longer, other))
 ]
 
-made_journal : Ends (1 ∷ 0 ∷ []) none_yet
-made_journal = record { gate = 0; rest = []; closed = omega arith; is = refl; spelled = record { short = tt; long = tt } }
+made_journal : IsSafe (1 ∷ 0 ∷ []) none_yet
+made_journal = record {
+  ends = record { gate = 0; rest = []; closed = omega arith; is = refl; spelled = record { short = tt; long = tt } };
+  room = omega arith;
+  short = omega arith;
+}
 
 made_records : HasRecords (1 ∷ 0 ∷ []) []
-made_records = inr (record { layout = none_yet; ends = made_journal; are = refl })
+made_records = inr (record { layout = none_yet; safe = made_journal; are = refl })
 
 opened : (image : List ℕ) → length image ≡ 2 → get_or image 1 0 ≡ 0 → HasRecords image []
 opened [] long last = absurd (omega arith)
@@ -115,7 +119,7 @@ fails old new (Err e) is_err run = record { made = tt; time = run.time; spans = 
 pub is_made : (old new : Medium) (x : Unit {0}) → Run old new → At new (1 ∷ 0 ∷ []) → Makes old (Ok x) new
 is_made old new x run here = record {
   made = record {
-    ends = subst (λ (f : List ℕ). Ends f none_yet) (sym here.reads) made_journal;
+    safe = subst (λ (f : List ℕ). IsSafe f none_yet) (sym here.reads) made_journal;
     place = refl;
     only = λ image left. here.only image left ∙ sym here.reads;
   };

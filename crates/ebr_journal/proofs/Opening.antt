@@ -2,10 +2,10 @@
 use Rattle.std.proofs.Common.{◌≡◌, ◌⊎◌, inl, inr, ⊎_elim, ℕ, ◌≤◌, IsTrue, List, [], Result, Ok, Err, refl, sym, ◌∙◌, ap, subst, arith}
 use Rattle.ebr_outside.specs.declared.disk.DiskErr.{DiskErr}
 use Rattle.ebr_outside.specs.Disk.{Medium, LeavesLess, LeavesNow, Stands, Syncs}
-use Rattle.ebr_journal.specs.Journal.{none_yet, IsBlank, Ends, HasRecords}
-use Rattle.ebr_journal.specs.Keeper.{last_gate, IsSettled}
+use Rattle.ebr_journal.specs.Journal.{last_gate, none_yet, IsBlank, IsSafe, HasRecords}
+use Rattle.ebr_journal.specs.Keeper.{IsSettled}
 use Rattle.ebr_journal.specs.Found.{begun, Counts, IsFound}
-use Rattle.ebr_journal.specs.Start.{AsStarted, IsFresh, Makes, IsAsRead, RestsSince, NeverRests, IsOpened, Opened, why_of}
+use Rattle.ebr_journal.specs.Start.{AsStarted, IsFresh, Makes, RestsSince, NeverRests, Remains, IsOpened, Opened, why_of}
 use Rattle.ebr_journal.specs.declared.start.StartWhy.{StartWhy}
 use Rattle.ebr_journal.specs.declared.read.Walked.{Walked}
 use Rattle.ebr_journal.specs.declared.found.Found as found
@@ -59,7 +59,7 @@ module _ (m0 : Medium) (told : IsTrue m0.tells) (law : LeavesLess m0) where
       holds = inr (record { layout = found.layout; safe = found.safe; is = found.laid.found });
       layout = found.layout;
       laid = found.laid;
-      settled = record { ends = subst (λ (f : List ℕ). Ends f found.layout) (sym same) found.safe.ends; place = found.place; only = only };
+      settled = record { safe = subst (λ (f : List ℕ). IsSafe f found.layout) (sym same) found.safe; place = found.place; only = only };
       same = inr same;
     }
 
@@ -68,7 +68,7 @@ module _ (m0 : Medium) (told : IsTrue m0.tells) (law : LeavesLess m0) where
         (λ image is. (
           inr (record {
             layout = whole.layout;
-            ends = subst (λ (f : List ℕ). Ends f whole.layout) (sym is) whole.safe.ends;
+            safe = subst (λ (f : List ℕ). IsSafe f whole.layout) (sym is) whole.safe;
             are = ap (λ (f : found.Found). f.records) whole.laid.found;
           }),
           inr is,
@@ -89,12 +89,12 @@ module _ (m0 : Medium) (told : IsTrue m0.tells) (law : LeavesLess m0) where
     }
 
 -- a call of the disk failed
-pub fails : (e : DiskErr) (m0 m : Medium) (answer : Result Walked StartWhy) (why : StartWhy) → answer ≡ Err why → why ≡ why_of e → (IsTrue m0.tells → NeverRests m0 m ⊎ RestsSince m0 m (IsAsRead m0.reads)) → Opened m0 answer m
-fails e m0 m answer why is of either = subst (λ (a : Result Walked StartWhy). Opened m0 a m) (sym (is ∙ ap (λ (w : StartWhy). Err w) of)) (by e either)
+pub fails : (e : DiskErr) (m0 m : Medium) (answer : Result Walked StartWhy) (why : StartWhy) → answer ≡ Err why → why ≡ why_of e → (IsTrue m0.tells → Remains m0 m) → Opened m0 answer m
+fails e m0 m answer why is of remains = subst (λ (a : Result Walked StartWhy). Opened m0 a m) (sym (is ∙ ap (λ (w : StartWhy). Err w) of)) (by e remains)
   where
-    by : (e : DiskErr) → (IsTrue m0.tells → NeverRests m0 m ⊎ RestsSince m0 m (IsAsRead m0.reads)) → Opened m0 (Err (why_of e)) m
-    by disk.Failed either = record { gate = tt; finds = either }
-    by disk.NoMemory either = record { gate = tt; finds = either }
+    by : (e : DiskErr) → (IsTrue m0.tells → Remains m0 m) → Opened m0 (Err (why_of e)) m
+    by disk.Failed remains = record { gate = tt; finds = remains }
+    by disk.NoMemory remains = record { gate = tt; finds = remains }
 
 -- the new journal
 pub opened_blank : (m0 m : Medium) (w : Walked) → w ≡ begun → IsBlank m0.reads → IsSettled m 1 none_yet → IsOpened m0 m w

@@ -17,10 +17,10 @@ use Rattle.ebr_journal.specs.declared.read.Gate.{Gate}
 use Rattle.ebr_journal.specs.declared.read.Gate.TheVariants.{Closed, Open, Mark, Broken}
 use Rattle.ebr_journal.specs.declared.read.Walked.{Walked}
 use Rattle.ebr_journal.specs.declared.found.Found as found
-use Rattle.ebr_journal.specs.Journal.{entry, share_in, size_bytes, mark, MayStand, Layout, none_yet, form_of, front, records_in, found_in, AreSpelled, Ends}
-use Rattle.ebr_journal.specs.Keeper.{beside, last_gate}
+use Rattle.ebr_journal.specs.Journal.{entry, share_in, size_bytes, mark, MayStand, Layout, none_yet, form_of, front, last_gate, records_in, found_in, AreSpelled, Ends}
+use Rattle.ebr_journal.specs.Keeper.{beside}
 use Rattle.ebr_journal.specs.Crash.{added_to, added, marked}
-use Rattle.ebr_journal.specs.Found.{begun, head, size_limit, mark_payload, short_one, with_one, with_mark, Counts, AreFit, HasCome, IsBrokenAt, IsNoJournal, IsRead, IsRecordAt, LeadsTo, LiesWithin, StandsAt, StandsWhole, WalksTo}
+use Rattle.ebr_journal.specs.Found.{begun, head, size_limit, mark_payload, short_one, with_one, with_mark, Counts, AreEarly, AreFit, HasCome, IsBrokenAt, IsNoJournal, IsRead, IsRecordAt, LeadsTo, LiesWithin, StandsAt, StandsWhole, WalksTo}
 use Rattle.ebr_journal.proofs.Records.{length-entry, some_bytes}
 use Rattle.ebr_journal.proofs.Layouts.{added_form, added_front, added_records, added_spelled, marked_front, share_head, used_more}
 
@@ -62,7 +62,7 @@ module _ (b : List ℕ) (place : ℕ) (form : Form) where
     tail : drop (place + 1) b ≡ size_bytes form (length p) ++ (p ++ z)
     tail = sym (drop-drop 1 place b) ∙ ap (λ (l : List ℕ). drop 1 l) whole ∙ append_assoc (size_bytes form (length p)) p z
 
-    size_there : take (head form - 1) (drop (place + 1) b) ≡ size_bytes form (length p)
+    pub size_there : take (head form - 1) (drop (place + 1) b) ≡ size_bytes form (length p)
     size_there = ap (λ (l : List ℕ). take (head form - 1) l) tail ∙ take_at (size_bytes form (length p)) (p ++ z) (head form - 1) (omega (arith, size_length form (length p)))
 
     pub payload_there : take (length p) (drop (place + head form) b) ≡ p
@@ -161,7 +161,7 @@ leads_start [] long first = absurd (omega arith)
 leads_start (x ∷ b) long first = record { place = refl; front = ap (λ (k : ℕ). k ∷ []) first; spelled = record { short = tt; long = tt }; within = long }
 
 -- and the next one
-leads_next : (b : List ℕ) (l next : Layout) (at : ℕ) (piece : List ℕ) → LeadsTo b l at → StandsWhole b at piece → front next ≡ front l ++ piece → AreSpelled next → LeadsTo b next (at + length piece)
+pub leads_next : (b : List ℕ) (l next : Layout) (at : ℕ) (piece : List ℕ) → LeadsTo b l at → StandsWhole b at piece → front next ≡ front l ++ piece → AreSpelled next → LeadsTo b next (at + length piece)
 leads_next b l next at piece leads there grows spelled = record {
   place = omega (arith, leads.place, ap length grows, length-append (front l) piece);
   front = take-add at (length piece) b ∙ ap (λ (x : List ℕ). x ++ take (length piece) (drop at b)) leads.front ∙ ap (λ (x : List ℕ). front l ++ x) there.is ∙ sym grows;
@@ -174,8 +174,8 @@ one_short short None r = sym (length-append short (r ∷ []))
 one_short short (Some long) r = omega arith
 
 module _ (b : List ℕ) (w : Walked) where
-  pub comes_more : (r : Record) → HasCome b w → IsRecordAt b w.gate w.form r → HasCome b (with_one w r)
-  comes_more r come there =
+  pub comes_more : (r : Record) → HasCome b w → IsRecordAt b w.gate w.form r → AreEarly b (w.gate + share_in w.form r) → HasCome b (with_one w r)
+  comes_more r come there early =
       let l = come.layout in
       let follows = come.laid.follows in
       let stands : StandsWhole b w.gate (entry (form_of l.long) r) = subst (λ (f : Form). StandsWhole b w.gate (entry f r)) follows there.stands in
@@ -188,6 +188,7 @@ module _ (b : List ℕ) (w : Walked) where
       record {
         layout = added l r;
         leads = subst (λ (k : ℕ). LeadsTo b (added l r) (w.gate + k)) e (leads_next b l (added l r) w.gate (entry (form_of l.long) r) come.leads stands (added_front l.short l.long r) (added_spelled l.short l.long r come.leads.spelled may));
+        early = early;
         laid = record {
           found = λ i. record { records = records i; short = short i };
           counts = ap (λ (n : ℕ). n + share r) come.laid.counts ∙ sym (used_more (records_in l) r) ∙ ap used_by (sym (added_records l r));
@@ -195,13 +196,14 @@ module _ (b : List ℕ) (w : Walked) where
         };
       }
 
-  pub comes_marked : HasCome b w → w.form ≡ Short → StandsWhole b w.gate mark → HasCome b (with_mark w)
-  comes_marked come is_short there =
+  pub comes_marked : HasCome b w → w.form ≡ Short → StandsWhole b w.gate mark → AreEarly b (w.gate + 7) → HasCome b (with_mark w)
+  comes_marked come is_short there early =
       let l = come.layout in
       let unmarked : form_of l.long ≡ Short = sym come.laid.follows ∙ is_short in
       record {
         layout = marked l;
         leads = leads_next b l (marked l) w.gate mark come.leads there (marked_front l.short l.long unmarked) (record { short = come.leads.spelled.short; long = come.leads.spelled.long });
+        early = early;
         laid = record { found = come.laid.found; counts = come.laid.counts; follows = refl };
       }
 
@@ -263,23 +265,26 @@ walks_start m len w is some long = subst (WalksTo m len) (sym is) (record {
   told = λ told first. record {
     layout = none_yet;
     leads = leads_start m.reads (omega (arith, some, long told)) first;
+    early = λ l gate leads within. omega (arith, within);
     laid = record { found = refl; counts = refl; follows = refl };
   };
 })
 
 module _ (m : Medium) (len : ℕ) (w w' : Walked) (walks : WalksTo m len w) where
-  pub walks_more : (r : Record) (next : ℕ) → w.gate < max_journal → w' ≡ with_one w r → LiesWithin w.gate len w.form (Open r next) → (IsTrue m.tells → IsRecordAt m.reads w.gate w.form r) → WalksTo m len w'
-  walks_more r next early is lies there = subst (WalksTo m len) (sym is) (record {
+  pub walks_more : (r : Record) (next : ℕ) → w.gate < max_journal → w' ≡ with_one w r → LiesWithin w.gate len w.form (Open r next) → (IsTrue m.tells → IsRecordAt m.reads w.gate w.form r)
+      → ((come : HasCome m.reads w) → IsRecordAt m.reads w.gate w.form r → AreEarly m.reads (w.gate + share_in w.form r)) → WalksTo m len w'
+  walks_more r next early is lies there behind = subst (WalksTo m len) (sym is) (record {
     counts = counts_more m.reads w r early lies.0 walks.counts;
     within = omega (arith, lies.1, lies.2);
-    told = λ told first. comes_more m.reads w r (walks.told told first) (there told);
+    told = λ told first. let come = walks.told told first in comes_more m.reads w r come (there told) (behind come (there told));
   })
 
-  pub walks_marked : w.gate < max_journal → w' ≡ with_mark w → LiesWithin w.gate len w.form Mark → (IsTrue m.tells → StandsWhole m.reads w.gate mark) → WalksTo m len w'
-  walks_marked early is lies there = subst (WalksTo m len) (sym is) (record {
+  pub walks_marked : w.gate < max_journal → w' ≡ with_mark w → LiesWithin w.gate len w.form Mark → (IsTrue m.tells → StandsWhole m.reads w.gate mark)
+      → ((come : HasCome m.reads w) → w.form ≡ Short → StandsWhole m.reads w.gate mark → AreEarly m.reads (w.gate + 7)) → WalksTo m len w'
+  walks_marked early is lies there behind = subst (WalksTo m len) (sym is) (record {
     counts = counts_marked m.reads w early lies.0 walks.counts;
     within = lies.1;
-    told = λ told first. comes_marked m.reads w (walks.told told first) lies.0 (there told);
+    told = λ told first. let come = walks.told told first in comes_marked m.reads w come lies.0 (there told) (behind come lies.0 (there told));
   })
 
 -- a gate that lies so late has no mark in front of it

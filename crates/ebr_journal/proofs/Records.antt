@@ -134,7 +134,7 @@ recovered_blank (a ∷ b ∷ rest) (inr two) = ap (λ (t : Bool). records_in (if
 -- the file has no other list of records
 pub recovered_is : (bytes : List ℕ) (records : List Record) → HasRecords bytes records → records_in (recovered bytes) ≡ records
 recovered_is bytes records (inl blank) = recovered_blank bytes blank.0 ∙ sym blank.1
-recovered_is bytes records (inr journal) = ap records_in (recovered_ends bytes journal.layout journal.ends) ∙ sym journal.are
+recovered_is bytes records (inr journal) = ap records_in (recovered_ends bytes journal.layout journal.safe.ends) ∙ sym journal.are
 
 pub one_list : (bytes : List ℕ) (k l : List Record) → HasRecords bytes k → HasRecords bytes l → k ≡ l
 one_list bytes k l a b = sym (recovered_is bytes k a) ∙ recovered_is bytes l b

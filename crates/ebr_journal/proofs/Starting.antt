@@ -7,7 +7,8 @@ use Rattle.ebr_encoding.specs.declared.form.Form.{Form}
 use Rattle.ebr_encoding.specs.declared.form.Form.TheVariants.{Short, Long}
 use Rattle.ebr_journal.specs.declared.found.Found as found
 use Rattle.ebr_journal.specs.declared.read.Walked.{Walked}
-use Rattle.ebr_journal.specs.Keeper.{kept, keeper_of, last_gate, HasFront, IsSound}
+use Rattle.ebr_journal.specs.Journal.{last_gate}
+use Rattle.ebr_journal.specs.Keeper.{kept, keeper_of, HasFront, IsSound}
 use Rattle.ebr_journal.specs.Start.{Opened, IsOpened}
 use Rattle.ebr_journal.specs.Begun.{Started}
 use Rattle.ebr_journal.proofs.Gates.{has_front}
@@ -26,7 +27,7 @@ module _ (m0 m : Medium) (w : Walked) (goes : Goes m0 m) (opened : Opened m0 (Ok
   is_open told = (opened.finds told).0
 
   front : (told : IsTrue m0.tells) → HasFront m.reads w.gate (is_open told).layout
-  front told = let o = is_open told in has_front o.layout w.gate o.settled.place m.reads o.settled.ends
+  front told = let o = is_open told in has_front o.layout w.gate o.settled.place m.reads o.settled.safe.ends
 
   -- a gate so far in front has few records before it
   early : (form : Form) → w.gate ≤ last_gate form → w.gate ≤ 536870911

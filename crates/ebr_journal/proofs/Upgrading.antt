@@ -42,8 +42,8 @@ marks_images m new gate l front time = record {
   only = λ t image le left. ⊎_elim
       (λ was. inl was)
       (λ ends. inr (told_or_not m.tells (kept m.reads gate) (λ records. HasRecords image records) (⊎_elim
-      (λ before. inr (record { layout = l; ends = before; are = kept_is m.reads gate l front }))
-      (λ after. inr (record { layout = marked l; ends = after; are = kept_is m.reads gate l front }))
+      (λ before. inr (record { layout = l; safe = before; are = kept_is m.reads gate l front }))
+      (λ after. inr (record { layout = marked l; safe = after; are = kept_is m.reads gate l front }))
       ends)))
       (time.only t image le left);
   keeps = time.keeps;
@@ -85,16 +85,16 @@ module _ (m : Medium) (gate used : ℕ) (stopped : Bool) (law : IsTrue m.tells �
       done told =
           let k' = sound.kept told in
           let s = k'.settled going in
-          puts told k'.layout (marked k'.layout) s (marked_next k'.layout (sym k'.follows) s.ends.spelled)
+          puts told k'.layout (marked k'.layout) s (marked_next k'.layout (sym k'.follows) s.safe.ends.spelled s.safe.room)
 
       settled : (told : IsTrue m.tells) → IsSettled new gate' (marked (sound.kept told).layout)
       settled told =
           let k' = sound.kept told in
           let holds : IsSettled new (gate + 7) (marked k'.layout) = (done told).holds in
-          record { ends = holds.ends; place = gate_is ∙ holds.place; only = holds.only }
+          record { safe = holds.safe; place = gate_is ∙ holds.place; only = holds.only }
 
       front : (told : IsTrue m.tells) → HasFront new.reads gate' (marked (sound.kept told).layout)
-      front told = let s = settled told in has_front (marked (sound.kept told).layout) gate' s.place new.reads s.ends
+      front told = let s = settled told in has_front (marked (sound.kept told).layout) gate' s.place new.reads s.safe.ends
 
       pub longer : IsSound new gate' used Long false
       longer = record {
@@ -131,7 +131,7 @@ module _ (m : Medium) (gate used : ℕ) (stopped : Bool) (law : IsTrue m.tells �
       failed told =
           let k' = sound.kept told in
           let s = k'.settled going in
-          puts told k'.layout (marked k'.layout) s (marked_next k'.layout (sym k'.follows) s.ends.spelled)
+          puts told k'.layout (marked k'.layout) s (marked_next k'.layout (sym k'.follows) s.safe.ends.spelled s.safe.room)
 
       front_left : (told : IsTrue m.tells) → HasFront new.reads gate (sound.kept told).layout
       front_left told = (failed told).holds

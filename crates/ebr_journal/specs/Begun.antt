@@ -5,7 +5,7 @@ use Rattle.ebr_outside.specs.Disk.{Medium, Goes}
 use Rattle.ebr_record.specs.Keeper.{Keeper, IsAtRest, used_by}
 use Rattle.ebr_journal.specs.Journal.{IsBlank}
 use Rattle.ebr_journal.specs.Found.{AreFit, Holds}
-use Rattle.ebr_journal.specs.Start.{AsStarted, BeforeDamage, IsLeft, IsAsRead, RestsSince, NeverRests}
+use Rattle.ebr_journal.specs.Start.{AsStarted, BeforeDamage, IsLeft, Remains, RestsSince}
 use Rattle.ebr_journal.specs.declared.found.Found.{Found}
 use Rattle.ebr_journal.specs.declared.start.StartWhy.{StartWhy}
 use Rattle.ebr_journal.specs.declared.start.StartWhy.TheVariants.{DiskFault, Damaged, NoMemory}
@@ -30,8 +30,8 @@ pub record Started (old new : Medium) (k : Keeper) (found : Found) : Type 0 wher
 -- what is told of a start that failed, by its cause
 abbrev pub Fails : Medium → StartWhy → Medium → Type 0
 Fails old (Damaged at before) new = IsLeft old new at before × RestsSince old new (λ image. image ≡ old.reads)
-Fails old DiskFault new = NeverRests old new ⊎ RestsSince old new (IsAsRead old.reads)
-Fails old NoMemory new = NeverRests old new ⊎ RestsSince old new (IsAsRead old.reads)
+Fails old DiskFault new = Remains old new
+Fails old NoMemory new = Remains old new
 
 pub record Refused (old : Medium) (why : StartWhy) (new : Medium) : Type 0 where
   pub goes : Goes old new

@@ -1,11 +1,11 @@
 -- What a crash leaves while a journal gets one record more, or the mark.
-use Rattle.std.specs.Prelude.{◌≡◌, ◌⊎◌, ℕ, ◌+◌, List, [], ◌∷◌, ◌++◌, Option, Some, None, Result, Ok, Err}
+use Rattle.std.specs.Prelude.{◌≡◌, ◌⊎◌, ℕ, ◌+◌, ◌≤◌, List, [], ◌∷◌, ◌++◌, length, Option, Some, None, Result, Ok, Err}
 use Rattle.ebr_outside.specs.declared.disk.DiskErr.{DiskErr}
 use Rattle.ebr_outside.specs.Disk.{Medium, Passes}
 use Rattle.ebr_record.specs.declared.record.Record.{Record}
 use Rattle.ebr_encoding.specs.Spelled.{IsSpelled}
 use Rattle.ebr_encoding.specs.declared.form.Form.{Form}
-use Rattle.ebr_journal.specs.Journal.{Layout, AreSpelled, Ends, body, front, long_in}
+use Rattle.ebr_journal.specs.Journal.{Layout, AreSpelled, IsSafe, body, form_of, front, last_gate, long_in}
 use Rattle.ebr_journal.specs.Keeper.{HasFront, IsSettled}
 
 -- with one record more, in the form of what follows
@@ -22,14 +22,15 @@ marked l = record { short = l.short; long = Some (long_in l.long) }
 
 -- the image has the one layout or the other
 abbrev pub IsBeforeOrAfter : Layout → Layout → List ℕ → Type 0
-IsBeforeOrAfter before after image = Ends image before ⊎ Ends image after
+IsBeforeOrAfter before after image = IsSafe image before ⊎ IsSafe image after
 
--- the piece is what stands behind the gate of what comes next, and a closed gate
+-- the piece is what stands behind the gate of what comes next, and a closed gate, which has room
 pub record IsNext (before after : Layout) (piece : List ℕ) : Type 0 where
   pub behind : List ℕ
   pub is : piece ≡ behind ++ 0 ∷ []
   pub grows : front after ≡ front before ++ 1 ∷ behind
   pub spelled : AreSpelled after
+  pub room : length (front after) ≤ last_gate (form_of after.long)
 
 -- what the disk holds then: all of it for good, or where a call failed at least what was there before
 abbrev pub HoldsAfter : ℕ → ℕ → Layout → Layout → Result (Unit {0}) DiskErr → Medium → Type 0

@@ -13,8 +13,8 @@ use Rattle.ebr_journal.specs.declared.read.Contents.TheVariants.{Blank, Journal,
 use Rattle.ebr_journal.specs.declared.read.Gate.{Gate}
 use Rattle.ebr_journal.specs.declared.read.Gate.TheVariants.{Closed, Open, Mark, Broken}
 use Rattle.ebr_journal.specs.declared.read.Walked.{Walked}
-use Rattle.ebr_journal.specs.Journal.{entry, share_in, mark, MayStand, Layout, none_yet, form_of, front, records_in, found_in, AreSpelled, IsBlank, Ends}
-use Rattle.ebr_journal.specs.Keeper.{last_gate, beside}
+use Rattle.ebr_journal.specs.Journal.{entry, share_in, mark, MayStand, Layout, none_yet, form_of, front, last_gate, records_in, found_in, AreSpelled, IsBlank, IsSafe}
+use Rattle.ebr_journal.specs.Keeper.{beside}
 
 -- the bytes of a gate and of the length behind it
 abbrev pub head : Form → ℕ
@@ -55,12 +55,6 @@ pub record IsBrokenAt (bytes : List ℕ) (place : ℕ) (form : Form) : Type 0 wh
   pub no_record : (r : Record) → IsRecordAt bytes place form r → ⊥
   pub no_mark : form ≡ Short → StandsWhole bytes place mark → ⊥
 
--- what a file has from its first byte to its closed gate: that gate leaves room for the mark
-pub record IsSafe (bytes : List ℕ) (l : Layout) : Type 0 where
-  pub ends : Ends bytes l
-  pub room : length (front l) ≤ last_gate (form_of l.long)
-  pub short : length bytes ≤ max_journal
-
 -- the first byte isn't 1, in a file that isn't blank
 pub record IsNoJournal (bytes : List ℕ) (at : ℕ) (before : Found) : Type 0 where
   pub filled : IsBlank bytes → ⊥
@@ -86,14 +80,24 @@ pub record HasNoRoom (bytes : List ℕ) (at : ℕ) (before : Found) : Type 0 whe
   pub early : at < max_journal
   pub found : before ≡ found_in layout
 
--- the file is too long, and up to there nothing is damaged
+-- every gate in front of this place stands before the limit
+abbrev pub AreEarly : List ℕ → ℕ → Type 0
+AreEarly bytes place = (l : Layout) (gate : ℕ) → LeadsTo bytes l gate → gate < place → gate < max_journal
+
+-- this is the first gate that doesn't
+pub record IsFirstLate (bytes : List ℕ) (place : ℕ) : Type 0 where
+  pub late : max_journal ≤ place
+  pub first : AreEarly bytes place
+
+-- The file is too long, and up to there nothing is damaged. The layout leads to the closed gate, or to the first one that doesn't stand
+-- before the limit.
 pub record IsTooLong (bytes : List ℕ) (at : ℕ) (before : Found) : Type 0 where
   pub long : max_journal < length bytes
   pub here : at ≡ max_journal
   pub layout : Layout
   pub place : ℕ
   pub leads : LeadsTo bytes layout place
-  pub ends : (max_journal ≤ place) ⊎ ((slice_index bytes place ≢ 1) × (place ≤ last_gate (form_of layout.long)))
+  pub ends : IsFirstLate bytes place ⊎ ((slice_index bytes place ≢ 1) × (place ≤ last_gate (form_of layout.long)))
   pub found : before ≡ found_in layout
 
 -- The smallest place where a file that isn't blank is damaged, and the records whose gates stand before it.
@@ -175,6 +179,7 @@ pub record Counts (w : Walked) : Type 0 where
 pub record HasCome (bytes : List ℕ) (w : Walked) : Type 0 where
   pub layout : Layout
   pub leads : LeadsTo bytes layout w.gate
+  pub early : AreEarly bytes w.gate
   pub laid : IsLaidOut w layout
 
 -- a journal with its closed gate here

@@ -3,6 +3,7 @@ use Rattle.std.specs.Prelude.{◌≡◌, ◌≢◌, ◌⊎◌, ℕ, zero, suc, �
 use Rattle.std.specs.List.{flat_map}
 use Rattle.std.specs.Int.{w32, w64, to_be_bytes, from_be_bytes}
 use Rattle.ebr_record.specs.declared.record.Record.{Record}
+use Rattle.ebr_record.specs.Keeper.{max_journal}
 use Rattle.ebr_record.specs.Payload.{payload}
 use Rattle.ebr_encoding.specs.declared.form.Form.{Form}
 use Rattle.ebr_encoding.specs.declared.form.Form.TheVariants.{Short, Long}
@@ -94,13 +95,24 @@ pub record Ends (bytes : List ℕ) (l : Layout) : Type 0 where
   pub is : bytes ≡ front l ++ gate ∷ rest
   pub spelled : AreSpelled l
 
+-- the last place where a journal's gate may lie: there is room for the mark
+abbrev pub last_gate : Form → ℕ
+last_gate Short = 536870904
+last_gate Long = 536870911
+
+-- what a file has from its first byte to its closed gate: that gate leaves room for the mark, and the file isn't too long
+pub record IsSafe (bytes : List ℕ) (l : Layout) : Type 0 where
+  pub ends : Ends bytes l
+  pub room : length (front l) ≤ last_gate (form_of l.long)
+  pub short : length bytes ≤ max_journal
+
 -- a journal of these records
 pub record IsJournal (bytes : List ℕ) (records : List Record) : Type 0 where
   pub layout : Layout
-  pub ends : Ends bytes layout
+  pub safe : IsSafe bytes layout
   pub are : records ≡ records_in layout
 
--- the file is blank and has no records, or it is a journal of these
+-- the file is blank and has no records, or it is a journal of these; a damaged one has none
 abbrev pub HasRecords : List ℕ → List Record → Type 0
 HasRecords bytes records = (IsBlank bytes × (records ≡ [])) ⊎ IsJournal bytes records
 

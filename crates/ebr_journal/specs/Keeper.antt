@@ -9,7 +9,7 @@ use Rattle.ebr_record.specs.declared.record.Record.{Record}
 use Rattle.ebr_record.specs.Keeper.{Keeper, LeavesLess, Passes, Stands, max_used, used_by, Answered, Becomes, Elapses, IsAtRest}
 use Rattle.ebr_encoding.specs.declared.form.Form.{Form}
 use Rattle.ebr_encoding.specs.declared.form.Form.TheVariants.{Short, Long}
-use Rattle.ebr_journal.specs.Journal.{Layout, form_of, front, records_in, AreSpelled, Ends, HasRecords, recovered}
+use Rattle.ebr_journal.specs.Journal.{Layout, form_of, front, last_gate, records_in, AreSpelled, IsSafe, HasRecords, recovered}
 
 -- A journal: its disk; the place of its closed gate; the bytes that its records are counted with; the form of the next record,
 -- which is long exactly where the mark is there; and whether it has stopped.
@@ -49,7 +49,7 @@ pub record HasFront (bytes : List ℕ) (gate : ℕ) (l : Layout) : Type 0 where
 
 -- it is all that is there, and a crash now leaves what a read gives
 pub record IsSettled (m : Medium) (gate : ℕ) (l : Layout) : Type 0 where
-  pub ends : Ends m.reads l
+  pub safe : IsSafe m.reads l
   pub place : gate ≡ length (front l)
   pub only : (image : List ℕ) → LeavesNow m image → image ≡ m.reads
 
@@ -60,11 +60,6 @@ pub record IsKept (m : Medium) (gate used : ℕ) (form : Form) (stopped : Bool) 
   pub counts : used ≡ used_by (records_in layout)
   pub follows : form ≡ form_of layout.long
   pub settled : stopped ≡ false → IsSettled m gate layout
-
--- the last place where a journal's gate may lie: there is room for the mark
-abbrev pub last_gate : Form → ℕ
-last_gate Short = 536870904
-last_gate Long = 536870911
 
 -- what is counted beside the bytes in front of the gate: the gate, and the mark where it isn't there
 abbrev pub beside : Form → ℕ

@@ -3,8 +3,8 @@ use Rattle.std.specs.Prelude.{◌≡◌, ◌⊎◌, ℕ, ◌≤◌, IsTrue, List
 use Rattle.ebr_outside.specs.declared.disk.DiskErr.{DiskErr}
 use Rattle.ebr_outside.specs.declared.disk.DiskErr.TheVariants as disk
 use Rattle.ebr_outside.specs.Disk.{Medium, LeavesNow, Passes}
-use Rattle.ebr_journal.specs.Journal.{Layout, none_yet, IsBlank, HasRecords}
-use Rattle.ebr_journal.specs.Keeper.{IsSettled, last_gate}
+use Rattle.ebr_journal.specs.Journal.{Layout, last_gate, none_yet, IsBlank, HasRecords}
+use Rattle.ebr_journal.specs.Keeper.{IsSettled}
 use Rattle.ebr_journal.specs.Found.{AreFit, Counts, Holds, IsDamaged, IsLaidOut}
 use Rattle.ebr_record.specs.declared.record.Record.{Record}
 use Rattle.ebr_journal.specs.declared.found.Found.{Found}
@@ -63,6 +63,11 @@ pub record RestsSince (old new : Medium) (P : List ℕ → Type 0) : Type 0 wher
 abbrev pub NeverRests : Medium → Medium → Type 0
 NeverRests old new = (t : ℕ) (image : List ℕ) → t ≤ old.moment → new.leaves t image → old.leaves t image
 
+-- What a start leaves that a fault or want of memory ended: a file that isn't blank is as it was, and so is what a crash leaves.
+pub record Remains (old new : Medium) : Type 0 where
+  pub same : IsBlank old.reads ⊎ (new.reads ≡ old.reads)
+  pub images : NeverRests old new ⊎ RestsSince old new (IsAsRead old.reads)
+
 -- a journal of these records was opened, in a file that is as it was, but where it was blank
 pub record IsOpened (old new : Medium) (w : Walked) : Type 0 where
   pub holds : Holds old.reads w.found
@@ -80,8 +85,8 @@ pub record IsLeft (old new : Medium) (at : ℕ) (before : Found) : Type 0 where
 abbrev pub Finds : Medium → Result Walked StartWhy → Medium → Type 0
 Finds old (Ok w) new = IsOpened old new w × RestsSince old new (AsStarted old.reads w.found.records)
 Finds old (Err (Damaged at before)) new = IsLeft old new at before × RestsSince old new (λ image. image ≡ old.reads)
-Finds old (Err DiskFault) new = NeverRests old new ⊎ RestsSince old new (IsAsRead old.reads)
-Finds old (Err NoMemory) new = NeverRests old new ⊎ RestsSince old new (IsAsRead old.reads)
+Finds old (Err DiskFault) new = Remains old new
+Finds old (Err NoMemory) new = Remains old new
 
 -- what is so of the records in front of a damage
 abbrev pub BeforeDamage : (Found → Type 0) → StartWhy → Type 0

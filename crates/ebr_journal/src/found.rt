@@ -3,8 +3,7 @@
 ghost use Rattle.std.specs.Prelude.{◌≡◌, ◌+◌, ◌<◌, length};
 ghost use Rattle.ebr_encoding.specs.Spelled.{most_bytes};
 ghost use Rattle.ebr_journal.specs.Found.{head, size_limit, spared};
-ghost use Rattle.ebr_journal.specs.Journal.{size_bytes};
-ghost use Rattle.ebr_journal.specs.Keeper.{last_gate};
+ghost use Rattle.ebr_journal.specs.Journal.{last_gate, size_bytes};
 
 use ebr_base::List;
 use ebr_encoding::Form;

@@ -20,6 +20,6 @@ mod upgraded;
 
 pub use found::Found;
 pub use journal::Journal;
-pub use laws::{read_or_damaged, records_are_one};
+pub use laws::{damages_are_one, each_file_is_read_or_damaged, read_or_damaged, records_are_one};
 pub use start::{StartFault, StartWhy, scan};
 pub use upgraded::Upgraded;

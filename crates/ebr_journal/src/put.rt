@@ -1,11 +1,11 @@
 //! One record more on a disk, or the mark.
 
-ghost use Rattle.std.specs.Prelude.{◌≡◌, ◌+◌, ◌++◌, ◌<◌, length, IsTrue, IfOk, OnOk, IsErrOf};
+ghost use Rattle.std.specs.Prelude.{◌≡◌, ◌+◌, ◌++◌, ◌<◌, ◌≤◌, length, IsTrue, IfOk, OnOk, IsErrOf};
 ghost use Rattle.ebr_faults.specs.Faults.{Rises};
 ghost use Rattle.ebr_outside.specs.Disk.{Goes, IsWithin};
 ghost use Rattle.ebr_record.specs.Payload.{HasPayload};
 ghost use Rattle.ebr_encoding.specs.Spelled.{HasForm};
-ghost use Rattle.ebr_journal.specs.Journal.{Layout, form_of, share_in, size_bytes};
+ghost use Rattle.ebr_journal.specs.Journal.{Layout, form_of, last_gate, share_in, size_bytes};
 ghost use Rattle.ebr_journal.specs.Keeper.{IsSettled};
 ghost use Rattle.ebr_journal.specs.Crash.{IsNext, IsPiece, Puts, added};
 
@@ -48,7 +48,7 @@ pub fn put_record<D: Disk>(
     ensures goes { Goes (D.as_medium disk.old) (D.as_medium disk.new) }
     ensures failed { IsErrOf result DiskErr.Failed → Rises (D.as_medium disk.old).faults (D.as_medium disk.new).faults }
     ensures puts { IsTrue (D.as_medium disk.old).tells → (before : Layout) → IsSettled (D.as_medium disk.old) gate before
-        → form ≡ form_of before.long
+        → form ≡ form_of before.long → gate + share_in form r.now ≤ last_gate form
         → Puts (D.as_medium disk.old) gate (share_in form r.now) before (added before r.now) result (D.as_medium disk.new) }
 {
     let piece = piece_of(alloc, form, r)?;

@@ -1,7 +1,6 @@
 use Rattle.std.proofs.Common.{◌≡◌, ◌≤◌, length, subst, arith}
 use Rattle.ebr_encoding.specs.declared.form.Form.{Form}
-use Rattle.ebr_journal.specs.Journal.{front}
-use Rattle.ebr_journal.specs.Keeper.{last_gate}
+use Rattle.ebr_journal.specs.Journal.{front, last_gate}
 use Rattle.ebr_journal.proofs.Reading.{leads_end}
 use Rattle.ebr_journal.proofs.read.whole.Goals as goal
 

@@ -12,7 +12,8 @@ pub returns-in_err-sync-clause-opened : goal.returns-in_err-sync-clause-opened
 returns-in_err-sync-clause-opened g c =
     let m0 = g.D.Disk.as_medium c.args.disk.now in
     let p = err_from_is_err_and c.from_residual.result c.from_residual.ensures.1 in
-    fails _ m0 _ _ p.0 p.1 p.2 (λ told. inl (never_rests m0 told (g.D.Disk.leaves_less c.args.disk.now) _ (g.D.Disk.as_medium c.sync.new.self) c.in_err-sync.ensures.syncs))
+    fails _ m0 _ _ p.0 p.1 p.2
+    (λ told. record { same = inr (c.in_err-sync.ensures.syncs.reads told); images = inl (never_rests m0 told (g.D.Disk.leaves_less c.args.disk.now) _ (g.D.Disk.as_medium c.sync.new.self) c.in_err-sync.ensures.syncs) })
 
 pub returns-in_err-found-clause-opened : goal.returns-in_err-found-clause-opened
 returns-in_err-found-clause-opened g c =
@@ -20,8 +21,13 @@ returns-in_err-found-clause-opened g c =
     let m1 = g.D.Disk.as_medium c.sync.new.self in
     let m2 = g.D.Disk.as_medium c.found.new.disk in
     let p = err_from_is_err_and c.from_residual-in_err-found.result c.from_residual-in_err-found.ensures.1 in
-    fails _ m0 _ _ p.0 p.1 p.2 (λ told.
-    inr (rests_weaker m0 m2 (λ image. image ≡ m0.reads) (IsAsRead m0.reads) (rests_read m0 told (g.D.Disk.leaves_less c.args.disk.now) _ m1 c.in_ok-sync.ensures.syncs m2 c.found.ensures.stands) (λ image is. inl is)))
+    let law = g.D.Disk.leaves_less c.args.disk.now in
+    let s = c.in_ok-sync.ensures.syncs in
+    let still = c.found.ensures.stands in
+    fails _ m0 _ _ p.0 p.1 p.2 (λ told. record {
+      same = inr (same m0 told law _ m1 s m2 still);
+      images = inr (rests_weaker m0 m2 (λ image. image ≡ m0.reads) (IsAsRead m0.reads) (rests_read m0 told law _ m1 s m2 still) (λ image is. inl is));
+    })
 
 pub returns-in-Journal-clause-opened : goal.returns-in-Journal-clause-opened
 returns-in-Journal-clause-opened g c =
@@ -68,7 +74,7 @@ returns-in_err-make-in-Blank-clause-opened g c =
     let p = err_from_is_err_and c.from_residual-in_err-make-in-Blank.result c.from_residual-in_err-make-in-Blank.ensures.1 in
     fails _ m0 _ _ p.0 p.1 p.2 (λ told.
     let blank = subst (λ (f : List ℕ). Are f Blank) (s.reads told) (are.told (told_after m0 m1 s.goes told)) in
-    inr (rests_weaker m0 m3 (λ image. HasRecords image []) (IsAsRead m0.reads) (rests_made m0 told law _ m1 s m2 still blank _ m3 (c.in_err-make-in-Blank.ensures.makes (told2 m0 told law _ m1 s m2 still) (is_fresh m0 told law _ m1 s m2 still blank))) (λ image now. inr (blank, now))))
+    record { same = inl blank; images = inr (rests_weaker m0 m3 (λ image. HasRecords image []) (IsAsRead m0.reads) (rests_made m0 told law _ m1 s m2 still blank _ m3 (c.in_err-make-in-Blank.ensures.makes (told2 m0 told law _ m1 s m2 still) (is_fresh m0 told law _ m1 s m2 still blank))) (λ image now. inr (blank, now))) })
 
 pub returns-in_ok-make-in-Blank-clause-opened : goal.returns-in_ok-make-in-Blank-clause-opened
 returns-in_ok-make-in-Blank-clause-opened g c =
