@@ -9,5 +9,5 @@ pub mod DefinedLemmas
 mod OutcomeLemmas
 mod DdlLemmas
 mod ReplyLemmas
-mod HistoryLemmas
+pub mod HistoryLemmas
 mod FirstLemmas

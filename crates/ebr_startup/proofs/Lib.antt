@@ -1,5 +1,6 @@
 mod Gates
 mod Walking
+pub mod Files
 mod Resting
 mod Opening
 mod Steps

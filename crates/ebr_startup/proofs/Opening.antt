@@ -1,5 +1,5 @@
 -- An engine that was opened over a disk, and a disk over which none was.
-use Rattle.std.proofs.Common.{◌≡◌, ◌⊎◌, inl, inr, ⊎_elim, ℕ, ◌+◌, ◌≤◌, IsTrue, List, [], ◌∷◌, length, Some, refl, sym, ◌∙◌, ap, subst, arith, length-append}
+use Rattle.std.proofs.Common.{◌≡◌, ◌⊎◌, inl, inr, ⊎_elim, ℕ, ◌+◌, ◌≤◌, IsTrue, List, [], Some, refl, sym, ◌∙◌, ap, subst, arith}
 use Rattle.std.specs.Prelude.{Option, min}
 use Rattle.std.proofs.Math.Nat.{le-min, min-le_left, min-le_right}
 use Rattle.ebr_faults.specs.Faults.{Rises, count_end}
@@ -10,31 +10,20 @@ use Rattle.ebr_journal.specs.declared.found.Found as found
 use Rattle.ebr_journal.specs.declared.start.StartWhy.{StartWhy}
 use Rattle.ebr_journal.specs.declared.start.StartWhy.TheVariants as start
 use Rattle.ebr_journal.specs.Begun.{Refused, Started}
-use Rattle.ebr_journal.specs.Found.{Holds}
 use Rattle.ebr_journal.specs.Journal.{HasRecords, IsBlank}
 use Rattle.ebr_journal.specs.Keeper.{HasThese, JournalState, as_keeper}
-use Rattle.ebr_journal.specs.Start.{AsStarted, IsAsRead, NeverRests, RestsSince}
-use Rattle.ebr_journal.proofs.Records.{one_list}
+use Rattle.ebr_journal.specs.Start.{AsStarted, IsAsRead, NeverRests, Remains, RestsSince}
 use Rattle.ebr_allowed.specs.Allowed.{AreAllowed}
 use Rattle.ebr_core.specs.Engine.{EngineState}
 use Rattle.ebr_startup.specs.declared.why.OpenWhy.{OpenWhy}
 use Rattle.ebr_startup.specs.declared.why.OpenWhy.TheVariants.{DiskFault, Damaged, NoMemory}
-use Rattle.ebr_startup.specs.Damage.{IsFirstUnallowed}
-use Rattle.ebr_startup.specs.Opened.{IsKeptAs, Opened, Rests, Stays, Unopened}
+use Rattle.ebr_startup.specs.Damage.{IsDamagedAt}
+use Rattle.ebr_startup.specs.Engines.{Opened}
+use Rattle.ebr_startup.specs.Opened.{IsKeptAs, IsUntouched, Keeps, Rests, Stays, Unopened}
 use Rattle.ebr_startup.specs.inside.Steps.{ComesBack, IsDamage, OverMark}
 use Rattle.ebr_startup.specs.inside.Unstarted.{IsUnstarted}
+use Rattle.ebr_startup.proofs.Files.{blank_not, holds_has, never_damaged}
 use Rattle.ebr_startup.proofs.Resting.{rests_of, rests_on, rests_weaker}
-
--- the records that were found are those of the file
-pub holds_has : (bytes : List ℕ) (f : found.Found) → Holds bytes f → HasRecords bytes f.records
-holds_has bytes f (inl blank) = inl (blank.0, ap (λ (x : found.Found). x.records) blank.1)
-holds_has bytes f (inr whole) = inr (record { layout = whole.layout; ends = whole.safe.ends; are = ap (λ (x : found.Found). x.records) whole.is })
-
--- a blank file has no record that isn't allowed
-filled : (bytes : List ℕ) (f : found.Found) (at : ℕ) → Holds bytes f → IsFirstUnallowed f at → IsBlank bytes → ⊥
-filled bytes f at holds first blank =
-    let none : f.records ≡ [] = one_list bytes f.records [] (holds_has bytes f holds) (inl (blank, refl)) in
-    omega (arith, ap length (sym first.records_are ∙ none), length-append first.before (first.first ∷ first.behind))
 
 rises_from : (a b c : ℕ) → a ≤ b → Rises b c → Rises a c
 rises_from a b c le rises =
@@ -101,19 +90,26 @@ module _ {D : Type 0} (as_medium : D → Medium) (disk : D) (j : JournalState D)
       kept told images = rests_weaker m0 (as_medium new) (λ image. HasRecords image f.records) (IsKeptAs m0.reads) (has_rested new images told)
           (λ image has. inr (f.records, holds_has m0.reads f (begun.told told).holds, has))
 
+      -- where the file is damaged the journal left the disk as it was
+      same : (at : ℕ) → IsDamagedAt m0.reads at → IsTrue m0.tells → new ≡ j.disk → (as_medium new).reads ≡ m0.reads
+      same at bad told is =
+          subst (λ (d : D). (as_medium d).reads ≡ m0.reads) (sym is) (⊎_elim (λ blank. absurd (blank_not m0.reads at bad blank)) (λ same. same) (begun.told told).same)
+
+      rests : (at : ℕ) → IsDamagedAt m0.reads at → IsTrue m0.tells → new ≡ j.disk → Rests m0 (as_medium new) (λ image. image ≡ m0.reads)
+      rests at bad told is = subst (λ (d : D). Rests m0 (as_medium d) (λ image. image ≡ m0.reads)) (sym is)
+          (rests_weaker m0 m1 (AsStarted m0.reads f.records) (λ image. image ≡ m0.reads) (rests_of m0 m1 (AsStarted m0.reads f.records) (begun.told told).rests)
+          (λ image s. ⊎_elim (λ blank. absurd (blank_not m0.reads at bad blank)) (λ same. same) s.1))
+
+      untouched : IsTrue m0.tells → AreAllowed f.records ⊎ (new ≡ j.disk) → (at : ℕ) → IsDamagedAt m0.reads at → IsUntouched m0 (as_medium new)
+      untouched told (inl allowed) at bad = absurd (never_damaged m0.reads f.records at (record { found = f; holds = (begun.told told).holds; records_are = refl; allowed = allowed }) bad)
+      untouched told (inr is) at bad = record { reads = same at bad told is; images = inr (rests at bad told is) }
+
       stays : (why : OpenWhy) → ComesBack as_medium j why new → IsDamage j f why new → IsTrue m0.tells → Stays m0 why (as_medium new)
       stays (Damaged at) back damage told =
-          let b = begun.told told in
-          let not_blank : IsBlank m0.reads → ⊥ = filled m0.reads f at b.holds damage.0 in
-          let same : m1.reads ≡ m0.reads = ⊎_elim (λ blank. absurd (not_blank blank)) (λ is. is) b.same in
-          let rests : Rests m0 m1 (λ image. image ≡ m0.reads) =
-          rests_weaker m0 m1 (AsStarted m0.reads f.records) (λ image. image ≡ m0.reads) (rests_of m0 m1 (AsStarted m0.reads f.records) b.rests) (λ image s. ⊎_elim (λ blank. absurd (not_blank blank)) (λ is. is) s.1) in (
-            inl (record { found = f; holds = b.holds; first = damage.0 }),
-            subst (λ (d : D). (as_medium d).reads ≡ m0.reads) (sym damage.1) same,
-            subst (λ (d : D). Rests m0 (as_medium d) (λ image. image ≡ m0.reads)) (sym damage.1) rests,
-          )
-      stays DiskFault back damage told = inr (kept told back.images)
-      stays NoMemory back damage told = inr (kept told back.images)
+          let bad : IsDamagedAt m0.reads at = inl (record { found = f; holds = (begun.told told).holds; first = damage.0 }) in
+          (bad, same at bad told damage.1, rests at bad told damage.1)
+      stays DiskFault back damage told = record { images = inr (kept told back.images); damaged = untouched told damage }
+      stays NoMemory back damage told = record { images = inr (kept told back.images); damaged = untouched told damage }
 
 -- ---- a journal that wasn't started
 
@@ -122,12 +118,28 @@ module _ (m0 m1 : Medium) where
   from_read (inl never) = inl never
   from_read (inr rests) = inr (rests_weaker m0 m1 (IsAsRead m0.reads) (IsKeptAs m0.reads) (rests_of m0 m1 (IsAsRead m0.reads) rests) (as_kept m0.reads))
 
+  not_made : (IsBlank m0.reads → ⊥) → (image : List ℕ) → IsAsRead m0.reads image → image ≡ m0.reads
+  not_made filled image (inl is) = is
+  not_made filled image (inr made) = absurd (filled made.0)
+
+  as_it_was : (IsBlank m0.reads → ⊥) → NeverRests m0 m1 ⊎ RestsSince m0 m1 (IsAsRead m0.reads) → NeverRests m0 m1 ⊎ Rests m0 m1 (λ image. image ≡ m0.reads)
+  as_it_was filled (inl never) = inl never
+  as_it_was filled (inr rests) = inr (rests_weaker m0 m1 (IsAsRead m0.reads) (λ image. image ≡ m0.reads) (rests_of m0 m1 (IsAsRead m0.reads) rests) (not_made filled))
+
+  keeps : Remains m0 m1 → Keeps m0 m1
+  keeps remains = record {
+    images = from_read remains.images;
+    damaged = λ at bad.
+        let filled = blank_not m0.reads at bad in
+        record { reads = ⊎_elim (λ blank. absurd (filled blank)) (λ same. same) remains.same; images = as_it_was filled remains.images };
+  }
+
   no_fault : (why : OpenWhy) → why ≡ NoMemory → why ≡ DiskFault → ⊥
   no_fault why is other = cc
 
   pub unstarted : (cause : StartWhy) (why : OpenWhy) → Refused m0 cause m1 → IsUnstarted cause why → Unopened m0 why m1
-  unstarted start.DiskFault why refused is = subst (λ (w : OpenWhy). Unopened m0 w m1) (sym is) (record { goes = refused.goes; failed = λ e. refused.failed refl; told = λ told. from_read (refused.told told) })
-  unstarted start.NoMemory why refused is = subst (λ (w : OpenWhy). Unopened m0 w m1) (sym is) (record { goes = refused.goes; failed = λ e. absurd (no_fault NoMemory refl e); told = λ told. from_read (refused.told told) })
+  unstarted start.DiskFault why refused is = subst (λ (w : OpenWhy). Unopened m0 w m1) (sym is) (record { goes = refused.goes; failed = λ e. refused.failed refl; told = λ told. keeps (refused.told told) })
+  unstarted start.NoMemory why refused is = subst (λ (w : OpenWhy). Unopened m0 w m1) (sym is) (record { goes = refused.goes; failed = λ e. absurd (no_fault NoMemory refl e); told = λ told. keeps (refused.told told) })
   unstarted (start.Damaged place before) (Damaged at) refused is = record {
     goes = refused.goes;
     failed = λ e. absurd (no_damage at e);
@@ -141,6 +153,8 @@ module _ (m0 m1 : Medium) where
   unstarted (start.Damaged place before) NoMemory refused is = record {
     goes = refused.goes;
     failed = λ e. absurd (no_fault NoMemory refl e);
-    told = λ told. let t = refused.told told in
-        inr (rests_weaker m0 m1 (λ image. image ≡ m0.reads) (IsKeptAs m0.reads) (rests_of m0 m1 (λ image. image ≡ m0.reads) t.1) (λ image same. inl same));
+    told = λ told.
+        let t = refused.told told in
+        let rests : Rests m0 m1 (λ image. image ≡ m0.reads) = rests_of m0 m1 (λ image. image ≡ m0.reads) t.1 in
+        record { images = inr (rests_weaker m0 m1 (λ image. image ≡ m0.reads) (IsKeptAs m0.reads) rests (λ image same. inl same)); damaged = λ at bad. record { reads = t.0.same; images = inr rests } };
   }

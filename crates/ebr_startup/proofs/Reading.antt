@@ -1,19 +1,15 @@
--- Records that were read off a disk, and laws of the files of databases.
-use Rattle.std.proofs.Common.{◌≡◌, inl, inr, ℕ, List, [], ◌∷◌, ◌++◌, Ok, Err, Result, sym, ◌∙◌, subst}
+-- Records that were read off a disk.
+use Rattle.std.proofs.Common.{◌≡◌, inl, inr, ℕ, List, Ok, Err, Result}
 use Rattle.std.specs.Prelude.{All, IfOk}
 use Rattle.ebr_record.specs.declared.record.Record.{Record}
 use Rattle.ebr_record.specs.Payload.{HasPayload}
 use Rattle.ebr_journal.specs.declared.found.Found.{Found}
 use Rattle.ebr_journal.specs.Found.{Holds, IsDamaged}
-use Rattle.ebr_journal.specs.Journal.{HasRecords}
 use Rattle.ebr_allowed.specs.Allowed.{AreAllowed}
 use Rattle.ebr_startup.specs.declared.why.OpenWhy.{OpenWhy}
 use Rattle.ebr_startup.specs.declared.why.OpenWhy.TheVariants.{DiskFault, Damaged, NoMemory}
-use Rattle.ebr_startup.specs.Damage.{HasDatabase, IsDamagedAt}
 use Rattle.ebr_startup.specs.Read.{Reads}
 use Rattle.ebr_startup.specs.inside.Walk.{Damages, IsTested, WalkedTo}
-use Rattle.ebr_startup.proofs.Opening.{holds_has}
-use Rattle.ebr_startup.proofs.Walking.{allowed_there}
 
 abbrev no_records : OpenWhy → Result (List Record) OpenWhy
 no_records why = Err why
@@ -59,13 +55,3 @@ pub walked_damage : (found : Found) (place : ℕ) (why : OpenWhy) → WalkedTo 0
 walked_damage found place (Damaged at) walked = inl walked
 walked_damage found place DiskFault walked = walked
 walked_damage found place NoMemory walked = tt
-
--- ---- a database's file isn't damaged
-
-module _ (one : (bytes : List ℕ) (k l : List Record) → HasRecords bytes k → HasRecords bytes l → k ≡ l) (whole : (bytes : List ℕ) (found : Found) (at : ℕ) (before : Found) → Holds bytes found → IsDamaged bytes at before → ⊥) where
-  pub never_damaged : (bytes : List ℕ) (records : List Record) (at : ℕ) → HasDatabase bytes records → IsDamagedAt bytes at → ⊥
-  never_damaged bytes records at db (inl bad) =
-      let same : bad.found.records ≡ records = one bytes bad.found.records records (holds_has bytes bad.found bad.holds) (subst (HasRecords bytes) (sym db.records_are) (holds_has bytes db.found db.holds)) in
-      let all : AreAllowed (bad.first.before ++ bad.first.first ∷ bad.first.behind) = subst AreAllowed (sym same ∙ bad.first.records_are) db.allowed in
-      bad.first.unallowed (allowed_there [] bad.first.before bad.first.first bad.first.behind all)
-  never_damaged bytes records at db (inr damage) = whole bytes db.found damage.place damage.before db.holds damage.damaged

@@ -1,5 +1,5 @@
 -- The steps by which an engine comes to stand over a journal.
-use Rattle.std.proofs.Common.{◌≡◌, ℕ, IsTrue, List, [], Ok, Err, Result, refl, sym, ◌∙◌, ap, subst, arith}
+use Rattle.std.proofs.Common.{◌≡◌, inl, inr, ℕ, IsTrue, List, [], Ok, Err, Result, refl, sym, ◌∙◌, ap, subst, arith}
 use Rattle.std.specs.Prelude.{IfErr, IfOk, OnOk}
 use Rattle.ebr_outside.specs.Disk.{Medium, Passes}
 use Rattle.ebr_record.specs.declared.keep.JournalFault.{JournalFault}
@@ -15,7 +15,8 @@ use Rattle.ebr_core.specs.Recovered.{IsReady}
 use Rattle.ebr_startup.specs.declared.engine.OpenFault.{OpenFault}
 use Rattle.ebr_startup.specs.declared.why.OpenWhy.{OpenWhy}
 use Rattle.ebr_startup.specs.declared.why.OpenWhy.TheVariants.{DiskFault, Damaged, NoMemory}
-use Rattle.ebr_startup.specs.Opened.{Opened, Unopened}
+use Rattle.ebr_startup.specs.Engines.{Opened}
+use Rattle.ebr_startup.specs.Opened.{Unopened}
 use Rattle.ebr_startup.specs.inside.Steps.{ComesBack, HasBegun, IsDamage, IsNoDamage, OverMark}
 use Rattle.ebr_startup.specs.inside.Walk.{WalkedTo, why_of}
 use Rattle.ebr_startup.proofs.Opening.{opened, unopened}
@@ -47,7 +48,7 @@ module _ {D : Type 0} (as_medium : D → Medium) (j : JournalState D) where
   pub walked_back : (sessions : ℕ) (found : Found) (why : OpenWhy) (disk : D) → disk ≡ j.disk → WalkedTo sessions found (Err why) → ComesBack as_medium j why disk × IsDamage j found why disk
   walked_back sessions found (Damaged at) disk is walked = (still (Damaged at) disk is (damaged_no at), (walked, is))
   walked_back sessions found DiskFault disk is walked = absurd walked
-  walked_back sessions found NoMemory disk is walked = (still NoMemory disk is memory_no, tt)
+  walked_back sessions found NoMemory disk is walked = (still NoMemory disk is memory_no, inr is)
 
   -- the same disk, for the same cause
   pub gone_back : (old why : OpenWhy) (was disk : D) → why ≡ old → disk ≡ was → ComesBack as_medium j old was → ComesBack as_medium j why disk
@@ -95,14 +96,14 @@ module _ {D : Type 0} (as_medium : D → Medium) (j : JournalState D) where
       gives_no_damage (Ok e) isnt = tt
       gives_no_damage (Err f) isnt = subst IsNoDamage (sym isnt) nothing
 
-  no_damage : (found : Found) (why : OpenWhy) (disk : D) → IsNoDamage why → IsDamage j found why disk
-  no_damage found (Damaged at) disk isnt = absurd isnt
-  no_damage found DiskFault disk isnt = tt
-  no_damage found NoMemory disk isnt = tt
+  no_damage : (found : Found) (why : OpenWhy) (disk : D) → AreAllowed found.records → IsNoDamage why → IsDamage j found why disk
+  no_damage found (Damaged at) disk allowed isnt = absurd isnt
+  no_damage found DiskFault disk allowed isnt = inl allowed
+  no_damage found NoMemory disk allowed isnt = inl allowed
 
-  pub no_damages : (found : Found) (r : Result (EngineState (JournalState D)) (OpenFault D)) → IfErr r (λ f. IsNoDamage f.why) → IfErr r (λ f. IsDamage j found f.why f.disk)
-  no_damages found (Ok e) isnt = tt
-  no_damages found (Err f) isnt = no_damage found f.why f.disk isnt
+  pub no_damages : (found : Found) (r : Result (EngineState (JournalState D)) (OpenFault D)) → AreAllowed found.records → IfErr r (λ f. IsNoDamage f.why) → IfErr r (λ f. IsDamage j found f.why f.disk)
+  no_damages found (Ok e) allowed isnt = tt
+  no_damages found (Err f) allowed isnt = no_damage found f.why f.disk allowed isnt
 
   pub always_ok : (P : Type 0) (r : Result (EngineState (JournalState D)) (OpenFault D)) → P → OnOk r P
   always_ok P (Ok e) p = p

@@ -1,4 +1,5 @@
 pub mod Damage
+pub mod Engines
 pub mod Opened
 pub mod Read
 pub mod inside

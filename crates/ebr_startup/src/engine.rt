@@ -9,7 +9,8 @@ ghost use Rattle.ebr_allowed.specs.Allowed.{AreAllowed};
 ghost use Rattle.ebr_journal.specs.Found.{AreFit};
 ghost use Rattle.ebr_core.specs.Engine.{no_books};
 ghost use Rattle.ebr_startup.specs.declared.why.OpenWhy.TheVariants.{NoMemory as wants};
-ghost use Rattle.ebr_startup.specs.Opened.{Opened, Unopened};
+ghost use Rattle.ebr_startup.specs.Engines.{Opened};
+ghost use Rattle.ebr_startup.specs.Opened.{Unopened};
 ghost use Rattle.ebr_startup.specs.inside.Steps.{ComesBack, HasBegun, IsDamage, IsNoDamage, OverMark};
 ghost use Rattle.ebr_startup.specs.inside.Unstarted.{IsUnstarted};
 

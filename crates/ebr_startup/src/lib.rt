@@ -16,6 +16,9 @@ mod walk;
 mod why;
 
 pub use engine::{OpenFault, open};
-pub use laws::a_database_is_not_damaged;
+pub use laws::{
+    a_database_is_not_damaged, a_file_has_records_or_none, a_file_is_damaged_at_one_place,
+    first_records_have_a_database,
+};
 pub use records::read;
 pub use why::OpenWhy;

@@ -1,11 +1,12 @@
 -- The steps by which an engine comes to stand over a journal that has begun.
-use Rattle.std.specs.Prelude.{◌≡◌, false, IsTrue, ℕ, List, [], Ok}
+use Rattle.std.specs.Prelude.{◌≡◌, ◌⊎◌, false, IsTrue, ℕ, List, [], Ok}
 use Rattle.ebr_faults.specs.Faults.{Rises}
 use Rattle.ebr_outside.specs.Disk.{Medium, Goes, Passes}
 use Rattle.ebr_record.specs.declared.record.Record.{Record}
 use Rattle.ebr_record.specs.Keeper.{Keeper, IsAtRest, used_by}
 use Rattle.ebr_journal.specs.declared.found.Found.{Found}
 use Rattle.ebr_journal.specs.Keeper.{HasThese, JournalState, Upgrades, as_keeper}
+use Rattle.ebr_allowed.specs.Allowed.{AreAllowed}
 use Rattle.ebr_core.specs.Engine.{EngineState, no_books}
 use Rattle.ebr_startup.specs.declared.why.OpenWhy.{OpenWhy}
 use Rattle.ebr_startup.specs.declared.why.OpenWhy.TheVariants.{DiskFault, Damaged}
@@ -36,7 +37,7 @@ pub record ComesBack {D : Type 0} (as_medium : D → Medium) (j : JournalState D
   pub failed : why ≡ DiskFault → Rises (as_medium j.disk).faults (as_medium disk).faults
   pub images : IsTrue (as_medium j.disk).tells → Passes (as_medium j.disk) (as_medium disk) (HasThese (as_keeper as_medium j).records)
 
--- one of the records isn't allowed, and the disk comes back at once; or there is no such damage
+-- Where one of the records isn't allowed, the disk comes back at once.
 abbrev pub IsDamage : {D : Type 0} → JournalState D → Found → OpenWhy → D → Type 0
 IsDamage j found (Damaged at) disk = IsFirstUnallowed found at × (disk ≡ j.disk)
-IsDamage j found why disk = Unit {0}
+IsDamage j found why disk = AreAllowed found.records ⊎ (disk ≡ j.disk)
