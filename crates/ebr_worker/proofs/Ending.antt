@@ -10,8 +10,8 @@ use Rattle.ebr_asks.specs.declared.entry.Exchange.{Exchange}
 use Rattle.ebr_core.specs.Engine.{EngineState}
 use Rattle.ebr_core.specs.History.{Mine}
 use Rattle.ebr_worker.specs.Matches.{as_recorded}
-use Rattle.ebr_worker.specs.Ends.{Came, IsEnd, failed_writes, is_refused}
-use Rattle.ebr_worker.specs.Work.{IsEndOf, Over, Work}
+use Rattle.ebr_worker.specs.Ends.{Came, IsEnd, Job, failed_writes, is_refused}
+use Rattle.ebr_worker.specs.Work.{IsEndOf, Over, Work, job_of}
 
 -- one more, where the ask was refused
 abbrev more : ℕ → Exchange → ℕ
@@ -27,8 +27,8 @@ refused_kept mine = counted_kept 0 mine
 same_some : {X : Type 0} (a b : X) → Some a ≡ Some b → a ≡ b
 same_some a b e = cc
 
-module _ {S K : Type 0} (held : S → Option (List ℕ)) (faults : S → ℕ) (w : Work) (e : EngineState K) (k : EndKind) (s : SessionId) (script : List ℕ) (x : SessionEnd S)
-    (ended : w.end ≡ Some k) (over : Over k w e) (number : w.session.session ≡ s) (script_is : w.session.script ≡ script) (came_to : IsEndOf held faults w x) where
+module _ {S K : Type 0} (held : S → Option (List ℕ)) (faults : S → ℕ) (word : S → List ℕ) (w : Work) (e : EngineState K) (k : EndKind) (s : SessionId) (job : Job) (x : SessionEnd S)
+    (ended : w.end ≡ Some k) (over : Over k w e) (number : w.session.session ≡ s) (job_is : job_of w ≡ job) (came_to : IsEndOf held faults word w x) where
   end_is : x.end ≡ k
   end_is = same_some x.end k (sym came_to.end ∙ ended)
 
@@ -39,16 +39,17 @@ module _ {S K : Type 0} (held : S → Option (List ℕ)) (faults : S → ℕ) (w
   in_sink None counted = tt
   in_sink (Some t) counted = counted ∙ over.come.failed ∙ ap failed_writes (sym end_is)
 
-  pub is_end : IsEnd held faults e.history script s x
+  pub is_end : IsEnd held faults word e.history job s x
   is_end = record {
     replies = w.written;
     came_to = record {
       session_is = came_to.session ∙ number;
       requests = came_to.requests ∙ sym (ap length mine_is ∙ length-map w.session.transcript as_recorded);
       refused = came_to.refused ∙ sym (ap (count_by is_refused) mine_is ∙ refused_kept w.session.transcript);
-      came = subst (λ f. Came f script (Mine e.history s) w.written) (sym end_is)
-          (subst (λ t. Came k t (Mine e.history s) w.written) script_is (subst (λ mine. Came k w.session.script mine w.written) (sym mine_is) over.come.came));
+      came = subst (λ f. Came f job.script (Mine e.history s) w.written) (sym end_is)
+          (subst (λ (j : Job). Came k j.script (Mine e.history s) w.written) job_is (subst (λ mine. Came k w.session.script mine w.written) (sym mine_is) over.come.came));
     };
+    asked = subst (λ (j : Job). IfSome x.sink (λ sink. word sink ≡ j.word)) job_is came_to.asked;
     holds = came_to.holds;
     failed = in_sink x.sink came_to.counted;
   }

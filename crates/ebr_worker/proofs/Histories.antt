@@ -13,7 +13,7 @@ use Rattle.ebr_asks.specs.declared.ask.Ask.TheVariants as ask
 use Rattle.ebr_asks.specs.declared.answer.Answer.{Answer}
 use Rattle.ebr_asks.specs.declared.answer.Answer.TheVariants as answer
 use Rattle.ebr_session.specs.Has as session
-use Rattle.ebr_session.specs.Has.{ends}
+use Rattle.ebr_session.specs.Transcripts.{ends}
 use Rattle.ebr_core.specs.History as core
 use Rattle.ebr_core.specs.History.{Mine, exchange, is_of}
 use Rattle.ebr_worker.specs.Matches.{Matches, ask_recorded, as_recorded}

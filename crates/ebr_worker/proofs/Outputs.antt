@@ -15,8 +15,8 @@ use Rattle.ebr_worker.specs.Work.{Work}
 use Rattle.ebr_worker.specs.inside.Worker.{Advanced, Flushed, LeavesNow, Quits, Settles, end_by, if_ended, settled, why_by, with_leave}
 
 -- a session of whose printed bytes so many are written
-abbrev pub work : Progress → ℕ → Option (List ℕ) → ℕ → Option EndKind → Option EndKind → Work
-work s n held faults why end = record { session = s; written = take n s.printed; held = held; faults = faults; why = why; end = end }
+abbrev pub work : Progress → ℕ → List ℕ → Option (List ℕ) → ℕ → Option EndKind → Option EndKind → Work
+work s n word held faults why end = record { session = s; written = take n s.printed; word = word; held = held; faults = faults; why = why; end = end }
 
 -- What the sink holds is what was written.
 pub held_written : (p q : List ℕ) (n m : ℕ) (held held' : Option (List ℕ)) → q ≡ p → n ≤ m → IfSome held (λ bytes. bytes ≡ take n p) → held' ≡ appended held (take (m - n) (drop n q)) → IfSome held' (λ bytes. bytes ≡ take m p)
@@ -40,47 +40,48 @@ counted_whole p q m faults faults' same within whole is =
     is ∙ ap (λ b. faults_after b faults) all
 
 -- More bytes were written.
-pub flushed : (all : Bool) (o : Work) (s : Progress) (n m : ℕ) (held held' : Option (List ℕ)) (faults faults' : ℕ) (why end : Option EndKind) → work s n held faults why end ≡ o → n ≤ m
-    → OnTrue all (length s.printed ≤ m) → faults' ≡ faults_after all faults → Flushed all o (work s m held' faults' why end)
-flushed all o s n m held held' faults faults' why end view onward whole counted =
+pub flushed : (all : Bool) (o : Work) (s : Progress) (n m : ℕ) (word word' : List ℕ) (held held' : Option (List ℕ)) (faults faults' : ℕ) (why end : Option EndKind) → work s n word held faults why end ≡ o → n ≤ m
+    → OnTrue all (length s.printed ≤ m) → faults' ≡ faults_after all faults → word' ≡ word → Flushed all o (work s m word' held' faults' why end)
+flushed all o s n m word word' held held' faults faults' why end view onward whole counted same =
     let at : n + (m - n) ≡ m = omega (arith, onward) in
-    let did : Flushed all (work s n held faults why end) (work s m held' faults' why end) = record {
+    let did : Flushed all (work s n word held faults why end) (work s m word' held' faults' why end) = record {
       session = refl;
       grown = record { rest = take (m - n) (drop n s.printed); whole = ap (λ k. take k s.printed) (sym at) ∙ take-add n (m - n) s.printed };
       part = record { rest = drop m s.printed; whole = sym (take-append-drop m s.printed) };
       whole = all_of all whole;
       counted = counted;
+      word = same;
       why = refl;
       end = refl;
     } in
-    subst (λ x. Flushed all x (work s m held' faults' why end)) view did
+    subst (λ x. Flushed all x (work s m word' held' faults' why end)) view did
   where
     all_of : (all : Bool) → OnTrue all (length s.printed ≤ m) → OnTrue all (take m s.printed ≡ s.printed)
     all_of true within = take_all m s.printed within
     all_of false within = tt
 
 -- The session took an answer.
-pub settles : (x : Answer) (o : Work) (s t : Progress) (n : ℕ) (held : Option (List ℕ)) (faults : ℕ) (why end why' end' : Option EndKind) (k : EndKind) (b : Bool) → work s n held faults why end ≡ o → IsSome o.session.out → t ≡ answered s.out x s → Follows t
-    → k ≡ end_by why x → why' ≡ why_by why x → end' ≡ if_ended b k → b ≡ t.ended → Settles x o (work t n held faults why' end')
-settles x o s t n held faults why end why' end' k b view some took f is_end is_why ends ended =
-    subst (λ w. Settles x w (work t n held faults why' end')) view (record { is = by s.out refl (subst (λ (w : Work). IsSome w.session.out) (sym view) some); follows = f })
+pub settles : (x : Answer) (o : Work) (s t : Progress) (n : ℕ) (word : List ℕ) (held : Option (List ℕ)) (faults : ℕ) (why end why' end' : Option EndKind) (k : EndKind) (b : Bool) → work s n word held faults why end ≡ o → IsSome o.session.out → t ≡ answered s.out x s → Follows t
+    → k ≡ end_by why x → why' ≡ why_by why x → end' ≡ if_ended b k → b ≡ t.ended → Settles x o (work t n word held faults why' end')
+settles x o s t n word held faults why end why' end' k b view some took f is_end is_why ends ended =
+    subst (λ w. Settles x w (work t n word held faults why' end')) view (record { is = by s.out refl (subst (λ (w : Work). IsSome w.session.out) (sym view) some); follows = f })
   where
-    by : (out : Option Ask) → s.out ≡ out → IsSome out → work t n held faults why' end' ≡ settled x (work s n held faults why end)
+    by : (out : Option Ask) → s.out ≡ out → IsSome out → work t n word held faults why' end' ≡ settled x (work s n word held faults why end)
     by None is there = cc
     by (Some q) is there =
         let now : t ≡ answered (Some q) x s = took ∙ ap (λ out. answered out x s) is in
         let over : end' ≡ if_ended (answered (Some q) x s).ended (end_by why x) = ends ∙ (λ i. if_ended ((ended ∙ ap (λ (u : Progress). u.ended) now) i) (is_end i)) in
-        (λ i. work (now i) n held faults (is_why i) (over i)) ∙ ap (λ out. settled x (work (record s { out = out }) n held faults why end)) (sym is)
+        (λ i. work (now i) n word held faults (is_why i) (over i)) ∙ ap (λ out. settled x (work (record s { out = out }) n word held faults why end)) (sym is)
 
 -- The session dropped its ask.
-pub quits : (o : Work) (s t : Progress) (n : ℕ) (held : Option (List ℕ)) (faults : ℕ) (why end : Option EndKind) (k : EndKind) → work s n held faults why end ≡ o → t ≡ quitting s.ended s
-    → work t n held faults (Some k) end ≡ record o { session = quitting o.session.ended o.session; why = Some k }
-quits o s t n held faults why end k view is =
-    subst (λ (w : Work). work t n held faults (Some k) end ≡ record w { session = quitting w.session.ended w.session; why = Some k }) view (by s.ended is)
+pub quits : (o : Work) (s t : Progress) (n : ℕ) (word : List ℕ) (held : Option (List ℕ)) (faults : ℕ) (why end : Option EndKind) (k : EndKind) → work s n word held faults why end ≡ o → t ≡ quitting s.ended s
+    → work t n word held faults (Some k) end ≡ record o { session = quitting o.session.ended o.session; why = Some k }
+quits o s t n word held faults why end k view is =
+    subst (λ (w : Work). work t n word held faults (Some k) end ≡ record w { session = quitting w.session.ended w.session; why = Some k }) view (by s.ended is)
   where
-    by : (b : Bool) → t ≡ quitting b s → work t n held faults (Some k) end ≡ record (work s n held faults why end) { session = quitting b s; why = Some k }
-    by true is = ap (λ u. work u n held faults (Some k) end) is
-    by false is = ap (λ u. work u n held faults (Some k) end) is
+    by : (b : Bool) → t ≡ quitting b s → work t n word held faults (Some k) end ≡ record (work s n word held faults why end) { session = quitting b s; why = Some k }
+    by true is = ap (λ u. work u n word held faults (Some k) end) is
+    by false is = ap (λ u. work u n word held faults (Some k) end) is
 
 -- ---- it leaves
 

@@ -11,7 +11,8 @@ use Rattle.ebr_asks.specs.declared.answer.Answer.TheVariants as answer
 use Rattle.ebr_asks.specs.declared.entry.Exchange.{Exchange}
 use Rattle.ebr_record.specs.Keeper.{Keeper}
 use Rattle.ebr_report.specs.declared.ends.EndKind.{EndKind}
-use Rattle.ebr_session.specs.Has.{ends, exchange, is_short}
+use Rattle.ebr_session.specs.Has.{is_short}
+use Rattle.ebr_session.specs.Transcripts.{ends, exchange}
 use Rattle.ebr_core.specs.Engine.{EngineState, entry_of}
 use Rattle.ebr_core.specs.History as core
 use Rattle.ebr_core.specs.History.{Mine}
@@ -85,7 +86,7 @@ module _ {K : Type 0} (as_keeper : K → Keeper) (w new : Work) (e e' : EngineSt
   pub turned : Turned as_keeper w new e e'
   turned = record {
     session = turn.session;
-    script = turn.script;
+    job = turn.job;
     stands = stands_by new.end (seated_by w.end was turn.happens) turn.stands;
     makes = makes_by w.end turn.happens;
   }

@@ -17,8 +17,8 @@ use Rattle.ebr_core.specs.History.{Mine, exchange}
 use Rattle.ebr_core.specs.Kept.{Kept}
 use Rattle.ebr_worker.specs.Matches.{as_recorded}
 use Rattle.ebr_worker.specs.Paced.{AllOver, IsFirst, IsSession, Next, Paced, ToEnds, Turn, Turns, is_over}
-use Rattle.ebr_worker.specs.Work.{Adds, Makes, Over, Seated, Stands, StandsBy, Turned, Work, Works}
-use Rattle.ebr_worker.specs.Rehearsal.{AllEnded, AllStand, scripts_of}
+use Rattle.ebr_worker.specs.Work.{Adds, Makes, Over, Seated, Stands, StandsBy, Turned, Work, Works, job_of}
+use Rattle.ebr_worker.specs.Rehearsal.{AllEnded, AllStand, jobs_of}
 use Rattle.ebr_worker.specs.inside.Rehearsal.{Rehearses, TurnedAt, asks_left, goes_on}
 use Rattle.ebr_worker.proofs.Histories.{mine_more, mine_other, over_is}
 use Rattle.ebr_worker.proofs.Keeping.{kept_adds, kept_none}
@@ -129,8 +129,8 @@ module _ {K : Type 0} (as_keeper : K → Keeper) (at : ℕ) (ws ws' : List Work)
       stand_at i w (inl same) is = subst (λ v. Stands v e') (here w (ap (slice_get ws') (sym same) ∙ is)) did.turned.stands
       stand_at i w (inr other) is = stand_by did.before.end did.turned.makes i w other (get i w other is)
 
-  pub scripts_turned : scripts_of ws' ≡ scripts_of ws
-  scripts_turned = ap scripts_of did.now ∙ map_same (λ (w : Work). w.session.script) ws at did.before did.after did.was did.turned.script
+  pub jobs_turned : jobs_of ws' ≡ jobs_of ws
+  jobs_turned = ap jobs_of did.now ∙ map_same job_of ws at did.before did.after did.was did.turned.job
 
 -- ---- the history behind a turn
 
@@ -156,7 +156,7 @@ module _ {K : Type 0} (as_keeper : K → Keeper) (order left : List SessionId) (
       let books : length e'.books ≡ length e.books = books_turned as_keeper at ws ws' e e' all did in
       record {
         all_stand = all_turned as_keeper at ws ws' e e' all did;
-        scripts = scripts_turned as_keeper at ws ws' e e' all did ∙ so_far.scripts;
+        jobs = jobs_turned as_keeper at ws ws' e e' all did ∙ so_far.jobs;
         books = books ∙ so_far.books;
         recovered = recovered_by did.before.end did.turned.makes ∙ so_far.recovered;
         paced = subst (λ n. (rest : List Entry) → Turns n left' e'.history rest → Turns n order [] (e'.history ++ rest)) (sym books) paced';
@@ -316,7 +316,7 @@ module _ {K : Type 0} (as_keeper : K → Keeper) (order : List SessionId) (ws0 w
 pub begins : {K : Type 0} (as_keeper : K → Keeper) (order : List SessionId) (ws : List Work) (e : EngineState K) → AllStand ws e → e.history ≡ [] → Rehearses as_keeper order order ws ws e e
 begins as_keeper order ws e all empty = record {
   all_stand = all;
-  scripts = refl;
+  jobs = refl;
   books = refl;
   recovered = refl;
   paced = subst (λ h. (rest : List Entry) → Turns (length e.books) order h rest → Turns (length e.books) order [] (h ++ rest)) (sym empty) (λ rest turns. turns);

@@ -14,17 +14,18 @@ use Rattle.ebr_asks.specs.declared.answer.Answer.TheVariants as answer
 use Rattle.ebr_asks.specs.declared.entry.Entry.{Entry}
 use Rattle.ebr_asks.specs.declared.entry.Exchange.{Exchange}
 use Rattle.ebr_record.specs.Keeper.{Keeper}
-use Rattle.ebr_calls.specs.Courses.{AllContinue}
+use Rattle.ebr_calls.specs.Continuation.{AllContinue}
 use Rattle.ebr_session.specs.Has as session
-use Rattle.ebr_session.specs.Has.{Follows, Progress, answers, begun, ends}
+use Rattle.ebr_session.specs.Has.{Follows, Progress, begun}
+use Rattle.ebr_session.specs.Transcripts.{answers, ends}
 use Rattle.ebr_core.specs.Engine.{EngineState, HasLegalHistory, database_of, entry_of, gives_up, has_given_up, is_last, no_books}
 use Rattle.ebr_core.specs.History.{Legal, Mine, exchange, is_light, is_short, wants}
 use Rattle.ebr_core.specs.Machine.{Build, Reply}
 use Rattle.ebr_worker.specs.Matches.{as_recorded, has_fault, has_stop, is_stop}
 use Rattle.ebr_worker.specs.Paced.{is_over}
-use Rattle.ebr_worker.specs.Ends.{AnswersLeave, Came, IsEnd, StopsIt}
+use Rattle.ebr_worker.specs.Ends.{AnswersLeave, Came, IsEnd, Job, StopsIt}
 use Rattle.ebr_worker.specs.Runs.{IsHistory, RanAlone, nth_session}
-use Rattle.ebr_worker.specs.Work.{Adds, IsEndOf, Makes, StandsBy, Turned, Work, Works}
+use Rattle.ebr_worker.specs.Work.{Adds, IsEndOf, Makes, StandsBy, Turned, Work, Works, job_of}
 use Rattle.ebr_worker.specs.inside.Rehearsal.{EndsAt, IsEndAt, RunsAlone}
 use Rattle.ebr_worker.proofs.Histories.{any_last, any_more, any_on, kept_short, mine_more, over_more, short_is}
 use Rattle.ebr_worker.proofs.Keeping.{kept_adds, kept_none}
@@ -130,7 +131,7 @@ module _ {K : Type 0} (as_keeper : K → Keeper) (w0 w w' : Work) (first e e' : 
     after_entry = record {
       stands = did.stands;
       session = did.session ∙ so_far.session;
-      script = did.script ∙ so_far.script;
+      job = did.job ∙ so_far.job;
       recovered = adds.recovered ∙ so_far.recovered;
       books = adds.books ∙ so_far.books;
       kept = kept_adds as_keeper (as_keeper first.keeper) s x e e' adds so_far.kept;
@@ -147,7 +148,7 @@ pub alone_first : {K : Type 0} (as_keeper : K → Keeper) (w : Work) (e : Engine
 alone_first as_keeper w e works runs none = record {
   stands = subst (λ o. StandsBy o w e) (sym runs) works;
   session = refl;
-  script = refl;
+  job = refl;
   recovered = refl;
   books = refl;
   kept = kept_none as_keeper e none;
@@ -183,15 +184,15 @@ runs_on o p r same is on = by o (ap is_some (sym same) ∙ is ∙ ap not on)
 same_some : {X : Type 0} (a b : X) → Some a ≡ Some b → a ≡ b
 same_some a b e = cc
 
-module _ {S K : Type 0} (held : S → Option (List ℕ)) (faults : S → ℕ) (as_keeper : K → Keeper) (w0 w : Work) (first e : EngineState K) (script : List ℕ) (ran : RunsAlone as_keeper w0 w first e) (number : w0.session.session ≡ nth_session 0) (script_is : w0.session.script ≡ script) where
-  ends_at : (o : Option EndKind) → w.end ≡ o → IsSome o → StandsBy o w e → EndsAt (script ∷ []) e 0 w
+module _ {S K : Type 0} (held : S → Option (List ℕ)) (faults : S → ℕ) (word : S → List ℕ) (as_keeper : K → Keeper) (w0 w : Work) (first e : EngineState K) (job : Job) (ran : RunsAlone as_keeper w0 w first e) (number : w0.session.session ≡ nth_session 0) (job_is : job_of w0 ≡ job) where
+  ends_at : (o : Option EndKind) → w.end ≡ o → IsSome o → StandsBy o w e → EndsAt (job ∷ []) e 0 w
   ends_at None is some stands = absurd (no_end some)
   ends_at (Some k) is some over = record {
     number = ran.session ∙ number;
     end = k;
     ended = is;
     over = over;
-    script = λ t there. ran.script ∙ script_is ∙ same_some script t there;
+    job = λ j there. ran.job ∙ job_is ∙ same_some job j there;
   }
 
   -- a session that came to another end was never answered that there is no memory
@@ -215,18 +216,18 @@ module _ {S K : Type 0} (held : S → Option (List ℕ)) (faults : S → ℕ) (a
   short_end ending.Stopped script mine replies came is = absurd (both (session.is_short mine) (ap session.is_short came.last ∙ no_short came.before (record { ask = came.ask; answer = came.answer }) came.went_on (stop_wants came.answer came.by)) is)
 
   -- where its Leave was answered that the engine has stopped, it found no memory
-  stop_end : (o : Option EndKind) → w.end ≡ o → IsSome o → StandsBy o w e → (x : SessionEnd S) → IsEndOf held faults w x → has_stop e.history ≡ true → x.end ≡ ending.NoMemory
+  stop_end : (o : Option EndKind) → w.end ≡ o → IsSome o → StandsBy o w e → (x : SessionEnd S) → IsEndOf held faults word w x → has_stop e.history ≡ true → x.end ≡ ending.NoMemory
   stop_end None same some stands x is_end is = absurd (no_end some)
   stop_end (Some k) same some over x is_end is =
       let short : session.is_short w.session.transcript ≡ true = sym (short_is e.history w.session.session w.session.transcript over.seated.matches) ∙ ran.stop is in
       same_some x.end k (sym is_end.end ∙ same) ∙ short_end k w.session.script (map as_recorded w.session.transcript) w.written over.come.came (kept_short w.session.transcript ∙ short)
 
-  pub ran_alone : (x : SessionEnd S) (h : List Entry) → IsSome w.end → h ≡ e.history → IsHistory 1 h → IsEndOf held faults w x → IsSome x.sink → RanAlone held faults script h x
+  pub ran_alone : (x : SessionEnd S) (h : List Entry) → IsSome w.end → h ≡ e.history → IsHistory 1 h → IsEndOf held faults word w x → IsSome x.sink → RanAlone held faults word job h x
   ran_alone x h ended same is_history is_end sink =
-      let at : IsEndAt held faults (script ∷ []) e.history 0 x = end_at held faults (script ∷ []) e 0 w x (ends_at w.end refl ended ran.stands) is_end sink in
+      let at : IsEndAt held faults word (job ∷ []) e.history 0 x = end_at held faults word (job ∷ []) e 0 w x (ends_at w.end refl ended ran.stands) is_end sink in
       record {
         is_history = is_history;
-        is_end = subst (λ t. IsEnd held faults t script (nth_session 0) x) (sym same) (at.is_end script refl);
+        is_end = subst (λ t. IsEnd held faults word t job (nth_session 0) x) (sym same) (at.is_end job refl);
         sink = sink;
         stop = λ is. stop_end w.end refl ended ran.stands x is_end (ap has_stop (sym same) ∙ is);
       }

@@ -1,6 +1,6 @@
 -- What comes of scripts, by their workers.
-use Rattle.std.proofs.Common.{ℕ, zero, suc, ◌≡◌, ◌+◌, ◌<◌, ◌≤◌, Bool, true, false, List, [], ◌∷◌, ◌++◌, length, take, get_or, Option, Some, None, inl, inr, arith, refl, sym, ◌∙◌, ap, subst}
-use Rattle.std.specs.Prelude.{All, ◌⊎◌, ◌||◌, ◌&&◌, IsSome, map, slice_get}
+use Rattle.std.proofs.Common.{ℕ, zero, suc, ◌≡◌, ◌+◌, ◌<◌, ◌≤◌, Bool, true, false, List, [], ◌∷◌, ◌++◌, length, take, get_or, Option, Some, None, inl, inr, append-nil, append_assoc, arith, refl, sym, ◌∙◌, ap, subst}
+use Rattle.std.specs.Prelude.{All, ◌⊎◌, ◌||◌, ◌&&◌, IfSome, IsSome, map, slice_get}
 use Rattle.std.proofs.lemmas.List.{length-append, length-map, length-take-le, map-append, take_more}
 use Rattle.ebr_base.specs.declared.numbers.SessionId.{SessionId}
 use Rattle.ebr_worker.specs.declared.limits.TheConstants.{MAX_ASKS}
@@ -20,10 +20,11 @@ use Rattle.ebr_core.specs.History.{AllStopped, Answered, IsLive, Legal, Mine, is
 use Rattle.ebr_core.specs.Kept.{Kept, KeptBy, cause_by, given_up_by, or_else}
 use Rattle.ebr_worker.specs.Matches.{has_fault, is_fault}
 use Rattle.ebr_worker.specs.Paced.{IsSession, has_ended}
-use Rattle.ebr_worker.specs.Runs.{AreEnds, nth_session}
-use Rattle.ebr_worker.specs.Work.{IsEndOf, StandsBy, Work, Works, why_short}
-use Rattle.ebr_worker.specs.Rehearsal.{AllEnded, AllStand, scripts_of}
-use Rattle.ebr_worker.specs.inside.Rehearsal.{AllFrom, AreBegun, AreReady, EndsAt, IsBegun, IsEndAt}
+use Rattle.ebr_worker.specs.Ends.{Job}
+use Rattle.ebr_worker.specs.Runs.{AreEnds, IsUnwritten, nth_session}
+use Rattle.ebr_worker.specs.Work.{IsEndOf, StandsBy, Work, Works, job_of, why_short}
+use Rattle.ebr_worker.specs.Rehearsal.{AllEnded, AllStand, jobs_of}
+use Rattle.ebr_worker.specs.inside.Rehearsal.{AllFrom, AreBegun, AreNew, AreReady, EndsAt, IsBegun, IsEndAt, IsNew, script_of}
 use Rattle.ebr_worker.proofs.Ending.{is_end}
 use Rattle.ebr_worker.proofs.First.{first_live}
 
@@ -49,11 +50,26 @@ module _ {X : Type 0} where
   pub from_tail : (P : ℕ → X → Type 0) (n : ℕ) (x : X) (xs : List X) → AllFrom P n (x ∷ xs) → AllFrom P (n + 1) xs
   from_tail P n x xs all i y is = subst (λ k. P k y) (omega arith) (all (suc i) y is)
 
+-- ---- sessions that have just begun
+
+-- One session more was begun, for the script at a place.
+pub new_at : (scripts : List (List ℕ)) (ss ss' : List Progress) (at : ℕ) (script d : List ℕ) (s : Progress) → at < length scripts → script ≡ get_or scripts at d → (bytes : List ℕ) → bytes ≡ script → s ≡ begun (record { 0 = at + 1 }) bytes → Follows s → ss' ≡ ss ++ s ∷ []
+    → AreNew (take at scripts) ss → AreNew (take (at + 1) scripts) ss'
+new_at scripts ss ss' at script d s within is bytes same begins f more all =
+    let own : s.script ≡ script = ap (λ (t : Progress). t.script) begins ∙ same in
+    let count : length ss ≡ at = sym (length-map ss script_of) ∙ ap length all.scripts_are ∙ length-take-le at scripts (omega (arith, within)) in
+    let here : IsNew (length ss + 1) s = record { is = begins ∙ ap (begun (record { 0 = at + 1 })) (same ∙ sym own) ∙ ap (λ n. begun (record { 0 = n + 1 }) s.script) (sym count); follows = f } in
+    subst (AreNew (take (at + 1) scripts)) (sym more)
+    (subst (λ xs. AreNew xs (ss ++ s ∷ [])) (sym (take_more scripts at d within ∙ ap (λ x. take at scripts ++ x ∷ []) (sym is))) (record {
+      scripts_are = map-append script_of ss (s ∷ []) ∙ ap (λ xs. xs ++ s.script ∷ []) all.scripts_are ∙ ap (λ x. take at scripts ++ x ∷ []) own;
+      each = λ i t there. subst (λ n. IsNew n t) (omega arith) (from_more (λ i t. IsNew (i + 1) t) ss s (λ i t there. subst (λ n. IsNew n t) (omega arith) (all.each i t there)) here i t there);
+    }))
+
 -- ---- workers that have just begun
 
-pub begun_more : (scripts : List (List ℕ)) (ws : List Work) (script : List ℕ) (w : Work) → AreBegun scripts ws → IsBegun (length ws + 1) w → w.session.script ≡ script → AreBegun (scripts ++ script ∷ []) (ws ++ w ∷ [])
-begun_more scripts ws script w all here is = record {
-  scripts_are = map-append (λ (v : Work). v.session.script) ws (w ∷ []) ∙ ap (λ xs. xs ++ w.session.script ∷ []) all.scripts_are ∙ ap (λ s. scripts ++ s ∷ []) is;
+pub begun_more : (ws : List Work) (w : Work) → AreBegun (jobs_of ws) ws → IsBegun (length ws + 1) w → AreBegun (jobs_of (ws ++ w ∷ [])) (ws ++ w ∷ [])
+begun_more ws w all here = record {
+  jobs_are = refl;
   each = λ i v is. subst (λ n. IsBegun n v) (omega arith) (from_more (λ i v. IsBegun (i + 1) v) ws w (λ i v is. subst (λ n. IsBegun n v) (omega arith) (all.each i v is)) here i v is);
 }
 
@@ -92,9 +108,9 @@ module _ {K : Type 0} (e : EngineState K) (none : e.history ≡ []) where
         live = subst (IsLive (database_of e)) (sym number) (first_live e (record { 0 = n }) none is_session);
       }
 
-  pub all_first : (scripts : List (List ℕ)) (ws : List Work) → length e.books ≡ length scripts → AreBegun scripts ws → AllStand ws e
-  all_first scripts ws books begun_yet =
-      let count : length ws ≡ length scripts = sym (length-map ws (λ (w : Work). w.session.script)) ∙ ap length begun_yet.scripts_are in
+  pub all_first : (jobs : List Job) (ws : List Work) → length e.books ≡ length jobs → AreBegun jobs ws → AllStand ws e
+  all_first jobs ws books begun_yet =
+      let count : length ws ≡ length jobs = sym (length-map ws job_of) ∙ ap length begun_yet.jobs_are in
       record {
         count = count ∙ sym books;
         number = λ i w is. ap (λ (t : Progress). t.session) (begun_yet.each i w is).session;
@@ -109,29 +125,29 @@ module _ {K : Type 0} (e : EngineState K) (none : e.history ≡ []) where
 
 -- ---- workers that have ended
 
-script_at : (ws : List Work) (scripts : List (List ℕ)) (i : ℕ) (w : Work) (script : List ℕ) → scripts_of ws ≡ scripts → slice_get ws i ≡ Some w → slice_get scripts i ≡ Some script → w.session.script ≡ script
-script_at ws scripts i w script same is there = same_some w.session.script script (sym (mapped ws i w is) ∙ ap (λ xs. slice_get xs i) same ∙ there)
+job_at : (ws : List Work) (jobs : List Job) (i : ℕ) (w : Work) (job : Job) → jobs_of ws ≡ jobs → slice_get ws i ≡ Some w → slice_get jobs i ≡ Some job → job_of w ≡ job
+job_at ws jobs i w job same is there = same_some (job_of w) job (sym (mapped ws i w is) ∙ ap (λ xs. slice_get xs i) same ∙ there)
   where
-    mapped : (ws : List Work) (i : ℕ) (w : Work) → slice_get ws i ≡ Some w → slice_get (scripts_of ws) i ≡ Some w.session.script
+    mapped : (ws : List Work) (i : ℕ) (w : Work) → slice_get ws i ≡ Some w → slice_get (jobs_of ws) i ≡ Some (job_of w)
     mapped [] i w is = cc
-    mapped (v ∷ ws) zero w is = ap Some (ap (λ (u : Work). u.session.script) (same_some v w is))
+    mapped (v ∷ ws) zero w is = ap Some (ap job_of (same_some v w is))
     mapped (v ∷ ws) (suc i) w is = mapped ws i w is
 
-pub ends_first : {K : Type 0} (scripts : List (List ℕ)) (ws : List Work) (e : EngineState K) → scripts_of ws ≡ scripts → AllEnded ws e → AllFrom (EndsAt scripts e) 0 ws
-ends_first scripts ws e same all i w is =
+pub ends_first : {K : Type 0} (jobs : List Job) (ws : List Work) (e : EngineState K) → jobs_of ws ≡ jobs → AllEnded ws e → AllFrom (EndsAt jobs e) 0 ws
+ends_first jobs ws e same all i w is =
     let how = all.ended i w is in
-    subst (λ k. EndsAt scripts e k w) (omega arith) (record {
+    subst (λ k. EndsAt jobs e k w) (omega arith) (record {
       number = all.number i w is;
       end = how.0;
       ended = how.1;
       over = how.2;
-      script = λ script there. script_at ws scripts i w script same is there;
+      job = λ job there. job_at ws jobs i w job same is there;
     })
 
-pub end_at : {S K : Type 0} (held : S → Option (List ℕ)) (faults : S → ℕ) (scripts : List (List ℕ)) (e : EngineState K) (i : ℕ) (w : Work) (x : SessionEnd S) → EndsAt scripts e i w → IsEndOf held faults w x → IsSome x.sink → IsEndAt held faults scripts e.history i x
-end_at held faults scripts e i w x at as_keeper sink = record {
+pub end_at : {S K : Type 0} (held : S → Option (List ℕ)) (faults : S → ℕ) (word : S → List ℕ) (jobs : List Job) (e : EngineState K) (i : ℕ) (w : Work) (x : SessionEnd S) → EndsAt jobs e i w → IsEndOf held faults word w x → IsSome x.sink → IsEndAt held faults word jobs e.history i x
+end_at held faults word jobs e i w x at came_to sink = record {
   sink = sink;
-  is_end = λ script there. is_end held faults w e at.end (nth_session i) script x at.ended at.over at.number (at.script script there) as_keeper;
+  is_end = λ job there. is_end held faults word w e at.end (nth_session i) job x at.ended at.over at.number (at.job job there) came_to;
 }
 
 -- ---- the disk
@@ -174,11 +190,11 @@ no_fault as_keeper first e none kept legal = by (has_fault e.history) refl
 
 -- ---- the loops over workers and sinks
 
-pub end_some : {K : Type 0} (scripts : List (List ℕ)) (e : EngineState K) (i : ℕ) (w : Work) → EndsAt scripts e i w → IsSome w.end
-end_some scripts e i w at = subst (λ o. IsSome o) (sym at.ended) refl
+pub end_some : {K : Type 0} (jobs : List Job) (e : EngineState K) (i : ℕ) (w : Work) → EndsAt jobs e i w → IsSome w.end
+end_some jobs e i w at = subst (λ o. IsSome o) (sym at.ended) refl
 
-pub end_few : {K : Type 0} (scripts : List (List ℕ)) (e : EngineState K) (i : ℕ) (w : Work) → EndsAt scripts e i w → length w.session.transcript ≤ MAX_ASKS
-end_few scripts e i w at = at.over.come.few
+pub end_few : {K : Type 0} (jobs : List Job) (e : EngineState K) (i : ℕ) (w : Work) → EndsAt jobs e i w → length w.session.transcript ≤ MAX_ASKS
+end_few jobs e i w at = at.over.come.few
 
 module _ {X : Type 0} (P : ℕ → X → Type 0) where
   pub next_first : (n : ℕ) (xs rest : List X) (x : X) → xs ≡ x ∷ rest → AllFrom P n xs → P n x
@@ -203,24 +219,68 @@ none_told Q ys none = subst (AllFrom Q 0) (sym none) (λ i y is. absurd (nothing
     nothing : {Y : Type 0} (i : ℕ) (y : Y) → slice_get [] i ≡ Some y → ⊥
     nothing i y is = cc
 
-pub are_ends : {S : Type 0} (held : S → Option (List ℕ)) (faults : S → ℕ) (scripts : List (List ℕ)) (history history' : List Entry) (ends : List (SessionEnd S)) → history' ≡ history → AllFrom (IsEndAt held faults scripts history) 0 ends → length ends ≡ length scripts
-    → AreEnds held faults scripts history' ends
-are_ends held faults scripts history history' ends same all count =
-    subst (λ h. AreEnds held faults scripts h ends) (sym same) (record {
+pub are_ends : {S : Type 0} (held : S → Option (List ℕ)) (faults : S → ℕ) (word : S → List ℕ) (jobs : List Job) (history history' : List Entry) (ends : List (SessionEnd S)) → history' ≡ history → AllFrom (IsEndAt held faults word jobs history) 0 ends → length ends ≡ length jobs
+    → AreEnds held faults word jobs history' ends
+are_ends held faults word jobs history history' ends same all count =
+    subst (λ h. AreEnds held faults word jobs h ends) (sym same) (record {
       count = count;
-      each = λ i script x there is. (subst (λ k. IsEndAt held faults scripts history k x) (omega arith) (all i x is)).is_end script there;
+      each = λ i job x there is. (subst (λ k. IsEndAt held faults word jobs history k x) (omega arith) (all i x is)).is_end job there;
       sinks = λ i x is. (all i x is).sink;
     })
 
--- One worker more was made, for the script at a place.
-pub begun_at : (scripts : List (List ℕ)) (ws ws' : List Work) (at : ℕ) (script d : List ℕ) (w : Work) (s : Progress) → at < length scripts → script ≡ get_or scripts at d → (bytes : List ℕ) → bytes ≡ script → s ≡ begun (record { 0 = at + 1 }) bytes → Follows s
-    → w.session ≡ s → w.written ≡ [] → w.faults ≡ 0 → w.why ≡ None → w.end ≡ None → ws' ≡ ws ++ w ∷ [] → AreBegun (take at scripts) ws → AreBegun (take (at + 1) scripts) ws'
-begun_at scripts ws ws' at script d w s within is bytes same begins f session written unfailed no_why no_end more all =
-    let count : length ws ≡ at = sym (length-map ws (λ (v : Work). v.session.script)) ∙ ap length all.scripts_are ∙ length-take-le at scripts (omega (arith, within)) in
-    let here : w.session ≡ begun (record { 0 = length ws + 1 }) script = session ∙ begins ∙ ap (begun (record { 0 = at + 1 })) same ∙ ap (λ n. begun (record { 0 = n + 1 }) script) (sym count) in
-    subst (AreBegun (take (at + 1) scripts)) (sym more)
-    (subst (λ xs. AreBegun xs (ws ++ w ∷ [])) (sym (take_more scripts at d within ∙ ap (λ x. take at scripts ++ x ∷ []) (sym is)))
-    (begun_more (take at scripts) ws script w all (begun_so (length ws + 1) script w here (subst Follows (sym session) f) written unfailed no_why no_end) (ap (λ (t : Progress). t.script) here)))
+-- One worker more was made, of the session and the sink that come next.
+pub begun_at : (ws ws' : List Work) (w : Work) (s : Progress) → IsNew (length ws + 1) s → w.session ≡ s → w.written ≡ [] → w.faults ≡ 0 → w.why ≡ None → w.end ≡ None → ws' ≡ ws ++ w ∷ [] → AreBegun (jobs_of ws) ws → AreBegun (jobs_of ws') ws'
+begun_at ws ws' w s new session written unfailed no_why no_end more all =
+    subst (λ vs. AreBegun (jobs_of vs) vs) (sym more) (begun_more ws w all (begun_so (length ws + 1) s.script w (session ∙ new.is) (subst Follows (sym session) new.follows) written unfailed no_why no_end))
+
+-- One more is moved from what is left to what is made.
+pub moved : {X Y Z : Type 0} (f : Z → Y) (h : X → Y) (zs zs' : List Z) (z : Z) (xs rest : List X) (x : X) (whole : List Y) → zs' ≡ zs ++ z ∷ [] → xs ≡ x ∷ rest → f z ≡ h x → map f zs ++ map h xs ≡ whole → map f zs' ++ map h rest ≡ whole
+moved f h zs zs' z xs rest x whole more cut same is =
+    ap (λ l. map f l ++ map h rest) more ∙ ap (λ l. l ++ map h rest) (map-append f zs (z ∷ [])) ∙ append_assoc (map f zs) (f z ∷ []) (map h rest) ∙ ap (λ y. map f zs ++ y ∷ map h rest) same ∙ ap (λ l. map f zs ++ map h l) (sym cut) ∙ is
+
+-- all are moved
+pub moved_all : {X Y Z : Type 0} (f : Z → Y) (h : X → Y) (zs : List Z) (xs : List X) (whole : List Y) → length xs ≡ 0 → map f zs ++ map h xs ≡ whole → map f zs ≡ whole
+moved_all f h zs [] whole none is = sym (append-nil (map f zs)) ∙ is
+moved_all f h zs (x ∷ xs) whole none is = absurd (omega (arith, none))
+
+pub some_left : {X : Type 0} {P : Type 0} (xs ys rest : List X) (y : X) (n : ℕ) → ys ≡ y ∷ rest → length xs ≡ length ys → 0 ≡ n → n ≡ length xs → P
+some_left xs ys rest y n cut same none left = absurd (omega (arith, ap length cut, same, none, left))
+
+pub new_first : (scripts : List (List ℕ)) (ss ss' : List Progress) (n : ℕ) → AreNew scripts ss → ss' ≡ ss → n ≡ 0 → AllFrom (λ i s. IsNew (i + 1) s) n ss'
+new_first scripts ss ss' n all same none =
+    subst (λ m. AllFrom (λ i s. IsNew (i + 1) s) m ss') (sym none) (subst (AllFrom (λ i s. IsNew (i + 1) s) 0) (sym same) (λ i s is. subst (λ m. IsNew m s) (omega arith) (all.each i s is)))
+
+pub new_own : (scripts : List (List ℕ)) (ss : List Progress) → AreNew scripts ss → AreNew (map script_of ss) ss
+new_own scripts ss all = subst (λ xs. AreNew xs ss) (sym all.scripts_are) all
+
+pub new_count : (scripts : List (List ℕ)) (ss : List Progress) → AreNew scripts ss → length ss ≡ length scripts
+new_count scripts ss all = sym (length-map ss script_of) ∙ ap length all.scripts_are
+
+-- as many workers as scripts
+pub count_by_scripts : (scripts : List (List ℕ)) (ws : List Work) → map (λ (j : Job). j.script) (jobs_of ws) ≡ scripts → length ws ≡ length scripts
+count_by_scripts scripts ws is = sym (length-map ws job_of) ∙ sym (length-map (jobs_of ws) (λ (j : Job). j.script)) ∙ ap length is
+
+pub begun_first : (jobs : List Job) (ws ws' : List Work) (n : ℕ) → AreBegun jobs ws → ws' ≡ ws → n ≡ 0 → AllFrom (λ i w. IsBegun (i + 1) w) n ws'
+begun_first jobs ws ws' n all same none =
+    subst (λ m. AllFrom (λ i w. IsBegun (i + 1) w) m ws') (sym none) (subst (AllFrom (λ i w. IsBegun (i + 1) w) 0) (sym same) (λ i w is. subst (λ m. IsBegun m w) (omega arith) (all.each i w is)))
+
+pub begun_none : (ws : List Work) → ws ≡ [] → AreBegun (jobs_of ws) ws
+begun_none ws none = subst (λ vs. AreBegun (jobs_of vs) vs) (sym none) (record { jobs_are = refl; each = λ i w is. absurd (nothing i w is) })
+  where
+    nothing : (i : ℕ) (w : Work) → slice_get [] i ≡ Some w → ⊥
+    nothing i w is = cc
+
+pub all_none : {X : Type 0} (P : X → Type 0) (xs : List X) → xs ≡ [] → All P xs
+all_none P xs none = subst (All P) (sym none) (λ k d within. absurd (omega (arith, within)))
+
+-- at first all is left
+pub moved_none : {X Y Z : Type 0} (f : Z → Y) (h : X → Y) (zs : List Z) (xs ys : List X) → zs ≡ [] → xs ≡ ys → map f zs ++ map h xs ≡ map h ys
+moved_none f h zs xs ys none same = ap (λ l. map f l ++ map h xs) none ∙ ap (map h) same
+
+-- ---- sinks that nothing was written to
+
+pub unwritten_sink : {S : Type 0} (held : S → Option (List ℕ)) (faults : S → ℕ) (n : ℕ) (w : Work) (s : S) → IsBegun n w → IfSome (held s) (λ bytes. bytes ≡ w.written) → faults s ≡ w.faults → IsUnwritten held faults s
+unwritten_sink held faults n w s begun_yet holds counted = (subst (λ t. IfSome (held s) (λ bytes. bytes ≡ t)) begun_yet.written holds, counted ∙ begun_yet.unfailed)
 
 -- ---- the beginning
 
@@ -228,22 +288,18 @@ pub books_count : (n : ℕ) → length (no_books n) ≡ n
 books_count zero = refl
 books_count (suc n) = ap suc (books_count n)
 
-pub begun_count : (scripts : List (List ℕ)) (ws : List Work) → AreBegun scripts ws → length ws ≡ length scripts
-begun_count scripts ws all = sym (length-map ws (λ (w : Work). w.session.script)) ∙ ap length all.scripts_are
+pub begun_count : (jobs : List Job) (ws : List Work) → AreBegun jobs ws → length ws ≡ length jobs
+begun_count jobs ws all = sym (length-map ws job_of) ∙ ap length all.jobs_are
 
-pub begun_as : (scripts : List (List ℕ)) (ws : List Work) → scripts_of ws ≡ scripts → AreBegun (scripts_of ws) ws → AreBegun scripts ws
-begun_as scripts ws is begun_yet = subst (λ ss. AreBegun ss ws) is begun_yet
+pub begun_as : (jobs : List Job) (ws : List Work) → jobs_of ws ≡ jobs → AreBegun (jobs_of ws) ws → AreBegun jobs ws
+begun_as jobs ws is begun_yet = subst (λ js. AreBegun js ws) is begun_yet
 
--- with room for the ends of all of them
-pub ready_first : {E : Type 0} (scripts : List (List ℕ)) (ws : List Work) (ends : List E) (room : ℕ) → AreBegun scripts ws → ends ≡ [] → length scripts ≤ room → AreReady ws ends room
-ready_first scripts ws ends room all none within = record {
-  begun = subst (λ ss. AreBegun ss ws) (sym all.scripts_are) all;
-  no_end = none;
-  fits = omega (arith, within, begun_count scripts ws all);
-}
+-- by their own jobs, where nothing was done to them
+pub begun_left : (jobs : List Job) (ws ws' : List Work) → AreBegun jobs ws → ws' ≡ ws → AreBegun (jobs_of ws') ws'
+begun_left jobs ws ws' all same = subst (λ vs. AreBegun (jobs_of vs) vs) (sym same) (subst (λ js. AreBegun js ws) (sym all.jobs_are) all)
 
-pub stand_first : {K : Type 0} (e : EngineState K) (scripts : List (List ℕ)) (ws ws' : List Work) → e.history ≡ [] → length e.books ≡ length scripts → ws' ≡ ws → AreBegun scripts ws → AllStand ws' e
-stand_first e scripts ws ws' none books same all = subst (λ xs. AllStand xs e) (sym same) (all_first e none scripts ws books all)
+pub stand_first : {K : Type 0} (e : EngineState K) (jobs : List Job) (ws ws' : List Work) → e.history ≡ [] → length e.books ≡ length jobs → ws' ≡ ws → AreBegun jobs ws → AllStand ws' e
+stand_first e jobs ws ws' none books same all = subst (λ xs. AllStand xs e) (sym same) (all_first e none jobs ws books all)
 
 -- the database with which a history began, of so many sessions
 began : {K : Type 0} (first e : EngineState K) (n : ℕ) → e.recovered ≡ first.recovered → length e.books ≡ length first.books → length first.books ≡ n → first_of e ≡ Build first.recovered n
@@ -267,11 +323,26 @@ first_history {K} first e n m k is count recovered books legal =
     subst (λ c. Legal (Build [] c) e.history) (books ∙ ap (λ (f : EngineState K). length f.books) is ∙ books_count n ∙ count)
     (subst (λ rs. Legal (Build rs (length e.books)) e.history) (recovered ∙ ap (λ (f : EngineState K). f.recovered) is) legal)
 
-pub order_first : (scripts : List (List ℕ)) (ws ws' : List Work) (order : List SessionId) → ws' ≡ ws → AreBegun scripts ws → All (IsSession (length scripts)) order → All (IsSession (length ws')) order
-order_first scripts ws ws' order same all sessions = subst (λ n. All (IsSession n) order) (sym (ap length same ∙ begun_count scripts ws all)) sessions
+pub order_first : (jobs : List Job) (ws ws' : List Work) (order : List SessionId) → ws' ≡ ws → AreBegun jobs ws → All (IsSession (length jobs)) order → All (IsSession (length ws')) order
+order_first jobs ws ws' order same all sessions = subst (λ n. All (IsSession n) order) (sym (ap length same ∙ begun_count jobs ws all)) sessions
 
--- the scripts of the workers that have ended, and how many they are
-pub ended_scripts : (scripts : List (List ℕ)) (ws ws' ended : List Work) → ws' ≡ ws → AreBegun scripts ws → scripts_of ended ≡ scripts_of ws' → (scripts_of ended ≡ scripts) × (length ended ≡ length scripts)
-ended_scripts scripts ws ws' ended same all kept_so =
-    let is : scripts_of ended ≡ scripts = kept_so ∙ ap scripts_of same ∙ all.scripts_are in
-    (is, sym (length-map ended (λ (w : Work). w.session.script)) ∙ ap length is)
+-- the jobs of the workers that have ended, and how many they are
+pub ended_jobs : (jobs : List Job) (ws ws' ended : List Work) → ws' ≡ ws → AreBegun jobs ws → jobs_of ended ≡ jobs_of ws' → (jobs_of ended ≡ jobs) × (length ended ≡ length jobs)
+ended_jobs jobs ws ws' ended same all kept_so =
+    let is : jobs_of ended ≡ jobs = kept_so ∙ ap jobs_of same ∙ all.jobs_are in
+    (is, sym (length-map ended job_of) ∙ ap length is)
+
+-- ---- scripts and words by themselves
+
+map_twice : {X Y Z : Type 0} (f : Y → Z) (h : X → Y) (xs : List X) → map f (map h xs) ≡ map (λ x. f (h x)) xs
+map_twice f h [] = refl
+map_twice f h (x ∷ xs) = ap (λ l. f (h x) ∷ l) (map_twice f h xs)
+
+pub scripts_by : (ws : List Work) (scripts : List (List ℕ)) → map (λ (w : Work). w.session.script) ws ≡ scripts → map (λ (j : Job). j.script) (jobs_of ws) ≡ scripts
+scripts_by ws scripts is = map_twice (λ (j : Job). j.script) job_of ws ∙ is
+
+pub words_by : (ws : List Work) (words : List (List ℕ)) → map (λ (w : Work). w.word) ws ≡ words → map (λ (j : Job). j.word) (jobs_of ws) ≡ words
+words_by ws words is = map_twice (λ (j : Job). j.word) job_of ws ∙ is
+
+pub words_back : (ws : List Work) (words : List (List ℕ)) → words ≡ map (λ (w : Work). w.word) ws → words ≡ map (λ (j : Job). j.word) (jobs_of ws)
+words_back ws words is = is ∙ sym (map_twice (λ (j : Job). j.word) job_of ws)

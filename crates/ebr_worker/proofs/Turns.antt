@@ -15,14 +15,15 @@ use Rattle.ebr_faults.specs.Faults.{one_more}
 use Rattle.ebr_report.specs.declared.ends.EndKind.{EndKind}
 use Rattle.ebr_report.specs.declared.ends.EndKind.TheVariants as ending
 use Rattle.ebr_calls.specs.Steps.{Ended}
-use Rattle.ebr_calls.specs.Courses.{AllContinue, Continues}
+use Rattle.ebr_calls.specs.Continuation.{AllContinue, Continues}
 use Rattle.ebr_session.specs.declared.next.NextAsk.TheVariants as next
-use Rattle.ebr_session.specs.Has.{Follows, GoesBehind, HasAsked, HasPrinted, IsFit, IsPrefix, IsShort, Made, Progress, WentOn, answered, answers, asks, ends, exchange, is_leaving, is_short, printed_before, run_of, stops, wants}
+use Rattle.ebr_session.specs.Has.{Follows, GoesBehind, HasAsked, HasPrinted, IsFit, IsShort, Made, Progress, WentOn, answered, is_leaving, is_short, run_of, wants}
+use Rattle.ebr_session.specs.Transcripts.{IsPrefix, answers, asks, ends, exchange, printed_before, stops}
 use Rattle.ebr_session.specs.Sessions.{SessionRun, Printed}
 use Rattle.ebr_worker.specs.Matches.{ask_recorded, as_recorded}
 use Rattle.ebr_worker.specs.Paced.{has_ended}
-use Rattle.ebr_worker.specs.Ends.{AnswersLeave, Came, Quit, Ran, RanOut, RanToEnd, StopsIt, failed_writes, printed_before_last}
-use Rattle.ebr_worker.specs.Work.{HasCome, Runs, Work, why_short}
+use Rattle.ebr_worker.specs.Ends.{AnswersLeave, Came, Job, Quit, Ran, RanOut, RanToEnd, StopsIt, failed_writes, printed_before_last}
+use Rattle.ebr_worker.specs.Work.{HasCome, Runs, Work, job_of, why_short}
 use Rattle.ebr_worker.specs.Turn.{Happens, MayTurn, MayTurnBy, TakesTurn}
 use Rattle.ebr_worker.specs.inside.Worker.{Advanced, Asks, AsksBy, Flushed, HasGoneOn, HasQuit, LeavesNow, Quits, Settles, end_by, end_of, having_quit, if_ended, why_by, with_leave}
 use Rattle.ebr_worker.proofs.Histories.{any_more}
@@ -198,6 +199,9 @@ prefix_same xs ys is = record { rest = []; whole = is ∙ sym (append-nil ys) }
 
 -- ---- it goes on
 
+pub job_so : (w : Work) (script word : List ℕ) → w.session.script ≡ script → w.word ≡ word → job_of w ≡ record { script = script; word = word }
+job_so w script word same_script same_word = λ i. record { script = same_script i; word = same_word i }
+
 -- It was answered that there is no memory: Leave is out.
 pub gone_leaving : (q : Ask) (w new : Work) → Runs w → w.end ≡ None → is_some w.why ≡ true → LeavesNow q w new → HasGoneOn q w new
 gone_leaving q w new runs no_end some n =
@@ -226,21 +230,24 @@ gone_leaving q w new runs no_end some n =
         no_end = ap (λ (v : Work). v.end) n.is ∙ no_end;
       };
       session = ap (λ (t : Progress). t.session) session;
-      script = ap (λ (t : Progress). t.script) session;
+      job = ap job_of n.is;
       transcript = mine;
     }
 
 -- It has quit: Leave is out.
 module _ (why : EndKind) (q : Ask) (w mid new : Work) (runs : Runs w) (no_end : w.end ≡ None) (long : is_some w.why ≡ false)
-    (number : mid.session.session ≡ w.session.session) (script : mid.session.script ≡ w.session.script) (mine : mid.session.transcript ≡ w.session.transcript) (goes : mid.session.ended ≡ false) (end : mid.end ≡ None) (n : Quits why q mid new) where
+    (number : mid.session.session ≡ w.session.session) (job : job_of mid ≡ job_of w) (mine : mid.session.transcript ≡ w.session.transcript) (goes : mid.session.ended ≡ false) (end : mid.end ≡ None) (n : Quits why q mid new) where
   quit_session : new.session ≡ (having_quit why mid).session
   quit_session = ap (λ (v : Work). v.session) n.is
 
   quit_mine : new.session.transcript ≡ w.session.transcript
   quit_mine = ap (λ (t : Progress). t.transcript) quit_session ∙ mine
 
+  quit_job : job_of new ≡ job_of w
+  quit_job = ap job_of n.is ∙ job
+
   quit_script : new.session.script ≡ w.session.script
-  quit_script = ap (λ (t : Progress). t.script) quit_session ∙ script
+  quit_script = ap (λ (j : Job). j.script) quit_job
 
   gone_quit : AsksBy (Some why) q new → HasGoneOn q w new
   gone_quit by = record {
@@ -256,7 +263,7 @@ module _ (why : EndKind) (q : Ask) (w mid new : Work) (runs : Runs w) (no_end : 
       no_end = ap (λ (v : Work). v.end) n.is ∙ end;
     };
     session = ap (λ (t : Progress). t.session) quit_session ∙ number;
-    script = quit_script;
+    job = quit_job;
     transcript = quit_mine;
   }
 
@@ -338,7 +345,7 @@ gone_on q w mid new runs no_end long few on flushed =
         no_end = flushed.end ∙ ap (λ (v : Work). v.end) on.same ∙ no_end;
       };
       session = ap (λ (t : Progress). t.session) session;
-      script = ap (λ (t : Progress). t.script) session;
+      job = job_so new w.session.script w.word (ap (λ (t : Progress). t.script) session) (flushed.word ∙ ap (λ (v : Work). v.word) on.same);
       transcript = mine;
     }
 
@@ -350,15 +357,15 @@ gone_unwritten why q p w mid wrote new k runs no_end long on flushed n =
     let is : mid.session ≡ record s { printed = mid.session.printed; out = Some p } = on.advances.is in
     let session : wrote.session ≡ record s { printed = mid.session.printed; out = Some p } = flushed.session ∙ is in
     let number : wrote.session.session ≡ s.session = ap (λ (t : Progress). t.session) session in
-    let script : wrote.session.script ≡ s.script = ap (λ (t : Progress). t.script) session in
+    let job : job_of wrote ≡ job_of w = job_so wrote w.session.script w.word (ap (λ (t : Progress). t.script) session) (flushed.word ∙ ap (λ (v : Work). v.word) on.same) in
     let mine : wrote.session.transcript ≡ s.transcript = ap (λ (t : Progress). t.transcript) session in
     let goes : wrote.session.ended ≡ false = ap (λ (t : Progress). t.ended) session ∙ runs.goes_on in
     let end : wrote.end ≡ None = flushed.end ∙ ap (λ (v : Work). v.end) on.same ∙ no_end in
     let one : new.faults ≡ 1 = ap (λ (v : Work). v.faults) d.is ∙ flushed.counted ∙ ap one_more (ap (λ (v : Work). v.faults) on.same ∙ runs.unfailed) in
-    gone_quit ending.SinkFault q w wrote new runs no_end long number script mine goes end d (
+    gone_quit ending.SinkFault q w wrote new runs no_end long number job mine goes end d (
       d.leave,
       one,
-      quit_so ending.SinkFault q w wrote new runs no_end long number script mine goes end d wrote.written (ap (λ (v : Work). v.written) d.is)
+      quit_so ending.SinkFault q w wrote new runs no_end long number job mine goes end d wrote.written (ap (λ (v : Work). v.written) d.is)
           (subst (λ l. IsPrefix wrote.written l) printed_out flushed_part)
           (subst (λ l. IsPrefix l wrote.written) (ap (λ (v : Work). v.written) on.same ∙ written_so w runs) flushed.grown),
     )
@@ -552,7 +559,7 @@ out_mid q w a = ap (λ (o : Option Ask). is_some o) a.out
 module _ {A : Type 0} (may_ask : A → SessionId → List Exchange → Type 0) (replied : A → A → SessionId → Ask → Answer → Type 0) where
   -- the turn of one that has ended does nothing
   pub rests : (o : Option EndKind) (w : Work) (x : A) → MayTurn may_ask w x → o ≡ w.end → is_some o ≡ true → TakesTurn may_ask replied w w x x
-  rests o w x may same is = record { session = refl; script = refl; stands = may; happens = nothing w.end (ap (λ (k : Option EndKind). is_some k) (sym same) ∙ is) }
+  rests o w x may same is = record { session = refl; job = refl; stands = may; happens = nothing w.end (ap (λ (k : Option EndKind). is_some k) (sym same) ∙ is) }
     where
       nothing : (k : Option EndKind) → is_some k ≡ true → Happens replied k w w x x
       nothing None is = cc
@@ -594,7 +601,7 @@ module _ {A : Type 0} (may_ask : A → SessionId → List Exchange → Type 0) (
     pub takes_turn : TakesTurn may_ask replied w new x y
     takes_turn = record {
       session = number_new ∙ on.session;
-      script = script_same q a mid new on.asks did leave ∙ on.script;
+      job = job_so new mid.session.script mid.word (script_same q a mid new on.asks did leave) (ap (λ (v : Work). v.word) did.is) ∙ on.job;
       stands = may_new;
       happens = subst (λ o. Happens replied o w new x y) (sym no_end) (record {
         ask = q;

@@ -12,8 +12,8 @@ use Rattle.ebr_asks.specs.declared.answer.Answer.TheVariants.{Done, Refused, Dis
 use Rattle.ebr_asks.specs.declared.entry.Entry.{Entry}
 use Rattle.ebr_asks.specs.declared.entry.Exchange.{Exchange}
 use Rattle.ebr_calls.specs.Steps.{Ended}
-use Rattle.ebr_calls.specs.Courses.{AllContinue}
-use Rattle.ebr_session.specs.Has.{IsPrefix, answers, asks, printed_before}
+use Rattle.ebr_calls.specs.Continuation.{AllContinue}
+use Rattle.ebr_session.specs.Transcripts.{IsPrefix, answers, asks, printed_before}
 use Rattle.ebr_session.specs.Sessions.{SessionRun, Printed}
 use Rattle.ebr_core.specs.History.{Mine}
 use Rattle.ebr_worker.specs.Matches.{as_recorded}
@@ -102,6 +102,11 @@ refuses x = false
 abbrev pub is_refused : Exchange → Bool
 is_refused x = refuses x.answer
 
+-- A script that is run as a session, and the word of the sink that its replies go to.
+pub record Job : Type 0 where
+  pub script : List ℕ
+  pub word : List ℕ
+
 -- What a session came to: its number, the counts of its asks, and how it ended, with these replies.
 pub record CameTo {S : Type 0} (history : List Entry) (script : List ℕ) (session : SessionId) (replies : List ℕ) (e : SessionEnd S) : Type 0 where
   pub session_is : e.session ≡ session
@@ -114,9 +119,11 @@ abbrev pub failed_writes : EndKind → ℕ
 failed_writes ending.SinkFault = 1
 failed_writes k = 0
 
--- The same with its sink, which holds the replies, where it tells. The sink failed exactly where that is the end, at one write.
-pub record IsEnd {S : Type 0} (held : S → Option (List ℕ)) (faults : S → ℕ) (history : List Entry) (script : List ℕ) (session : SessionId) (e : SessionEnd S) : Type 0 where
+-- The same with its sink, which is that of the job's word and holds the replies, where it tells. The sink failed exactly where that is the
+-- end, at one write.
+pub record IsEnd {S : Type 0} (held : S → Option (List ℕ)) (faults : S → ℕ) (word : S → List ℕ) (history : List Entry) (job : Job) (session : SessionId) (e : SessionEnd S) : Type 0 where
   pub replies : List ℕ
-  pub came_to : CameTo history script session replies e
+  pub came_to : CameTo history job.script session replies e
+  pub asked : IfSome e.sink (λ sink. word sink ≡ job.word)
   pub holds : IfSome e.sink (λ sink. IfSome (held sink) (λ bytes. bytes ≡ replies))
   pub failed : IfSome e.sink (λ sink. faults sink ≡ failed_writes e.end)

@@ -4,7 +4,7 @@ use Rattle.std.specs.List.{list_any}
 use Rattle.ebr_base.specs.declared.numbers.SessionId.{SessionId}
 use Rattle.ebr_asks.specs.declared.entry.Entry.{Entry}
 use Rattle.ebr_asks.specs.declared.entry.Exchange.{Exchange}
-use Rattle.ebr_session.specs.Has.{ends}
+use Rattle.ebr_session.specs.Transcripts.{ends}
 use Rattle.ebr_core.specs.History.{Mine}
 
 -- One of a session's exchanges has ended it: Leave, or an answer after which it goes on with nothing.

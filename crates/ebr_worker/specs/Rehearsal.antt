@@ -2,7 +2,8 @@
 use Rattle.std.specs.Prelude.{ℕ, ◌≡◌, ◌+◌, List, length, map, slice_get, Some}
 use Rattle.ebr_report.specs.declared.ends.EndKind.{EndKind}
 use Rattle.ebr_core.specs.Engine.{EngineState}
-use Rattle.ebr_worker.specs.Work.{Over, Stands, Work}
+use Rattle.ebr_worker.specs.Ends.{Job}
+use Rattle.ebr_worker.specs.Work.{Over, Stands, Work, job_of}
 
 -- The workers are those of the engine's sessions, in order, and each stands over it.
 pub record AllStand {K : Type 0} (ws : List Work) (e : EngineState K) : Type 0 where
@@ -16,5 +17,5 @@ pub record AllEnded {K : Type 0} (ws : List Work) (e : EngineState K) : Type 0 w
   pub number : (i : ℕ) (w : Work) → slice_get ws i ≡ Some w → w.session.session ≡ record { 0 = i + 1 }
   pub ended : (i : ℕ) (w : Work) → slice_get ws i ≡ Some w → (k : EndKind) × (w.end ≡ Some k) × Over k w e
 
-abbrev pub scripts_of : List Work → List (List ℕ)
-scripts_of ws = map (λ (w : Work). w.session.script) ws
+abbrev pub jobs_of : List Work → List Job
+jobs_of ws = map job_of ws

@@ -5,8 +5,8 @@ use Rattle.ebr_asks.specs.declared.ask.Ask.{Ask}
 use Rattle.ebr_asks.specs.declared.answer.Answer.{Answer}
 use Rattle.ebr_asks.specs.declared.entry.Exchange.{Exchange}
 use Rattle.ebr_report.specs.declared.ends.EndKind.{EndKind}
-use Rattle.ebr_session.specs.Has.{exchange}
-use Rattle.ebr_worker.specs.Work.{HasCome, Runs, Work}
+use Rattle.ebr_session.specs.Transcripts.{exchange}
+use Rattle.ebr_worker.specs.Work.{HasCome, Runs, Work, job_of}
 
 module _ {A : Type 0} (may_ask : A → SessionId → List Exchange → Type 0) where
   -- The session runs and may make its next ask, or has ended so.
@@ -35,6 +35,6 @@ module _ {A : Type 0} (may_ask : A → SessionId → List Exchange → Type 0) (
   -- What a turn does.
   pub record TakesTurn (old new : Work) (x y : A) : Type 0 where
     pub session : new.session.session ≡ old.session.session
-    pub script : new.session.script ≡ old.session.script
+    pub job : job_of new ≡ job_of old
     pub stands : MayTurn may_ask new y
     pub happens : Happens replied old.end old new x y

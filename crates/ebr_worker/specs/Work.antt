@@ -17,17 +17,22 @@ use Rattle.ebr_core.specs.History.{IsLive}
 use Rattle.ebr_core.specs.Machine.{Reply}
 use Rattle.ebr_worker.specs.Matches.{Matches, as_recorded}
 use Rattle.ebr_worker.specs.Paced.{IsSession, has_ended}
-use Rattle.ebr_worker.specs.Ends.{Came, failed_writes, is_refused}
+use Rattle.ebr_worker.specs.Ends.{Came, Job, failed_writes, is_refused}
 
--- Where the session stands, what it printed that is written, what the sink holds, if it tells, its count of faults, why it leaves before
--- its script has ended, if it does, and how it has ended, if it has.
+-- Where the session stands, what it printed that is written, the sink's word, what the sink holds, if it tells, its count of faults, why it
+-- leaves before its script has ended, if it does, and how it has ended, if it has.
 pub record Work : Type 0 where
   pub session : Progress
   pub written : List ℕ
+  pub word : List ℕ
   pub held : Option (List ℕ)
   pub faults : ℕ
   pub why : Option EndKind
   pub end : Option EndKind
+
+-- what it is there to do
+abbrev pub job_of : Work → Job
+job_of w = record { script = w.session.script; word = w.word }
 
 -- ---- the session by itself
 
@@ -112,17 +117,18 @@ Makes as_keeper (Some k) old new e e' = (new ≡ old) × (e' ≡ e)
 -- What a turn does.
 pub record Turned {K : Type 0} (as_keeper : K → Keeper) (old new : Work) (e e' : EngineState K) : Type 0 where
   pub session : new.session.session ≡ old.session.session
-  pub script : new.session.script ≡ old.session.script
+  pub job : job_of new ≡ job_of old
   pub stands : Stands new e'
   pub makes : Makes as_keeper old.end old new e e'
 
 -- ---- its end
 
 -- what a worker's session came to, with its sink
-pub record IsEndOf {S : Type 0} (held : S → Option (List ℕ)) (faults : S → ℕ) (w : Work) (e : SessionEnd S) : Type 0 where
+pub record IsEndOf {S : Type 0} (held : S → Option (List ℕ)) (faults : S → ℕ) (word : S → List ℕ) (w : Work) (e : SessionEnd S) : Type 0 where
   pub session : e.session ≡ w.session.session
   pub requests : e.requests ≡ length w.session.transcript
   pub refused : e.refused ≡ count_by is_refused w.session.transcript
   pub end : w.end ≡ Some e.end
   pub holds : IfSome e.sink (λ sink. IfSome (held sink) (λ bytes. bytes ≡ w.written))
   pub counted : IfSome e.sink (λ sink. faults sink ≡ w.faults)
+  pub asked : IfSome e.sink (λ sink. word sink ≡ w.word)

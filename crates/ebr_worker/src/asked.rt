@@ -3,7 +3,8 @@
 ghost use Rattle.std.specs.Prelude.{◌≡◌, ◌<◌, ◌∷◌, ◌++◌, [], true, false, length};
 ghost use Rattle.ebr_asks.specs.declared.ask.Ask.TheVariants.{Leave as leaves};
 ghost use Rattle.ebr_units.specs.Served.{served};
-ghost use Rattle.ebr_session.specs.Has.{IsFit, Suits, ends, exchange, is_short};
+ghost use Rattle.ebr_session.specs.Has.{IsFit, Suits, is_short};
+ghost use Rattle.ebr_session.specs.Transcripts.{ends, exchange};
 ghost use Rattle.ebr_core.specs.Engine.{entry_of};
 ghost use Rattle.ebr_worker.specs.Ends.{AnswersLeave};
 ghost use Rattle.ebr_worker.specs.Work.{Adds, MayAsk};

@@ -2,14 +2,9 @@
 
 ghost use Rattle.std.specs.Prelude.{◌≡◌};
 
-use crate::run::Sessions;
 use ebr_base::List;
 use ebr_core::Engine;
-use ebr_outside::Sink;
 use ebr_record::{Keep, Record};
-
-/// Drops sessions that don't run.
-pub fn release<S: Sink>(_sessions: Sessions<S>) {}
 
 /// Drops records.
 pub fn release_records(_records: List<Record>) {}

@@ -5,7 +5,7 @@ ghost use Rattle.std.specs.List.{position};
 ghost use Rattle.ebr_core.specs.Engine.{first_of};
 ghost use Rattle.ebr_core.specs.Kept.{Kept};
 ghost use Rattle.ebr_worker.specs.Paced.{IsSession, Paced};
-ghost use Rattle.ebr_worker.specs.Rehearsal.{AllEnded, AllStand, scripts_of};
+ghost use Rattle.ebr_worker.specs.Rehearsal.{AllEnded, AllStand, jobs_of};
 ghost use Rattle.ebr_worker.specs.inside.Rehearsal.{Rehearses, TurnedAt, goes_on};
 
 use crate::engine::turn;
@@ -28,7 +28,7 @@ pub fn rehearse_core<K: Keep, S: Sink>(
     requires order { All (IsSession (length workers.old)) order.now }
     ensures paced { Paced (length workers.old) order.now engine.new.history }
     ensures ended { AllEnded workers.new engine.new }
-    ensures scripts { scripts_of workers.new ≡ scripts_of workers.old }
+    ensures jobs { jobs_of workers.new ≡ jobs_of workers.old }
     ensures sessions { length engine.new.books ≡ length engine.old.books }
     ensures recovered { engine.new.recovered ≡ engine.old.recovered }
     ensures kept { Kept (K.as_keeper engine.old.keeper) (K.as_keeper engine.new.keeper) (first_of engine.new) engine.new.history }

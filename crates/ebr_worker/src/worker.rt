@@ -41,7 +41,7 @@ impl<S: Sink> Model for Worker<S> {
 
     ghost coded = { Prim.hlevel (codes, a.the_row.coded, x.the_row.coded) };
 
-    ghost view = { λ w. record { session = w.session; written = take w.written w.session.printed; held = S.held w.sink; faults = S.faults w.sink; why = w.why; end = w.end } };
+    ghost view = { λ w. record { session = w.session; written = take w.written w.session.printed; word = S.word w.sink; held = S.held w.sink; faults = S.faults w.sink; why = w.why; end = w.end } };
 
     ghost invariant = { λ w. (w.written ≤ length w.session.printed) × IfSome (S.held w.sink) (λ bytes. bytes ≡ take w.written w.session.printed) };
 }
@@ -50,7 +50,7 @@ impl<S: Sink> Worker<S> {
     /// A session that has printed nothing, with its sink.
     pub fn new(session: Session<Book>, sink: S) -> Worker<S>
         requires empty { IfSome (S.held sink) (λ bytes. bytes ≡ []) }
-        ensures { result ≡ record { session = session; written = []; held = S.held sink; faults = S.faults sink; why = None; end = None } }
+        ensures { result ≡ record { session = session; written = []; word = S.word sink; held = S.held sink; faults = S.faults sink; why = None; end = None } }
     {
         Worker {
             session,
@@ -183,11 +183,21 @@ impl<S: Sink> Worker<S> {
         self.session.transcript()
     }
 
+    /// The sink of a session that doesn't run. It holds what was written.
+    pub fn into_sink(self) -> S
+        ensures word { S.word result ≡ self.word }
+        ensures holds { IfSome (S.held result) (λ bytes. bytes ≡ self.written) }
+        ensures counted { S.faults result ≡ self.faults }
+    {
+        let Worker { sink, .. } = self;
+        sink
+    }
+
     /// What a session that has ended came to, with its sink.
     pub fn into_end(self) -> SessionEnd<S>
         requires ended { IsSome self.end }
         requires few { length self.session.transcript ≤ MAX_ASKS }
-        ensures end { IsEndOf S.held S.faults self result }
+        ensures end { IsEndOf S.held S.faults S.word self result }
         ensures sink { IsSome result.sink }
     {
         let Worker {

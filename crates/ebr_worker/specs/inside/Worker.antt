@@ -10,13 +10,14 @@ use Rattle.ebr_asks.specs.declared.answer.Answer.TheVariants as answer
 use Rattle.ebr_outside.specs.Sink.{faults_after}
 use Rattle.ebr_report.specs.declared.ends.EndKind.{EndKind}
 use Rattle.ebr_report.specs.declared.ends.EndKind.TheVariants as ending
-use Rattle.ebr_calls.specs.Courses.{AllContinue}
+use Rattle.ebr_calls.specs.Continuation.{AllContinue}
 use Rattle.ebr_session.specs.declared.next.NextAsk.{NextAsk}
-use Rattle.ebr_session.specs.Has.{Advances, Follows, IsFit, IsPrefix, IsShort, Progress, answered, answers, is_short}
+use Rattle.ebr_session.specs.Has.{Advances, Follows, IsFit, IsShort, Progress, answered, is_short}
+use Rattle.ebr_session.specs.Transcripts.{IsPrefix, answers}
 use Rattle.ebr_session.specs.Sessions.{Printed}
 use Rattle.ebr_worker.specs.Paced.{has_ended}
 use Rattle.ebr_worker.specs.Ends.{printed_before_last}
-use Rattle.ebr_worker.specs.Work.{HasCome, Runs, Work}
+use Rattle.ebr_worker.specs.Work.{HasCome, Runs, Work, job_of}
 
 -- ---- it goes on
 
@@ -33,6 +34,7 @@ pub record Flushed (all : Bool) (old new : Work) : Type 0 where
   pub part : IsPrefix new.written new.session.printed
   pub whole : OnTrue all (new.written ≡ new.session.printed)
   pub counted : new.faults ≡ faults_after all old.faults
+  pub word : new.word ≡ old.word
   pub why : new.why ≡ old.why
   pub end : new.end ≡ old.end
 
@@ -107,7 +109,7 @@ pub record Asks (q : Ask) (w : Work) : Type 0 where
 pub record HasGoneOn (q : Ask) (old new : Work) : Type 0 where
   pub asks : Asks q new
   pub session : new.session.session ≡ old.session.session
-  pub script : new.session.script ≡ old.session.script
+  pub job : job_of new ≡ job_of old
   pub transcript : new.session.transcript ≡ old.session.transcript
 
 -- ---- its answer
