@@ -19,7 +19,8 @@ use Rattle.ebr_record.specs.Keeper.{Keeper}
 use Rattle.ebr_core.specs.Engine.{EngineState, database_of, entry_of, first_of}
 use Rattle.ebr_core.specs.History.{IsLive, Legal, Mine, is_of}
 use Rattle.ebr_core.specs.History as history
-use Rattle.ebr_session.specs.Has.{ends, exchange, is_short}
+use Rattle.ebr_session.specs.Has.{is_short}
+use Rattle.ebr_session.specs.Transcripts.{ends, exchange}
 use Rattle.ebr_worker.specs.declared.limits.TheConstants.{MAX_ASKS}
 use Rattle.ebr_worker.specs.Matches.{as_recorded}
 use Rattle.ebr_worker.specs.Paced.{IsSession, has_ended, is_over}

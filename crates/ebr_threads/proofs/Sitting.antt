@@ -7,7 +7,7 @@ use Rattle.ebr_asks.specs.declared.ask.Ask.{Ask}
 use Rattle.ebr_asks.specs.declared.answer.Answer.{Answer}
 use Rattle.ebr_asks.specs.declared.entry.Exchange.{Exchange}
 use Rattle.ebr_report.specs.declared.ends.EndKind.{EndKind}
-use Rattle.ebr_session.specs.Has.{exchange}
+use Rattle.ebr_session.specs.Transcripts.{exchange}
 use Rattle.ebr_worker.specs.declared.limits.TheConstants.{MAX_ASKS}
 use Rattle.ebr_worker.specs.Paced.{IsSession}
 use Rattle.ebr_worker.specs.Turn.{Happens, HasHad, MayTurn, MayTurnBy, TakesTurn}
@@ -65,12 +65,12 @@ pub record Came (z : TurnId) (sessions : ℕ) (first w : Work) (c : ChairState E
   pub went : WentOn first w
 
 pub came_first : (z : TurnId) (sessions : ℕ) (w : Work) (c : ChairState Exchange) → IsReady z sessions w c → Came z sessions w w c
-came_first z sessions w c ready = record { sits = ready.sits; went = record { session = refl; script = refl } }
+came_first z sessions w c ready = record { sits = ready.sits; went = record { session = refl; job = refl } }
 
 pub came_more : (z : TurnId) (sessions : ℕ) (first w new : Work) (c d : ChairState Exchange) → Came z sessions first w c → Sits z sessions new d → WentOn w new → Came z sessions first new d
 came_more z sessions first w new c d came sits one = record {
   sits = sits;
-  went = record { session = one.session ∙ came.went.session; script = one.script ∙ came.went.script };
+  went = record { session = one.session ∙ came.went.session; job = one.job ∙ came.went.job };
 }
 
 -- whether it has ended, by what the loop tests

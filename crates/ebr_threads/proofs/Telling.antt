@@ -10,7 +10,7 @@ use Rattle.ebr_record.specs.Keeper.{Keeper}
 use Rattle.ebr_core.specs.Engine.{EngineState}
 use Rattle.ebr_worker.specs.Matches.{Matches}
 use Rattle.ebr_worker.specs.Paced.{IsSession}
-use Rattle.ebr_worker.specs.Rehearsal.{scripts_of}
+use Rattle.ebr_worker.specs.Rehearsal.{jobs_of}
 use Rattle.ebr_worker.specs.Work.{Over, Work}
 use Rattle.ebr_turn.specs.declared.view.View.{View}
 use Rattle.ebr_turn.specs.Chairs.{list_of, lists, own_list}
@@ -45,11 +45,11 @@ pub went_seats : {A : Type 0} (worker : A → Work) (xs ys : List A) (olds news 
 went_seats worker xs ys olds news len went first last =
     subst (λ (p : List Work × List Work). AllZip WentOn p.0 p.1) (λ i. (first i, sym last i)) (went_of worker xs ys len went)
 
-same_scripts : (olds news : List Work) → AllZip WentOn olds news → scripts_of news ≡ scripts_of olds
-same_scripts [] [] z = refl
-same_scripts [] (y ∷ ys) z = absurd z
-same_scripts (x ∷ xs) [] z = absurd z
-same_scripts (x ∷ xs) (y ∷ ys) z = λ i. z.0.script i ∷ same_scripts xs ys z.1 i
+same_jobs : (olds news : List Work) → AllZip WentOn olds news → jobs_of news ≡ jobs_of olds
+same_jobs [] [] z = refl
+same_jobs [] (y ∷ ys) z = absurd z
+same_jobs (x ∷ xs) [] z = absurd z
+same_jobs (x ∷ xs) (y ∷ ys) z = λ i. z.0.job i ∷ same_jobs xs ys z.1 i
 
 module _ {K : Type 0} (as_keeper : K → Keeper) (engine e : EngineState K) (olds news : List Work) (ready : AllReady (length engine.books) olds)
     (run : IsOfRun as_keeper engine.recovered (length engine.books) (as_keeper engine.keeper) e) (told : AllTold e.history olds news) where
@@ -77,7 +77,7 @@ module _ {K : Type 0} (as_keeper : K → Keeper) (engine e : EngineState K) (old
     sessions = run.sessions_are;
     legal = run.legal;
     kept = run.kept;
-    scripts = same_scripts olds news told.went;
+    jobs = same_jobs olds news told.went;
     ended = record { count = count; number = number; ended = ended };
   }
 

@@ -11,7 +11,7 @@ use Rattle.ebr_core.specs.Engine.{EngineState, HasLegalHistory, database_of, fir
 use Rattle.ebr_core.specs.History.{IsLive, Mine}
 use Rattle.ebr_core.specs.History as history
 use Rattle.ebr_core.specs.Kept.{Kept}
-use Rattle.ebr_session.specs.Has.{exchange}
+use Rattle.ebr_session.specs.Transcripts.{exchange}
 use Rattle.ebr_worker.specs.Matches.{as_recorded}
 use Rattle.ebr_worker.specs.Paced.{IsSession, has_ended, is_over}
 use Rattle.ebr_turn.specs.declared.view.View.{View}

@@ -4,7 +4,7 @@ use Rattle.ebr_asks.specs.declared.entry.Exchange.{Exchange}
 use Rattle.ebr_report.specs.declared.ends.EndKind.{EndKind}
 use Rattle.ebr_worker.specs.Matches.{as_recorded}
 use Rattle.ebr_worker.specs.Paced.{IsSession}
-use Rattle.ebr_worker.specs.Work.{HasCome, Runs, Work}
+use Rattle.ebr_worker.specs.Work.{HasCome, Runs, Work, job_of}
 use Rattle.ebr_turn.specs.Chairs.{ChairState, TurnId}
 use Rattle.ebr_threads.specs.Booking.{chair_of}
 
@@ -37,7 +37,7 @@ pub record HasSat (z : TurnId) (sessions : ℕ) (w : Work) (c : ChairState Excha
 -- A session went on.
 pub record WentOn (old new : Work) : Type 0 where
   pub session : new.session.session ≡ old.session.session
-  pub script : new.session.script ≡ old.session.script
+  pub job : job_of new ≡ job_of old
 
 -- the worker of a place, whose session has made no ask
 pub record IsFresh (i : ℕ) (w : Work) : Type 0 where

@@ -1,12 +1,13 @@
 //! All sessions of an engine, each in a thread of its own.
 
-ghost use Rattle.std.specs.Prelude.{◌≡◌, ◌<◌, ◌^◌, [], IfErr, IfOk, length};
+ghost use Rattle.std.specs.Prelude.{◌≡◌, ◌<◌, ◌^◌, [], All, IfErr, IfOk, length, map};
 ghost use Rattle.ebr_core.specs.History.{Legal};
 ghost use Rattle.ebr_core.specs.Kept.{Kept};
 ghost use Rattle.ebr_core.specs.Machine.{Build};
 ghost use Rattle.ebr_turn.specs.declared.view.Stage.TheVariants.{Idle};
+ghost use Rattle.ebr_worker.specs.Ends.{Job};
 ghost use Rattle.ebr_worker.specs.Rehearsal.{AllStand};
-ghost use Rattle.ebr_worker.specs.Runs.{AreEnds};
+ghost use Rattle.ebr_worker.specs.Runs.{AreEnds, IsUnwritten};
 ghost use Rattle.ebr_threads.specs.Booking.{IsOfRun, IsTold};
 ghost use Rattle.ebr_threads.specs.Run.{AllTold, HasRun};
 ghost use Rattle.ebr_threads.specs.Seating.{AllReady};
@@ -17,22 +18,29 @@ use ebr_core::Engine;
 use ebr_outside::{Gate, Sink};
 use ebr_record::Keep;
 use ebr_turn::{Chair, Turn, Unmade};
-use ebr_worker::{Rehearsed, Sessions, Worker, results_of};
+use ebr_worker::{Rehearsed, Sessions, Worker, results_of, sinks_of};
 use std::alloc::{AllocError, Global};
 use std::marker::Brand;
 use std::sync::Wait;
 use std::thread::Threads;
 
+/// An engine of which no session has asked, and the sinks of the sessions, to which nothing is written.
+#[derive(Drop)]
+pub struct Unrun<K: Keep, S> {
+    pub engine: Engine<K>,
+    pub sinks: Vec<S>,
+}
+
 /// Runs sessions over an engine, each in a thread, whatever order the threads come to their turns in. What a session prints goes to its
-/// sink. A session that finds no memory leaves, and its end says so. Where there is no memory to begin, no session has asked, and the
-/// engine comes back as it was given.
+/// sink. A session that finds no memory leaves, and its end says so. Where there is no memory to begin, no session has asked: the engine
+/// comes back as it was given, and the sinks with nothing written to them.
 pub fn run_threads<K, S, G, R>(
     rt: &R,
     alloc: Global,
     sessions: Sessions<S>,
     engine: Engine<K>,
     gate: &G,
-) -> Result<Rehearsed<K, S>, Unmade<Engine<K>>>
+) -> Result<Rehearsed<K, S>, Unrun<K, S>>
 where
     K: Keep + Send,
     S: Sink + Send,
@@ -42,15 +50,20 @@ where
     requires seats { length engine.books ≡ length sessions }
     requires few { length sessions < 2 ^ 31 }
     ensures legal { IfOk result (λ r. Legal (Build engine.recovered (length sessions)) r.history) }
-    ensures ends { IfOk result (λ r. AreEnds S.held S.faults sessions r.history r.ends) }
+    ensures ends { IfOk result (λ r. AreEnds S.held S.faults S.word sessions r.history r.ends) }
     ensures recovered { IfOk result (λ r. r.recovered ≡ engine.recovered) }
     ensures kept { IfOk result (λ r. Kept (K.as_keeper engine.keeper) (K.as_keeper r.keeper) (Build engine.recovered (length sessions)) r.history) }
-    ensures unmade { IfErr result (λ u. u.value ≡ engine) }
+    ensures unmade { IfErr result (λ u. u.engine ≡ engine) }
+    ensures words { IfErr result (λ u. map S.word u.sinks.items ≡ map (λ (j : Job). j.word) sessions) }
+    ensures unwritten { IfErr result (λ u. All (IsUnwritten S.held S.faults) u.sinks.items) }
 {
-    let (mut workers, ends) = sessions.into_workers();
+    let (mut workers, ends, sinks) = sessions.into_workers();
     match run_core(rt, alloc, engine, &mut workers, gate) {
         Ok(engine) => Ok(results_of(workers, ends, engine)),
-        Err(unmade) => Err(unmade),
+        Err(unmade) => Err(Unrun {
+            engine: unmade.value,
+            sinks: sinks_of(workers, sinks),
+        }),
     }
 }
 

@@ -1,6 +1,9 @@
-use Rattle.std.proofs.Common.{arith, refl, subst, ◌∙◌}
+use Rattle.std.proofs.Common.{ap, arith, length, refl, subst, ◌∙◌}
+use Rattle.std.specs.Prelude.{map}
+use Rattle.ebr_worker.specs.Ends.{Job}
+use Rattle.ebr_worker.specs.Rehearsal.{jobs_of}
 use Rattle.ebr_worker.specs.Runs.{AreEnds}
-use Rattle.ebr_worker.proofs.Running.{begun_count, kept_since, legal_since, stand_first}
+use Rattle.ebr_worker.proofs.Running.{begun_count, begun_left, kept_since, legal_since, stand_first}
 use Rattle.ebr_threads.proofs.run.run_threads.Goals as goal
 
 pub run_core-requires-clause-stand : goal.run_core-requires-clause-stand
@@ -13,7 +16,7 @@ pub results_of-requires-clause-ended : goal.results_of-requires-clause-ended
 results_of-requires-clause-ended g c = c.in-Ok.ensures.ran.ended
 
 pub results_of-requires-clause-empty : goal.results_of-requires-clause-empty
-results_of-requires-clause-empty g c = c.into_workers-workers.ensures.empty
+results_of-requires-clause-empty g c = c.into_workers-workers.ensures.empty.0
 
 pub results_of-requires-clause-room : goal.results_of-requires-clause-room
 results_of-requires-clause-room g c =
@@ -29,7 +32,22 @@ returns-in-Ok-clause-legal g c = legal_since c.args.engine c.in-Ok.engine _ _ c.
 
 pub returns-in-Ok-clause-ends : goal.returns-in-Ok-clause-ends
 returns-in-Ok-clause-ends g c =
-    subst (λ scripts. AreEnds g.S.Sink.held g.S.Sink.faults scripts c.results_of.result.history c.results_of.result.ends) (c.in-Ok.ensures.ran.scripts ∙ c.into_workers-workers.ensures.begun.scripts_are) c.results_of.ensures.ends
+    subst (λ jobs. AreEnds g.S.Sink.held g.S.Sink.faults g.S.Sink.word jobs c.results_of.result.history c.results_of.result.ends) (c.in-Ok.ensures.ran.jobs ∙ c.into_workers-workers.ensures.begun.jobs_are) c.results_of.ensures.ends
+
+pub sinks_of-requires-clause-begun : goal.sinks_of-requires-clause-begun
+sinks_of-requires-clause-begun g c = begun_left c.args.sessions _ _ c.into_workers-workers.ensures.begun c.in-Err.ensures.unmade.1
+
+pub sinks_of-requires-clause-empty : goal.sinks_of-requires-clause-empty
+sinks_of-requires-clause-empty g c = c.into_workers-workers.ensures.empty.1
+
+pub sinks_of-requires-clause-room : goal.sinks_of-requires-clause-room
+sinks_of-requires-clause-room g c =
+    let same = ap length c.in-Err.ensures.unmade.1 in
+    let room = c.into_workers-workers.ensures.room_for_sinks in
+    omega (arith, same, room)
+
+pub returns-in-Err-clause-words : goal.returns-in-Err-clause-words
+returns-in-Err-clause-words g c = c.sinks_of.ensures.words ∙ ap (map (λ (j : Job). j.word)) (ap jobs_of c.in-Err.ensures.unmade.1 ∙ c.into_workers-workers.ensures.begun.jobs_are)
 
 pub returns-in-Ok-clause-recovered : goal.returns-in-Ok-clause-recovered
 returns-in-Ok-clause-recovered g c = c.results_of.ensures.recovered ∙ c.in-Ok.ensures.ran.recovered

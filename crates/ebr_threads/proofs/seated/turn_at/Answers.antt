@@ -13,7 +13,7 @@ returns-clause-sits g c =
     (ap (λ k. k.turn) last ∙ had.replied_is.2) (ap (λ k. k.view) last ∙ had.replied_is.3)
 
 pub returns-clause-went : goal.returns-clause-went
-returns-clause-went g c = record { session = c.turn.ensures.session; script = c.turn.ensures.script }
+returns-clause-went g c = record { session = c.turn.ensures.session; job = c.turn.ensures.job }
 
 pub returns-clause-more : goal.returns-clause-more
 returns-clause-more g c = let had = had_one c.turn.ensures c.requires.runs in one_longer _ _ _ had.is
