@@ -1,12 +1,15 @@
 -- The calls of the host, by the steps of the order of work.
-use Rattle.std.proofs.Common.{ℕ, zero, suc, ◌≡◌, ◌+◌, ◌-◌, ◌<◌, ◌≤◌, true, false, List, [], ◌∷◌, ◌++◌, length, Option, Some, None, arith, refl, sym, ◌∙◌, ap, subst, append_assoc, append-nil}
+use Rattle.std.proofs.Common.{ℕ, zero, suc, ◌≡◌, ◌+◌, ◌-◌, ◌<◌, ◌≤◌, Bool, true, false, ◌||◌, List, [], ◌∷◌, ◌++◌, length, Option, Some, None, arith, refl, sym, ◌∙◌, ap, subst, append_assoc, append-nil}
 use Rattle.std.specs.Prelude.{map}
 use Rattle.std.proofs.lemmas.List.{map-append}
 use Rattle.ebr_outside.specs.HostCalls.{with_call}
 use Rattle.ebr_outside.specs.declared.host_call.HostCall.{HostCall}
 use Rattle.ebr_server.specs.declared.exit.ExitCode.{ExitCode}
 use Rattle.ebr_server.specs.declared.exit.ExitCode.TheVariants as code
-use Rattle.ebr_server.specs.Program.{CallsInOrder, InOrder, LastFails, Step, before_rehearsal, call_of, fault_at, own_fault, scripts_and_sinks, sink_at, source_at, steps_from}
+use Rattle.ebr_outside.specs.declared.host_call.HostMethod.{HostMethod}
+use Rattle.ebr_outside.specs.declared.host_call.HostMethod.TheVariants as method
+use Rattle.ebr_server.specs.Program.{CallsInOrder, InOrder, LastFails, Step, before_rehearsal, call_of, disk_at, fault_at, is_disk, opens_disk, out_words, own_fault, scripts_and_sinks, sink_at, sinks_by, sinks_of, source_at, steps_from, word_at}
+use Rattle.ebr_words.specs.Words.{out_word}
 use Rattle.ebr_startup.specs.declared.why.OpenWhy.{OpenWhy}
 use Rattle.ebr_startup.specs.declared.why.OpenWhy.TheVariants as why
 use Rattle.ebr_server.specs.inside.Opened.{OrderStops, code_of_open, with_steps}
@@ -34,25 +37,83 @@ steps_twice (Some calls) a b = ap Some (append_assoc calls (done_calls a) (done_
 pub with_more : (old mid new : Calls) (a b : List Step) → mid ≡ with_steps old a → new ≡ with_steps mid b → new ≡ with_steps old (a ++ b)
 with_more old mid new a b first second = second ∙ ap (λ o. with_steps o b) first ∙ steps_twice old a b
 
+-- ---- what steps make
+
+sinks_append : (a b : List Step) → sinks_of (a ++ b) ≡ sinks_of a ++ sinks_of b
+sinks_append [] b = refl
+sinks_append (s ∷ a) b = by s.method (sinks_append a b)
+  where
+    by : (m : HostMethod) → sinks_of (a ++ b) ≡ sinks_of a ++ sinks_of b → sinks_by m s.word (sinks_of (a ++ b)) ≡ sinks_by m s.word (sinks_of a) ++ sinks_of b
+    by method.Source more = more
+    by method.Sink more = ap (λ l. s.word ∷ l) more
+    by method.Disk more = more
+
+disk_append : (a b : List Step) → opens_disk (a ++ b) ≡ opens_disk a || opens_disk b
+disk_append [] b = refl
+disk_append (s ∷ a) b = by s.method (disk_append a b)
+  where
+    by : (m : HostMethod) → opens_disk (a ++ b) ≡ opens_disk a || opens_disk b → is_disk m || opens_disk (a ++ b) ≡ (is_disk m || opens_disk a) || opens_disk b
+    by method.Source more = more
+    by method.Sink more = more
+    by method.Disk more = refl
+
+-- sources make no sink, and neither they nor sinks open a disk
+sources_make : (words : List (List ℕ)) (at n : ℕ) → sinks_of (steps_from (source_at words) at n) ≡ []
+sources_make words at zero = refl
+sources_make words at (suc n) = sources_make words (at + 1) n
+
+sources_open : (words : List (List ℕ)) (at n : ℕ) → opens_disk (steps_from (source_at words) at n) ≡ false
+sources_open words at zero = refl
+sources_open words at (suc n) = sources_open words (at + 1) n
+
+sinks_open : (words : List (List ℕ)) (at n : ℕ) → opens_disk (steps_from (sink_at words) at n) ≡ false
+sinks_open words at zero = refl
+sinks_open words at (suc n) = sinks_open words (at + 1) n
+
+pub both_make : (words : List (List ℕ)) (first : ℕ) → sinks_of (scripts_and_sinks words first) ≡ out_words words first (length words - first)
+both_make words first =
+    sinks_append (steps_from (source_at words) first (length words - first)) (steps_from (sink_at words) first (length words - first))
+    ∙ ap (λ l. l ++ out_words words first (length words - first)) (sources_make words first (length words - first))
+
+pub both_open : (words : List (List ℕ)) (first : ℕ) → opens_disk (scripts_and_sinks words first) ≡ false
+both_open words first =
+    disk_append (steps_from (source_at words) first (length words - first)) (steps_from (sink_at words) first (length words - first))
+    ∙ ap (λ b. b || opens_disk (steps_from (sink_at words) first (length words - first))) (sources_open words first (length words - first))
+    ∙ sinks_open words first (length words - first)
+
+-- behind a disk no sink is made
+pub disk_makes : (work : List Step) (words : List (List ℕ)) (at : ℕ) → sinks_of (work ++ disk_at words at ∷ []) ≡ sinks_of work
+disk_makes work words at = sinks_append work (disk_at words at ∷ []) ∙ append-nil (sinks_of work)
+
+pub disk_opens : (work : List Step) (words : List (List ℕ)) (at : ℕ) → opens_disk work ≡ false → opens_disk (work ++ disk_at words at ∷ []) ≡ true
+disk_opens work words at none = disk_append work (disk_at words at ∷ []) ∙ ap (λ b. b || true) none
+
 -- ---- the calls of a run
 
-pub all_called : (old new : Calls) (work : List Step) (fault : Option ℕ) → new ≡ with_steps old work → fault ≡ None → CallsInOrder old new work fault
-all_called None new work fault is none = is
-all_called (Some calls) new work fault is none =
-    let whole : InOrder work None (done_calls work) = record { done = work; left = []; work_is = sym (append-nil work); last = []; calls_are = sym (append-nil (done_calls work)); last_fails = refl } in
-    (done_calls work, is, subst (λ f. InOrder work f (done_calls work)) (sym none) whole)
+pub called_same : (old new : Calls) (work : List Step) (fault : Option ℕ) (s t : List (List ℕ)) (a b : Bool) → s ≡ t → a ≡ b → CallsInOrder old new work fault s a → CallsInOrder old new work fault t b
+called_same old new work fault s t a b same opened called = subst (CallsInOrder old new work fault t) opened (subst (λ l. CallsInOrder old new work fault l a) same called)
 
-pub none_called : (o new : Calls) (work : List Step) (fault : Option ℕ) → new ≡ o → fault ≡ None → CallsInOrder o new work fault
+all_done : (old new : Calls) (work : List Step) (fault : Option ℕ) → new ≡ with_steps old work → fault ≡ None → CallsInOrder old new work fault (sinks_of work) (opens_disk work)
+all_done None new work fault is none = is
+all_done (Some calls) new work fault is none =
+    let whole : InOrder work None (sinks_of work) (opens_disk work) (done_calls work) =
+    record { done = work; left = []; work_is = sym (append-nil work); last = []; calls_are = sym (append-nil (done_calls work)); last_fails = refl; sinks_are = refl; disk_is = refl } in
+    (done_calls work, is, subst (λ f. InOrder work f (sinks_of work) (opens_disk work) (done_calls work)) (sym none) whole)
+
+pub all_called : (old new : Calls) (work : List Step) (fault : Option ℕ) (sinks : List (List ℕ)) (disk : Bool) → new ≡ with_steps old work → fault ≡ None → sinks ≡ sinks_of work → disk ≡ opens_disk work → CallsInOrder old new work fault sinks disk
+all_called old new work fault sinks disk is none made opened = called_same old new work fault (sinks_of work) sinks (opens_disk work) disk (sym made) (sym opened) (all_done old new work fault is none)
+
+pub none_called : (o new : Calls) (work : List Step) (fault : Option ℕ) → new ≡ o → fault ≡ None → CallsInOrder o new work fault [] false
 none_called None new work fault same none = same
 none_called (Some calls) new work fault same none =
-    let nothing : InOrder work None [] = record { done = []; left = work; work_is = refl; last = []; calls_are = refl; last_fails = refl } in
-    ([], same ∙ ap Some (sym (append-nil calls)), subst (λ f. InOrder work f []) (sym none) nothing)
+    let nothing : InOrder work None [] false [] = record { done = []; left = work; work_is = refl; last = []; calls_are = refl; last_fails = refl; sinks_are = refl; disk_is = refl } in
+    ([], same ∙ ap Some (sym (append-nil calls)), subst (λ f. InOrder work f [] false []) (sym none) nothing)
 
 -- the one step of a run failed
-pub one_failed : (o new : Calls) (s : Step) → new ≡ with_call o (call_of true s) → CallsInOrder o new (s ∷ []) (Some s.place)
+pub one_failed : (o new : Calls) (s : Step) → new ≡ with_call o (call_of true s) → CallsInOrder o new (s ∷ []) (Some s.place) [] false
 one_failed None new s called = called
 one_failed (Some calls) new s called =
-    (call_of true s ∷ [], called, record { done = []; left = s ∷ []; work_is = refl; last = call_of true s ∷ []; calls_are = refl; last_fails = (refl, refl) })
+    (call_of true s ∷ [], called, record { done = []; left = s ∷ []; work_is = refl; last = call_of true s ∷ []; calls_are = refl; last_fails = (refl, refl); sinks_are = refl; disk_is = refl })
 
 -- more steps are left
 fails_more : (fault : Option ℕ) (left rest : List Step) (calls : List HostCall) → LastFails fault left calls → LastFails fault (left ++ rest) calls
@@ -60,8 +121,9 @@ fails_more None left rest calls fails = fails
 fails_more (Some at) [] rest calls fails = absurd fails
 fails_more (Some at) (s ∷ left) rest calls fails = fails
 
-order_more : (front part rest work : List Step) (fault : Option ℕ) (calls : List HostCall) → work ≡ front ++ (part ++ rest) → InOrder part fault calls → InOrder work fault (done_calls front ++ calls)
-order_more front part rest work fault calls split in_part = record {
+order_more : (front part rest work : List Step) (fault : Option ℕ) (sinks : List (List ℕ)) (disk : Bool) (calls : List HostCall) → work ≡ front ++ (part ++ rest) → InOrder part fault sinks disk calls
+    → InOrder work fault (sinks_of front ++ sinks) (opens_disk front || disk) (done_calls front ++ calls)
+order_more front part rest work fault sinks disk calls split in_part = record {
   done = front ++ in_part.done;
   left = in_part.left ++ rest;
   work_is = split
@@ -73,24 +135,28 @@ order_more front part rest work fault calls split in_part = record {
       ∙ sym (append_assoc (done_calls front) (done_calls in_part.done) in_part.last)
       ∙ ap (λ c. c ++ in_part.last) (sym (map-append (call_of false) front in_part.done));
   last_fails = fails_more fault in_part.left rest in_part.last in_part.last_fails;
+  sinks_are = ap (λ l. sinks_of front ++ l) in_part.sinks_are ∙ sym (sinks_append front in_part.done);
+  disk_is = ap (λ b. opens_disk front || b) in_part.disk_is ∙ sym (disk_append front in_part.done);
 }
 
 -- a part of the work, behind steps that came through
-pub called_behind : (old mid new : Calls) (front part rest work : List Step) (fault : Option ℕ) → mid ≡ with_steps old front → CallsInOrder mid new part fault → work ≡ front ++ (part ++ rest) → CallsInOrder old new work fault
-called_behind None mid new front part rest work fault is called split = subst (λ m. CallsInOrder m new part fault) is called
-called_behind (Some calls) mid new front part rest work fault is called split = behind (subst (λ m. CallsInOrder m new part fault) is called)
+called_behind : (old mid new : Calls) (front part rest work : List Step) (fault : Option ℕ) (sinks : List (List ℕ)) (disk : Bool) → mid ≡ with_steps old front → CallsInOrder mid new part fault sinks disk → work ≡ front ++ (part ++ rest)
+    → CallsInOrder old new work fault (sinks_of front ++ sinks) (opens_disk front || disk)
+called_behind None mid new front part rest work fault sinks disk is called split = subst (λ m. CallsInOrder m new part fault sinks disk) is called
+called_behind (Some calls) mid new front part rest work fault sinks disk is called split = behind (subst (λ m. CallsInOrder m new part fault sinks disk) is called)
   where
-    behind : CallsInOrder (Some (calls ++ done_calls front)) new part fault → CallsInOrder (Some calls) new work fault
-    behind on = (done_calls front ++ on.0, on.1 ∙ ap Some (append_assoc calls (done_calls front) on.0), order_more front part rest work fault on.0 split on.2)
+    behind : CallsInOrder (Some (calls ++ done_calls front)) new part fault sinks disk → CallsInOrder (Some calls) new work fault (sinks_of front ++ sinks) (opens_disk front || disk)
+    behind on = (done_calls front ++ on.0, on.1 ∙ ap Some (append_assoc calls (done_calls front) on.0), order_more front part rest work fault sinks disk on.0 split on.2)
 
-pub called_first : (old new : Calls) (part rest work : List Step) (fault : Option ℕ) → CallsInOrder old new part fault → work ≡ part ++ rest → CallsInOrder old new work fault
-called_first old new part rest work fault called split = called_behind old old new [] part rest work fault (no_steps old) called split
+called_first : (old new : Calls) (part rest work : List Step) (fault : Option ℕ) (sinks : List (List ℕ)) (disk : Bool) → CallsInOrder old new part fault sinks disk → work ≡ part ++ rest → CallsInOrder old new work fault sinks disk
+called_first old new part rest work fault sinks disk called split = called_behind old old new [] part rest work fault sinks disk (no_steps old) called split
 
 pub fault_of : {C : Type 0} (c : ExitCode) (s : Option C) (fault : Option ℕ) → s ≡ None → fault_at c ≡ fault → own_fault c s ≡ fault
 fault_of c s fault none is = ap (own_fault c) none ∙ is
 
-pub without_own : {C : Type 0} (old new : Calls) (work : List Step) (c d : ExitCode) (s : Option C) → s ≡ None → c ≡ d → CallsInOrder old new work (fault_at d) → CallsInOrder old new work (own_fault c s)
-without_own old new work c d s none is called = subst (CallsInOrder old new work) (sym (fault_of c s (fault_at d) none (ap fault_at is))) called
+pub without_own : {C : Type 0} (old new : Calls) (work : List Step) (c d : ExitCode) (s : Option C) (sinks : List (List ℕ)) (disk : Bool) → s ≡ None → c ≡ d → CallsInOrder old new work (fault_at d) sinks disk
+    → CallsInOrder old new work (own_fault c s) sinks disk
+without_own old new work c d s sinks disk none is called = subst (λ f. CallsInOrder old new work f sinks disk) (sym (fault_of c s (fault_at d) none (ap fault_at is))) called
 
 -- a wrong order is no fault of the host
 pub order_faultless : (n : ℕ) (order : List ℕ) (c : ExitCode) → OrderStops n order c → fault_at c ≡ None
@@ -123,9 +189,22 @@ step_between f first w n from below =
     let here : first + (w - first) ≡ w = omega (arith, from) in
     ap (steps_from f first) parts ∙ steps_split f first (w - first) (suc (n - w - 1)) ∙ ap (λ k. steps_from f first (w - first) ++ (f k ∷ steps_from f (k + 1) (n - w - 1))) here
 
-pub called_at : (f : ℕ → Step) (old mid new : Calls) (first w n : ℕ) (fault : Option ℕ) → first ≤ w → w < n → mid ≡ with_steps old (steps_from f first (w - first)) → CallsInOrder mid new (f w ∷ []) fault → CallsInOrder old new (steps_from f first (n - first)) fault
+called_at : (f : ℕ → Step) (old mid new : Calls) (first w n : ℕ) (fault : Option ℕ) → first ≤ w → w < n → mid ≡ with_steps old (steps_from f first (w - first)) → CallsInOrder mid new (f w ∷ []) fault [] false
+    → CallsInOrder old new (steps_from f first (n - first)) fault (sinks_of (steps_from f first (w - first)) ++ []) (opens_disk (steps_from f first (w - first)) || false)
 called_at f old mid new first w n fault from below so_far called =
-    called_behind old mid new (steps_from f first (w - first)) (f w ∷ []) (steps_from f (w + 1) (n - w - 1)) (steps_from f first (n - first)) fault so_far called (step_between f first w n from below)
+    called_behind old mid new (steps_from f first (w - first)) (f w ∷ []) (steps_from f (w + 1) (n - w - 1)) (steps_from f first (n - first)) fault [] false so_far called (step_between f first w n from below)
+
+pub sources_at : (words : List (List ℕ)) (old mid new : Calls) (first w n : ℕ) (fault : Option ℕ) → first ≤ w → w < n → mid ≡ with_steps old (steps_from (source_at words) first (w - first)) → CallsInOrder mid new (source_at words w ∷ []) fault [] false
+    → CallsInOrder old new (steps_from (source_at words) first (n - first)) fault [] false
+sources_at words old mid new first w n fault from below so_far called =
+    called_same old new (steps_from (source_at words) first (n - first)) fault _ [] _ false (ap (λ l. l ++ []) (sources_make words first (w - first))) (ap (λ b. b || false) (sources_open words first (w - first)))
+    (called_at (source_at words) old mid new first w n fault from below so_far called)
+
+pub sinks_at : (words : List (List ℕ)) (old mid new : Calls) (first w n : ℕ) (fault : Option ℕ) (made : List (List ℕ)) → first ≤ w → w < n → mid ≡ with_steps old (steps_from (sink_at words) first (w - first)) → made ≡ out_words words first (w - first)
+    → CallsInOrder mid new (sink_at words w ∷ []) fault [] false → CallsInOrder old new (steps_from (sink_at words) first (n - first)) fault made false
+sinks_at words old mid new first w n fault made from below so_far is called =
+    called_same old new (steps_from (sink_at words) first (n - first)) fault _ made _ false (append-nil (out_words words first (w - first)) ∙ sym is) (ap (λ b. b || false) (sinks_open words first (w - first)))
+    (called_at (sink_at words) old mid new first w n fault from below so_far called)
 
 pub step_more : (f : ℕ → Step) (old mid new : Calls) (first w : ℕ) → first ≤ w → mid ≡ with_steps old (steps_from f first (w - first)) → new ≡ with_steps mid (f w ∷ []) → new ≡ with_steps old (steps_from f first (w + 1 - first))
 step_more f old mid new first w from so_far more =
@@ -134,6 +213,14 @@ step_more f old mid new first w from so_far more =
     let steps : steps_from f first (w - first) ++ (f w ∷ []) ≡ steps_from f first (w + 1 - first) =
     sym (ap (steps_from f first) parts ∙ steps_split f first (w - first) 1 ∙ ap (λ k. steps_from f first (w - first) ++ (f k ∷ [])) here) in
     with_more old mid new (steps_from f first (w - first)) (f w ∷ []) so_far more ∙ ap (with_steps old) steps
+
+-- the word of one sink more
+pub out_more : (words : List (List ℕ)) (first w : ℕ) → first ≤ w → out_words words first (w + 1 - first) ≡ out_words words first (w - first) ++ out_word (word_at words w) ∷ []
+out_more words first w from =
+    let parts : w + 1 - first ≡ (w - first) + 1 = omega (arith, from) in
+    let here : first + (w - first) ≡ w = omega (arith, from) in
+    ap (out_words words first) parts ∙ ap sinks_of (steps_split (sink_at words) first (w - first) 1) ∙ sinks_append (steps_from (sink_at words) first (w - first)) (steps_from (sink_at words) (first + (w - first)) 1)
+    ∙ ap (λ k. out_words words first (w - first) ++ out_word (word_at words k) ∷ []) here
 
 -- ---- the scripts from a place on, and their sinks
 
@@ -147,11 +234,13 @@ module _ (words : List (List ℕ)) (first : ℕ) (old : Calls) where
   abbrev both : List Step
   both = scripts_and_sinks words first
 
-  pub scripts_called : (new : Calls) (fault : Option ℕ) → CallsInOrder old new scripts fault → CallsInOrder old new both fault
-  scripts_called new fault called = called_first old new scripts sinks both fault called refl
+  pub scripts_called : (new : Calls) (fault : Option ℕ) → CallsInOrder old new scripts fault [] false → CallsInOrder old new both fault [] false
+  scripts_called new fault called = called_first old new scripts sinks both fault [] false called refl
 
-  pub sinks_called : (mid new : Calls) (fault : Option ℕ) → mid ≡ with_steps old scripts → CallsInOrder mid new sinks fault → CallsInOrder old new both fault
-  sinks_called mid new fault so_far called = called_behind old mid new scripts sinks [] both fault so_far called (ap (λ xs. scripts ++ xs) (sym (append-nil sinks)))
+  pub sinks_called : (mid new : Calls) (fault : Option ℕ) (made : List (List ℕ)) → mid ≡ with_steps old scripts → CallsInOrder mid new sinks fault made false → CallsInOrder old new both fault made false
+  sinks_called mid new fault made so_far called =
+      called_same old new both fault _ made _ false (ap (λ l. l ++ made) (sources_make words first (length words - first))) (ap (λ b. b || false) (sources_open words first (length words - first)))
+      (called_behind old mid new scripts sinks [] both fault made false so_far called (ap (λ xs. scripts ++ xs) (sym (append-nil sinks))))
 
   pub all_opened : (mid new : Calls) → mid ≡ with_steps old scripts → new ≡ with_steps mid sinks → new ≡ with_steps old both
   all_opened mid new so_far more = with_more old mid new scripts sinks so_far more
@@ -162,12 +251,12 @@ module _ (words : List (List ℕ)) (old : Calls) where
   abbrev order : List Step
   order = source_at words 2 ∷ []
 
-  pub order_called : (new : Calls) (fault : Option ℕ) → CallsInOrder old new order fault → CallsInOrder old new (before_rehearsal words) fault
-  order_called new fault called = called_first old new order (scripts_and_sinks words 3) (before_rehearsal words) fault called refl
+  pub order_called : (new : Calls) (fault : Option ℕ) → CallsInOrder old new order fault [] false → CallsInOrder old new (before_rehearsal words) fault [] false
+  order_called new fault called = called_first old new order (scripts_and_sinks words 3) (before_rehearsal words) fault [] false called refl
 
-  pub behind_called : (mid new : Calls) (fault : Option ℕ) → mid ≡ with_steps old order → CallsInOrder mid new (scripts_and_sinks words 3) fault → CallsInOrder old new (before_rehearsal words) fault
-  behind_called mid new fault so_far called =
-      called_behind old mid new order (scripts_and_sinks words 3) [] (before_rehearsal words) fault so_far called (ap (λ xs. order ++ xs) (sym (append-nil (scripts_and_sinks words 3))))
+  pub behind_called : (mid new : Calls) (fault : Option ℕ) (made : List (List ℕ)) → mid ≡ with_steps old order → CallsInOrder mid new (scripts_and_sinks words 3) fault made false → CallsInOrder old new (before_rehearsal words) fault made false
+  behind_called mid new fault made so_far called =
+      called_behind old mid new order (scripts_and_sinks words 3) [] (before_rehearsal words) fault made false so_far called (ap (λ xs. order ++ xs) (sym (append-nil (scripts_and_sinks words 3))))
 
   pub behind_opened : (mid new : Calls) → mid ≡ with_steps old order → new ≡ with_steps mid (scripts_and_sinks words 3) → new ≡ with_steps old (before_rehearsal words)
   behind_opened mid new so_far more = with_more old mid new order (scripts_and_sinks words 3) so_far more
@@ -175,12 +264,14 @@ module _ (words : List (List ℕ)) (old : Calls) where
 -- ---- and then the disk
 
 module _ (work : List Step) (disk : Step) (old : Calls) where
-  pub before_called : (new : Calls) (fault : Option ℕ) → CallsInOrder old new work fault → CallsInOrder old new (work ++ disk ∷ []) fault
-  before_called new fault called = called_first old new work (disk ∷ []) (work ++ disk ∷ []) fault called refl
+  pub before_called : (new : Calls) (fault : Option ℕ) (made : List (List ℕ)) → CallsInOrder old new work fault made false → CallsInOrder old new (work ++ disk ∷ []) fault made false
+  before_called new fault made called = called_first old new work (disk ∷ []) (work ++ disk ∷ []) fault made false called refl
 
-  pub disk_called : (mid new : Calls) (fault : Option ℕ) → mid ≡ with_steps old work → CallsInOrder mid new (disk ∷ []) fault → CallsInOrder old new (work ++ disk ∷ []) fault
-  disk_called mid new fault so_far called =
-      called_behind old mid new work (disk ∷ []) [] (work ++ disk ∷ []) fault so_far called (ap (λ xs. work ++ xs) (sym (append-nil (disk ∷ []))))
+  pub disk_called : (mid new : Calls) (fault : Option ℕ) (made : List (List ℕ)) → mid ≡ with_steps old work → made ≡ sinks_of work → opens_disk work ≡ false → CallsInOrder mid new (disk ∷ []) fault [] false
+      → CallsInOrder old new (work ++ disk ∷ []) fault made false
+  disk_called mid new fault made so_far is none called =
+      called_same old new (work ++ disk ∷ []) fault _ made _ false (append-nil (sinks_of work) ∙ sym is) (ap (λ b. b || false) none)
+      (called_behind old mid new work (disk ∷ []) [] (work ++ disk ∷ []) fault [] false so_far called (ap (λ xs. work ++ xs) (sym (append-nil (disk ∷ [])))))
 
   pub disk_opened : (mid new : Calls) → mid ≡ with_steps old work → new ≡ with_steps mid (disk ∷ []) → new ≡ with_steps old (work ++ disk ∷ [])
   disk_opened mid new so_far more = with_more old mid new work (disk ∷ []) so_far more

@@ -1,8 +1,9 @@
 -- What each code says of a command, by what it has come to.
 use Rattle.std.proofs.Common.{ℕ, zero, suc, ◌≡◌, ◌==◌, ◌+◌, ◌-◌, ◌<◌, ◌≤◌, ◌⊎◌, inl, inr, Bool, true, false, ◌||◌, if◌then◌else◌, IsTrue, List, [], ◌∷◌, length, get_or, Option, Some, None, arith, refl, sym, ◌∙◌, ap, subst}
-use Rattle.std.specs.Prelude.{◌↔◌, IfSome, IsSome, IsSomeAnd, slice_get}
+use Rattle.std.specs.Prelude.{◌↔◌, IfSome, IsSome, IsSomeAnd, map, slice_get}
 use Rattle.std.proofs.lemmas.Bool.Decides.{leb_tells}
 use Rattle.std.proofs.lemmas.Option.{slice_get-get_or, slice_get_within}
+use Rattle.std.proofs.lemmas.List.{length-map}
 use Rattle.std.proofs.lemmas.List.Elements.{All-cons, All-nil}
 use Rattle.ebr_faults.specs.Faults.{Rises}
 use Rattle.ebr_outside.specs.Disk.{Medium}
@@ -19,6 +20,7 @@ use Rattle.ebr_startup.specs.declared.why.OpenWhy.{OpenWhy}
 use Rattle.ebr_startup.specs.declared.why.OpenWhy.TheVariants as why
 use Rattle.ebr_worker.specs.Ends.{failed_writes}
 use Rattle.ebr_worker.specs.Matches.{has_fault}
+use Rattle.ebr_worker.specs.Ends.{Job}
 use Rattle.ebr_worker.specs.Runs.{AreEnds}
 use Rattle.ebr_server.specs.declared.exit.ExitCode.{ExitCode}
 use Rattle.ebr_server.specs.declared.exit.ExitCode.TheVariants as code
@@ -234,10 +236,13 @@ some_and : {X : Type 0} (o : Option X) (P : X → Type 0) → IsSome o → IfSom
 some_and None P some holds = absurd cc
 some_and (Some x) P some holds = holds
 
-failed_sink : {S : Type 0} (held : S → Option (List ℕ)) (sink_faults : S → ℕ) (scripts : List (List ℕ)) (h : List Entry) (ends : List (SessionEnd S)) → AreEnds held sink_faults scripts h ends → OneEnded sink_failed ends → SinkFailed sink_faults ends
-failed_sink held sink_faults scripts h ends are one =
+no_job : Job
+no_job = record { script = []; word = [] }
+
+failed_sink : {S : Type 0} (held : S → Option (List ℕ)) (sink_faults : S → ℕ) (word : S → List ℕ) (jobs : List Job) (h : List Entry) (ends : List (SessionEnd S)) → AreEnds held sink_faults word jobs h ends → OneEnded sink_failed ends → SinkFailed sink_faults ends
+failed_sink held sink_faults word jobs h ends are one =
     let within : one.place < length ends = slice_get_within ends one.place one.end one.is_end in
-    let there : slice_get scripts one.place ≡ Some (get_or scripts one.place []) = slice_get-get_or scripts one.place [] (omega (arith, within, are.count)) in
+    let there : slice_get jobs one.place ≡ Some (get_or jobs one.place no_job) = slice_get-get_or jobs one.place no_job (omega (arith, within, are.count)) in
     record {
       place = one.place;
       end = one.end;
@@ -246,10 +251,10 @@ failed_sink held sink_faults scripts h ends are one =
     }
 
 -- A sink that failed stops the run.
-sink_ends : {S : Type 0} (held : S → Option (List ℕ)) (sink_faults : S → ℕ) (scripts : List (List ℕ)) (h : List Entry) (ends : List (SessionEnd S)) → AreEnds held sink_faults scripts h ends → SinkFailed sink_faults ends → any_end sink_failed ends ≡ true
-sink_ends held sink_faults scripts h ends are one =
+sink_ends : {S : Type 0} (held : S → Option (List ℕ)) (sink_faults : S → ℕ) (word : S → List ℕ) (jobs : List Job) (h : List Entry) (ends : List (SessionEnd S)) → AreEnds held sink_faults word jobs h ends → SinkFailed sink_faults ends → any_end sink_failed ends ≡ true
+sink_ends held sink_faults word jobs h ends are one =
     let within : one.place < length ends = slice_get_within ends one.place one.end one.is_end in
-    let there : slice_get scripts one.place ≡ Some (get_or scripts one.place []) = slice_get-get_or scripts one.place [] (omega (arith, within, are.count)) in
+    let there : slice_get jobs one.place ≡ Some (get_or jobs one.place no_job) = slice_get-get_or jobs one.place no_job (omega (arith, within, are.count)) in
     any_at sink_failed ends one.place one.end one.is_end (end_by one.end.sink sink_faults one.end.end (are.each one.place _ one.end there one.is_end).failed one.failed)
 
 -- the sessions of scripts have run
@@ -257,12 +262,12 @@ module _ {S D : Type 0} (o : Outside S D) (words : List (List ℕ)) (first : ℕ
   by_sink : (any_end sink_failed run.ends ≡ true) ⊎ (summed.unwritten ≡ true) → (0 < run.faults) ⊎ SinkFailed o.sink_faults run.ends
   by_sink which =
       elim which [
-        | inl some ↦ inr (failed_sink o.sink_held o.sink_faults ran.scripts run.history run.ends ran.are_ends (which_ended sink_failed run.ends some))
+        | inl some ↦ inr (failed_sink o.sink_held o.sink_faults o.sink_word ran.jobs run.history run.ends ran.are_ends (which_ended sink_failed run.ends some))
         | inr unwritten ↦ inl (positive run.faults (summed.tells.failed unwritten))
       ]
 
-  as_many : length ran.scripts ≡ length words - first
-  as_many = omega (arith, ran.are_scripts.count)
+  as_many : length ran.jobs ≡ length words - first
+  as_many = omega (arith, ran.are_jobs.scripts.count, length-map ran.jobs (λ (j : Job). j.script))
 
   sessions_right : (k : Command) → length words - first ≡ sessions_of k words → ((v : ℕ) → Reads (Some k) words v → IsShort o.bytes words v) → (k ≡ Rehearse → OrderWrong o.bytes words None)
       → ((0 < run.faults) ⊎ SinkFailed o.sink_faults run.ends → SinkFails (Some k) o.sink_faults run.ends run.faults) → RanRight k o words run
@@ -276,7 +281,7 @@ module _ {S D : Type 0} (o : Outside S D) (words : List (List ℕ)) (first : ℕ
         (is_sink_fault (has_fault run.history) (any_end wants_memory run.ends) (any_end sink_failed run.ends || summed.unwritten) (sym is ∙ summed.is_code))));
     sink_stops = λ one. subst IsSinkStop (sym summed.is_code)
         (stops_so (has_fault run.history) (any_end wants_memory run.ends) (any_end sink_failed run.ends) summed.unwritten
-        (sink_ends o.sink_held o.sink_faults ran.scripts run.history run.ends ran.are_ends one));
+        (sink_ends o.sink_held o.sink_faults o.sink_word ran.jobs run.history run.ends ran.are_ends one));
     disk = λ is. subst (DiskFails o.as_medium) (sym disk_is)
         (ran.disk.failed (is_disk_fault (has_fault run.history) (any_end wants_memory run.ends) (any_end sink_failed run.ends || summed.unwritten) (sym is ∙ summed.is_code)));
     line_failed = summed.tells.line_failed;
@@ -310,11 +315,11 @@ ran_right {S} Try o words run r = record {
         let any : (any_end sink_failed run.ends || false) ≡ true = is_sink_fault (has_fault run.history) (any_end wants_memory run.ends) (any_end sink_failed run.ends || false) (sym is ∙ r.ran.is_code) in
         let one : OneEnded sink_failed run.ends = elim (one_of (any_end sink_failed run.ends) false any) [ inl some ↦ which_ended sink_failed run.ends some | inr none ↦ absurd cc ] in
         ap (λ e. e.end) (sym (lone_end run.ends r.ran.end one.place one.end r.ran.one one.is_end)) ∙ failed_kind one.end.end one.so
-ran_right Run o words run r = sessions_right o words 2 run r.now r.disk_is r.ran r.summed Run refl (λ v opens. short_between o.bytes words 2 (length words) r.ran.scripts r.ran.are_scripts v opens.0 opens.1) (λ other. absurd cc) (λ failed. failed)
+ran_right Run o words run r = sessions_right o words 2 run r.now r.disk_is r.ran r.summed Run refl (λ v opens. short_between o.bytes words 2 (length words) (map (λ (j : Job). j.script) r.ran.jobs) r.ran.are_jobs.scripts v opens.0 opens.1) (λ other. absurd cc) (λ failed. failed)
 ran_right Rehearse o words run r = sessions_right o words 3 run r.now r.disk_is r.ran.ran r.summed Rehearse refl (λ v opens. at_word v opens.1 (from_order v (v - 2) (omega (arith, opens.0)))) (λ same. order_right (told_at o.bytes words order_place) r.ran.is_order.is) (λ failed. failed)
   where
-    sessions : length r.ran.ran.scripts ≡ length words - 3
-    sessions = omega (arith, r.ran.ran.are_scripts.count)
+    sessions : length r.ran.ran.jobs ≡ length words - 3
+    sessions = omega (arith, r.ran.ran.are_jobs.scripts.count, length-map r.ran.ran.jobs (λ (j : Job). j.script))
 
     from_order : (v j : ℕ) → v ≡ 2 + j → (v ≡ 2) ⊎ (3 ≤ v)
     from_order v zero is = inl is
@@ -324,7 +329,7 @@ ran_right Rehearse o words run r = sessions_right o words 3 run r.now r.disk_is 
     at_word v below there =
         elim there [
           | inl is ↦ subst (IsShort o.bytes words) (sym is) (short_told (told_at o.bytes words 2) r.ran.order r.ran.is_order.is r.ran.is_order.short)
-          | inr behind ↦ short_between o.bytes words 3 (length words) r.ran.ran.scripts r.ran.ran.are_scripts v behind below
+          | inr behind ↦ short_between o.bytes words 3 (length words) (map (λ (j : Job). j.script) r.ran.ran.jobs) r.ran.ran.are_jobs.scripts v behind below
         ]
 
     order_right : (told : Option (List ℕ)) → IfSome told (λ b. r.ran.order ≡ b) → IfSome told (λ b. wrong_at (length words - 3) b ≡ None)
@@ -828,9 +833,9 @@ stops_by bytes words F G by (Some Rehearse) code.NoMemory s = tt
 stops_by bytes words F G by (Some Rehearse) (code.BadOrder w) s = s
 stops_by bytes words F G by (Some Rehearse) (code.TooLong w) s = s
 
-module _ {S D : Type 0} (sink_held : S → Option (List ℕ)) (sink_faults : S → ℕ) (as_medium : D → Medium) (P : Type 0) (words : List (List ℕ)) (run : Handed S D) where
+module _ {S D : Type 0} (sink_word : S → List ℕ) (sink_held : S → Option (List ℕ)) (sink_faults : S → ℕ) (as_medium : D → Medium) (P : Type 0) (words : List (List ℕ)) (run : Handed S D) where
   abbrev telling : Told → Told → Outside S D
-  telling bytes disks = outside bytes disks sink_held sink_faults as_medium
+  telling bytes disks = outside bytes disks sink_word sink_held sink_faults as_medium
 
   counted_since : (bytes disks : Told) (asked : Option Command) (old mid new : ℕ) → old ≤ mid → Served asked (telling bytes disks) (Rises mid new ⊎ P) words run → Served asked (telling bytes disks) (Rises old new ⊎ P) words run
   counted_since bytes disks asked old mid new grown served =

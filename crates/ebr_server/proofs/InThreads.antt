@@ -1,9 +1,12 @@
 -- Why the sessions of a run didn't begin.
 use Rattle.std.proofs.Common.{ℕ, ◌≡◌, ◌≤◌, if◌then◌else◌, List, length, Some, arith, ap, sym, subst}
+use Rattle.std.specs.Prelude.{map}
+use Rattle.std.proofs.lemmas.List.{length-map}
 use Rattle.ebr_words.specs.declared.words.Command.TheVariants.{Run}
+use Rattle.ebr_worker.specs.Ends.{Job}
 use Rattle.ebr_server.specs.declared.exit.ExitCode.{ExitCode}
 use Rattle.ebr_server.specs.declared.exit.ExitCode.TheVariants as code
-use Rattle.ebr_server.specs.Program.{AllRead, AreScripts, RightBefore, ShortBetween, Stops, turn_of}
+use Rattle.ebr_server.specs.Program.{AllRead, AreJobs, RightBefore, ShortBetween, Stops, turn_of}
 use Rattle.ebr_server.specs.inside.Opened.{FailsFrom}
 use Rattle.ebr_server.proofs.InTurns.{other_place}
 use Rattle.ebr_server.proofs.InWords.{Told, short_between}
@@ -27,8 +30,8 @@ scripts_stop bytes words F (code.Damaged at) f = absurd f
 scripts_stop bytes words F (code.BadOrder at) f = absurd f
 
 -- all that is read is right
-pub all_short : (bytes : Told) (words scripts : List (List ℕ)) → AreScripts bytes words 2 (length words) scripts → AllRead Run bytes words
-all_short bytes words scripts are = short_between bytes words 2 (length words) scripts are
+pub all_short : (bytes : Told) (words : List (List ℕ)) (jobs : List Job) → AreJobs bytes words 2 jobs → AllRead Run bytes words
+all_short bytes words jobs are = short_between bytes words 2 (length words) (map (λ (j : Job). j.script) jobs) are.scripts
 
-pub few_scripts : (bytes : Told) (words scripts : List (List ℕ)) → AreScripts bytes words 2 (length words) scripts → length words ≤ 34 → length scripts ≤ 32
-few_scripts bytes words scripts are few = omega (arith, few, are.count)
+pub few_jobs : (bytes : Told) (words : List (List ℕ)) (jobs : List Job) → AreJobs bytes words 2 jobs → length words ≤ 34 → length jobs ≤ 32
+few_jobs bytes words jobs are few = omega (arith, few, are.scripts.count, length-map jobs (λ (j : Job). j.script))

@@ -1,9 +1,10 @@
 -- Orders, and what is read behind them.
 use Rattle.std.proofs.Common.{ℕ, zero, suc, ◌≡◌, ◌≢◌, ◌==◌, ap, ◌+◌, ◌-◌, ◌<◌, ◌≤◌, ◌⊎◌, inl, inr, Bool, true, false, ◌||◌, ◌&&◌, nat_le, if◌then◌else◌, List, [], ◌∷◌, length, Option, Some, None, arith, refl, sym, subst}
-use Rattle.std.specs.Prelude.{All, IfSome}
+use Rattle.std.specs.Prelude.{All, IfSome, map}
 use Rattle.std.specs.Option.{option_map, is_none}
 use Rattle.std.proofs.lemmas.Bool.{leb-true}
 use Rattle.std.proofs.lemmas.Bool.Decides.{nat_tests}
+use Rattle.std.proofs.lemmas.List.{length-map}
 use Rattle.std.proofs.lemmas.List.Elements.{All-cons, All-nil}
 use Rattle.ebr_base.specs.declared.numbers.SessionId.{SessionId}
 use Rattle.ebr_base.specs.Word.{is_digit}
@@ -12,13 +13,14 @@ use Rattle.ebr_faults.specs.Faults.{Rises}
 use Rattle.ebr_order.specs.Order.{Order, begins_number, is_unreadable, is_wrong, number_in_front, session_of, turns_from, wrong_at, wrong_from}
 use Rattle.ebr_asks.specs.declared.entry.Entry.{Entry}
 use Rattle.ebr_report.specs.declared.ends.SessionEnd.{SessionEnd}
+use Rattle.ebr_worker.specs.Ends.{Job}
 use Rattle.ebr_worker.specs.Paced.{IsSession, Paced}
 use Rattle.ebr_worker.specs.Runs.{AreEnds}
 use Rattle.ebr_server.specs.declared.exit.ExitCode.{ExitCode}
 use Rattle.ebr_server.specs.declared.exit.ExitCode.TheVariants as code
 use Rattle.ebr_record.specs.declared.record.Record.{Record}
 use Rattle.ebr_server.specs.Disks.{RanOver}
-use Rattle.ebr_server.specs.Program.{AllRead, AreScripts, IsLegal, IsOrder, IsShort, OrderWrong, Outside, RightBefore, SessionsPaced, ShortBetween, Stops, journal_bytes, told_at, turn_of}
+use Rattle.ebr_server.specs.Program.{AllRead, AreJobs, IsLegal, IsOrder, IsShort, OrderWrong, Outside, RightBefore, SessionsPaced, ShortBetween, Stops, journal_bytes, told_at, turn_of}
 use Rattle.ebr_server.specs.inside.Opened.{AreTurns, Fails, FailsFrom, IsPrepared, OrderStops, WasRead}
 use Rattle.ebr_server.proofs.InWords.{Told, fails_since, short_between, short_told}
 
@@ -148,51 +150,54 @@ module _ (bytes : Told) (words : List (List ℕ)) (turns : List SessionId) (read
       let is : mid_bytes ≡ bytes = λ i w. same w i in
       script_stops P old mid new c grown (subst (λ b. FailsFrom b words 3 (Rises mid new ⊎ P) c) is f)
 
-  -- the sessions' scripts are as many as the order speaks of
-  count : (scripts : List (List ℕ)) → AreScripts bytes words 3 (length words) scripts → length words - 3 ≡ length scripts
-  count scripts are = omega (arith, are.count)
+  -- the sessions are as many as the order speaks of
+  count : (jobs : List Job) → AreJobs bytes words 3 jobs → length words - 3 ≡ length jobs
+  count jobs are = omega (arith, are.scripts.count, length-map jobs (λ (j : Job). j.script))
 
-  pub prepared : (scripts : List (List ℕ)) → AreScripts bytes words 3 (length words) scripts → IsPrepared bytes words scripts turns
-  prepared scripts are = record {
-    are_scripts = are;
+  pub prepared : (jobs : List Job) → AreJobs bytes words 3 jobs → IsPrepared bytes words jobs turns
+  prepared jobs are = record {
+    are_jobs = are;
     order = read.order;
-    is_order = subst (λ n. IsOrder bytes words n read.order) (count scripts are) read.is_order;
+    is_order = subst (λ n. IsOrder bytes words n read.order) (count jobs are) read.is_order;
     turns_are = read.turns_are;
   }
 
 -- ---- a rehearsal that is prepared
 
-module _ (bytes : Told) (words scripts : List (List ℕ)) (turns : List SessionId) (p : IsPrepared bytes words scripts turns) where
+module _ (bytes : Told) (words : List (List ℕ)) (jobs : List Job) (turns : List SessionId) (p : IsPrepared bytes words jobs turns) where
   -- the turns are of its sessions
-  pub turns_fit : All (IsSession (length scripts)) turns
-  turns_fit = subst (All (IsSession (length scripts))) (sym p.turns_are) (turns_right (length scripts) false p.order p.is_order.right)
+  pub turns_fit : All (IsSession (length jobs)) turns
+  turns_fit = subst (All (IsSession (length jobs))) (sym p.turns_are) (turns_right (length jobs) false p.order p.is_order.right)
 
-  pub few_sessions : length words ≤ 35 → length scripts ≤ 32
-  few_sessions few = omega (arith, few, p.are_scripts.count)
+  many : 3 + length jobs ≡ length words
+  many = omega (arith, p.are_jobs.scripts.count, length-map jobs (λ (j : Job). j.script))
+
+  pub few_sessions : length words ≤ 35 → length jobs ≤ 32
+  few_sessions few = omega (arith, few, many)
 
   wrong_nowhere : OrderWrong bytes words None
   wrong_nowhere = told_wrong (told_at bytes words 2) (length words - 3) p.order None p.is_order.is (subst (λ n. wrong_at n p.order ≡ None) (sym same) p.is_order.right)
     where
-      same : length words - 3 ≡ length scripts
-      same = omega (arith, p.are_scripts.count)
+      same : length words - 3 ≡ length jobs
+      same = omega (arith, many)
 
   short_word : (v : ℕ) → 2 ≤ v → v < length words → IsShort bytes words v
   short_word v from below = at (v - 2) (omega (arith, from))
     where
       at : (k : ℕ) → v ≡ 2 + k → IsShort bytes words v
       at zero is = subst (IsShort bytes words) (sym is) (short_told (told_at bytes words 2) p.order p.is_order.is p.is_order.short)
-      at (suc k) is = short_between bytes words 3 (length words) scripts p.are_scripts v (omega (arith, is)) below
+      at (suc k) is = short_between bytes words 3 (length words) (map (λ (j : Job). j.script) jobs) p.are_jobs.scripts v (omega (arith, is)) below
 
   -- all that is read is right
   pub all_read : AllRead Rehearse bytes words
   all_read = record { short = short_word; order = λ less. wrong_nowhere }
 
-pub sessions_ran : {S D : Type 0} (o : Outside S D) (words scripts : List (List ℕ)) (turns : List SessionId) → IsPrepared o.bytes words scripts turns → (recovered : List Record) (history : List Entry) (ends : List (SessionEnd S)) (now : D)
-    → IsLegal recovered (length scripts) history → AreEnds o.sink_held o.sink_faults scripts history ends → Paced (length scripts) turns history → RanOver o.as_medium (journal_bytes o words) (length scripts) recovered history now
+pub sessions_ran : {S D : Type 0} (o : Outside S D) (words : List (List ℕ)) (jobs : List Job) (turns : List SessionId) → IsPrepared o.bytes words jobs turns → (recovered : List Record) (history : List Entry) (ends : List (SessionEnd S)) (now : D)
+    → IsLegal recovered (length jobs) history → AreEnds o.sink_held o.sink_faults o.sink_word jobs history ends → Paced (length jobs) turns history → RanOver o.as_medium (journal_bytes o words) (length jobs) recovered history now
     → SessionsPaced o words recovered history ends now
-sessions_ran o words scripts turns p recovered history ends now legal are_ends paced over = record {
-  ran = record { scripts = scripts; are_scripts = p.are_scripts; legal = legal; are_ends = are_ends; disk = over };
+sessions_ran o words jobs turns p recovered history ends now legal are_ends paced over = record {
+  ran = record { jobs = jobs; are_jobs = p.are_jobs; legal = legal; are_ends = are_ends; disk = over };
   order = p.order;
   is_order = p.is_order;
-  paced = subst (λ t. Paced (length scripts) t history) p.turns_are paced;
+  paced = subst (λ t. Paced (length jobs) t history) p.turns_are paced;
 }

@@ -9,11 +9,10 @@ use Rattle.ebr_words.specs.Words.{command_of, have_scripts, is_one_name, is_rehe
 use Rattle.ebr_words.specs.declared.words.Command.{Command}
 use Rattle.ebr_words.specs.declared.words.Command.TheVariants.{Dump, Rehearse, Run, Try}
 use Rattle.ebr_faults.specs.Faults.{Rises}
-use Rattle.ebr_worker.specs.Runs.{IsUnwritten}
 use Rattle.ebr_server.specs.declared.exit.ExitCode.{ExitCode}
 use Rattle.ebr_server.specs.declared.exit.ExitCode.TheVariants as code
 use Rattle.ebr_server.specs.Program.{AreScripts, IsBehind, IsShort, ShortBetween, most, told_at}
-use Rattle.ebr_server.specs.inside.Opened.{AreUnwritten, Fails, FailsFrom, MakesNone, ReadsMore}
+use Rattle.ebr_server.specs.inside.Opened.{Fails, FailsFrom, MakesNone, ReadsMore}
 
 abbrev pub Told : Type 0
 Told = List ℕ → Option (List ℕ)
@@ -51,12 +50,6 @@ pub scripts_more : (bytes mid : Told) (words : List (List ℕ)) (first at : ℕ)
 scripts_more bytes mid words first at old new same so_far more =
     let is : mid ≡ bytes = λ i w. same w i in
     scripts_here bytes words first at old new so_far (subst (λ b. ReadsMore b words at old new) is more)
-
--- what the host tells at two moments
-pub scripts_told : (bytes mid : Told) (words : List (List ℕ)) (first at : ℕ) (scripts : List (List ℕ)) → ((w : List ℕ) → mid w ≡ bytes w) → AreScripts mid words first at scripts → AreScripts bytes words first at scripts
-scripts_told bytes mid words first at scripts same are =
-    let is : mid ≡ bytes = λ i w. same w i in
-    subst (λ b. AreScripts b words first at scripts) is are
 
 -- scripts that were read aren't too long
 pub short_told : (told : Option (List ℕ)) (text : List ℕ) → IfSome told (λ b. text ≡ b) → length text ≤ most → IfSome told (λ b. length b ≤ most)
@@ -102,15 +95,6 @@ fails_on bytes mid_bytes words first at scripts P old mid new c same are from wi
     fails_here bytes words first at P old mid new c from within (short_between bytes words first at scripts are) grown (subst (λ b. Fails b words at (Rises mid new ⊎ P) c) is fails)
 
 -- ---- sinks
-
-pub no_sinks : {S : Type 0} (held : S → Option (List ℕ)) (faults : S → ℕ) (first : ℕ) → AreUnwritten held faults first first []
-no_sinks held faults first = record { count = omega arith; unwritten = All-nil _ }
-
-pub sinks_more : {S : Type 0} (held : S → Option (List ℕ)) (faults : S → ℕ) (first at : ℕ) (old new : List S) (s : S) → AreUnwritten held faults first at old → new ≡ old ++ s ∷ [] → IsUnwritten held faults s → AreUnwritten held faults first (at + 1) new
-sinks_more held faults first at old new s so_far added empty = record {
-  count = omega (arith, so_far.count, ap length added, length-append old (s ∷ []));
-  unwritten = subst (All (IsUnwritten held faults)) (sym added) (All-push (IsUnwritten held faults) old s so_far.unwritten empty);
-}
 
 pub makes_since : (words : List (List ℕ)) (first old mid new : ℕ) (c : ExitCode) → old ≤ mid → MakesNone words first (Rises mid new) c → MakesNone words first (Rises old new) c
 makes_since words first old mid new (code.HostFault w) grown fails = (fails.0, fails.1, rises_since old mid new grown fails.2)

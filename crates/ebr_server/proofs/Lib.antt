@@ -1,3 +1,4 @@
+mod Back
 mod Calls
 mod Causes
 mod Dumping

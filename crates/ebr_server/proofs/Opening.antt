@@ -72,6 +72,6 @@ pub disk_so : (words : List (List ℕ)) (at : ℕ) (w d : List ℕ) (o new : Opt
 disk_so words at w d o new within is called =
     called ∙ ap (λ v. with_call o (record { method = method.Disk; word = v; failed = false })) (sym (word_is words at w d within is)) ∙ one_step o (disk_at words at)
 
-pub disk_not : (words : List (List ℕ)) (at : ℕ) (w d : List ℕ) (o new : Option (List HostCall)) → at < length words → w ≡ get_or words at d → new ≡ with_call o (record { method = method.Disk; word = w; failed = true }) → CallsInOrder o new (disk_at words at ∷ []) (Some at)
+pub disk_not : (words : List (List ℕ)) (at : ℕ) (w d : List ℕ) (o new : Option (List HostCall)) → at < length words → w ≡ get_or words at d → new ≡ with_call o (record { method = method.Disk; word = w; failed = true }) → CallsInOrder o new (disk_at words at ∷ []) (Some at) [] false
 disk_not words at w d o new within is called =
     one_failed o new (disk_at words at) (called ∙ ap (λ v. with_call o (record { method = method.Disk; word = v; failed = true })) (sym (word_is words at w d within is)))

@@ -6,7 +6,7 @@ use Rattle.ebr_report.specs.declared.ends.EndKind.TheVariants as ending
 use Rattle.ebr_report.specs.declared.ends.SessionEnd.{SessionEnd}
 use Rattle.ebr_asks.specs.declared.entry.Entry.{Entry}
 use Rattle.ebr_record.specs.declared.record.Record.{Record}
-use Rattle.ebr_worker.specs.Ends.{CameTo, failed_writes}
+use Rattle.ebr_worker.specs.Ends.{CameTo, Job, failed_writes}
 use Rattle.ebr_worker.specs.Runs.{RanAlone, nth_session}
 use Rattle.ebr_server.specs.declared.exit.ExitCode.{ExitCode}
 use Rattle.ebr_server.specs.declared.exit.ExitCode.TheVariants as code
@@ -42,13 +42,13 @@ faultless : {S : Type 0} (h : List Entry) (ends : List (SessionEnd S)) → has_f
     → code_of_ends h ends false ≡ (if any_end wants_memory ends then code.NoMemory else (if any_end sink_failed ends || false then code.SinkFault else code.Done))
 faultless h ends none = ap (λ b. if b then code.DiskFault else (if any_end wants_memory ends then code.NoMemory else (if any_end sink_failed ends || false then code.SinkFault else code.Done))) none
 
-told_so : {S R D : Type 0} (held : R → Option (List ℕ)) (faults : R → ℕ) (script : List ℕ) (words : List (List ℕ)) (h : List Entry) (e : SessionEnd R) (sink now : R) (end : SessionEnd S) (run : Handed S D)
-    → RanAlone held faults script h e → e.sink ≡ Some sink
+told_so : {S R D : Type 0} (held : R → Option (List ℕ)) (faults : R → ℕ) (word : R → List ℕ) (job : Job) (words : List (List ℕ)) (h : List Entry) (e : SessionEnd R) (sink now : R) (end : SessionEnd S) (run : Handed S D)
+    → RanAlone held faults word job h e → e.sink ≡ Some sink
     → end ≡ record { session = e.session; requests = e.requests; refused = e.refused; end = e.end; sink = None }
     → run.history ≡ h → run.ends ≡ end ∷ [] → run.recovered ≡ [] → run.disk ≡ None → run.faults ≡ faults now → run.held ≡ held now → run.code ≡ code_of_ends h (end ∷ []) false
     → ((replies : List ℕ) → IfSome (held sink) (λ bytes. bytes ≡ replies) → IfSome (held now) (λ bytes. Reported (faults now) bytes replies (behind_replies run.code words)))
-    → RepliesFail run.code (faults sink) (faults now) → ScriptRan script words run
-told_so {S = S} held faults script words h e sink now end run ran there is history_is one none_recovered no_disk faults_are held_is coded told fails =
+    → RepliesFail run.code (faults sink) (faults now) → ScriptRan job.script words run
+told_so {S = S} held faults word job words h e sink now end run ran there is history_is one none_recovered no_disk faults_are held_is coded told fails =
     let r = ran.is_end in
     let kind : end.end ≡ e.end = ap (λ (x : SessionEnd S). x.end) is in
     let old : faults sink ≡ failed_writes end.end = subst (λ s. IfSome s (λ x. faults x ≡ failed_writes e.end)) there r.failed ∙ ap failed_writes (sym kind) in
@@ -63,7 +63,7 @@ told_so {S = S} held faults script words h e sink now end run ran there is histo
       stop = λ stopped. kind ∙ ran.stop (sym (ap has_stop history_is) ∙ stopped);
       no_sink = ap (λ (x : SessionEnd S). x.sink) is;
       replies = r.replies;
-      came_to = subst (λ x. CameTo x script (nth_session 0) r.replies end) (sym history_is) (subst (λ (x : SessionEnd S). CameTo h script (nth_session 0) r.replies x) (sym is)
+      came_to = subst (λ x. CameTo x job.script (nth_session 0) r.replies end) (sym history_is) (subst (λ (x : SessionEnd S). CameTo h job.script (nth_session 0) r.replies x) (sym is)
           (record { session_is = r.came_to.session_is; requests = r.came_to.requests; refused = r.came_to.refused; came = r.came_to.came }));
       is_code = coded ∙ ap (λ x. code_of_ends x (end ∷ []) false) (sym history_is) ∙ ap (λ es. code_of_ends run.history es false) (sym one);
       failed = λ by. faults_are ∙ f.0 by;
@@ -73,12 +73,12 @@ told_so {S = S} held faults script words h e sink now end run ran there is histo
           (told r.replies (subst (λ s. IfSome s (λ x. IfSome (held x) (λ bytes. bytes ≡ r.replies))) there r.holds)));
     }
 
-pub replies_told : {S R D : Type 0} (held : R → Option (List ℕ)) (faults : R → ℕ) (script : List ℕ) (words : List (List ℕ)) (h : List Entry) (e : SessionEnd R) (sink now : R) (end : SessionEnd S)
-    (c : ExitCode) (recovered : List Record) (history : List Entry) (ends : List (SessionEnd S)) (disk : Option D) (n : ℕ) (b : Option (List ℕ))
-    → RanAlone held faults script h e → e.sink ≡ Some sink
+pub replies_told : {S R D : Type 0} (held : R → Option (List ℕ)) (faults : R → ℕ) (word : R → List ℕ) (job : Job) (words : List (List ℕ)) (h : List Entry) (e : SessionEnd R) (sink now : R) (end : SessionEnd S)
+    (c : ExitCode) (recovered : List Record) (history : List Entry) (ends : List (SessionEnd S)) (sinks : List S) (disk : Option D) (n : ℕ) (b : Option (List ℕ))
+    → RanAlone held faults word job h e → e.sink ≡ Some sink
     → end ≡ record { session = e.session; requests = e.requests; refused = e.refused; end = e.end; sink = None }
     → history ≡ h → ends ≡ end ∷ [] → recovered ≡ [] → disk ≡ None → n ≡ faults now → b ≡ held now → c ≡ code_of_ends h (end ∷ []) false
     → ((replies : List ℕ) → IfSome (held sink) (λ bytes. bytes ≡ replies) → IfSome (held now) (λ bytes. Reported (faults now) bytes replies (behind_replies c words)))
-    → RepliesFail c (faults sink) (faults now) → ScriptRan script words (record { code = c; recovered = recovered; history = history; ends = ends; disk = disk; faults = n; held = b })
-replies_told held faults script words h e sink now end c recovered history ends disk n b ran there is history_is one none_recovered no_disk faults_are held_is coded told fails =
-    told_so held faults script words h e sink now end (record { code = c; recovered = recovered; history = history; ends = ends; disk = disk; faults = n; held = b }) ran there is history_is one none_recovered no_disk faults_are held_is coded told fails
+    → RepliesFail c (faults sink) (faults now) → ScriptRan job.script words (record { code = c; recovered = recovered; history = history; ends = ends; sinks = sinks; disk = disk; faults = n; held = b })
+replies_told held faults word job words h e sink now end c recovered history ends sinks disk n b ran there is history_is one none_recovered no_disk faults_are held_is coded told fails =
+    told_so held faults word job words h e sink now end (record { code = c; recovered = recovered; history = history; ends = ends; sinks = sinks; disk = disk; faults = n; held = b }) ran there is history_is one none_recovered no_disk faults_are held_is coded told fails

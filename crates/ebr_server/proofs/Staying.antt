@@ -6,13 +6,13 @@ use Rattle.ebr_outside.specs.Disk.{Medium, Stands}
 use Rattle.ebr_record.specs.declared.record.Record.{Record}
 use Rattle.ebr_dump.specs.Dump.{Dump}
 use Rattle.ebr_allowed.specs.Allowed.{AreAllowed}
-use Rattle.ebr_journal.specs.declared.found.Found.{Found}
-use Rattle.ebr_journal.specs.Found.{Holds}
 use Rattle.ebr_journal.specs.Journal.{HasRecords}
 use Rattle.ebr_journal.specs.Keeper.{JournalState}
 use Rattle.ebr_core.specs.Engine.{EngineState}
 use Rattle.ebr_startup.specs.Damage.{HasDatabase}
-use Rattle.ebr_startup.specs.Opened.{IsKeptAs, Opened, Rests, Unopened}
+use Rattle.ebr_startup.specs.Engines.{Opened}
+use Rattle.ebr_startup.specs.Opened.{IsKeptAs, Rests, Unopened}
+use Rattle.ebr_startup.proofs.Files.{has_records, never_damaged}
 use Rattle.ebr_startup.specs.Read.{Reads}
 use Rattle.ebr_startup.specs.declared.why.OpenWhy.{OpenWhy}
 use Rattle.ebr_startup.specs.declared.why.OpenWhy.TheVariants as why
@@ -90,13 +90,6 @@ unopened_none F c d is f = subst NeedsNone (sym is) (opens_none F d f)
 
 -- ---- an engine was opened that nobody has asked
 
-holds_has : (bytes : List ℕ) (f : Found) → Holds bytes f → HasRecords bytes f.records
-holds_has bytes f (inl blank) = inl (blank.0, ap (λ (x : Found). x.records) blank.1)
-holds_has bytes f (inr whole) = inr (record { layout = whole.layout; ends = whole.safe.ends; are = ap (λ (x : Found). x.records) whole.is })
-
-has_records : (bytes : List ℕ) (records : List Record) → HasDatabase bytes records → HasRecords bytes records
-has_records bytes records db = subst (HasRecords bytes) (sym db.records_are) (holds_has bytes db.found db.holds)
-
 kept_as : (old new : Medium) (records : List Record) → HasDatabase old.reads records → Rests old new (λ image. HasRecords image records) → Rests old new (IsKeptAs old.reads)
 kept_as old new records has rests = record {
   synced = rests.synced;
@@ -113,7 +106,12 @@ pub unasked : {D : Type 0} (as_medium : D → Medium) (disk : D) (sessions : ℕ
 unasked as_medium disk sessions e opened = record {
   goes = opened.goes;
   failed = λ is. absurd (no_fault is);
-  told = λ tells. inr (kept_as (as_medium disk) (as_medium e.keeper.disk) e.recovered (opened.told tells).has (opened.told tells).rests);
+  told = λ tells.
+      let t = opened.told tells in
+      record {
+        images = inr (kept_as (as_medium disk) (as_medium e.keeper.disk) e.recovered t.has t.rests);
+        damaged = λ at bad. absurd (never_damaged (as_medium disk).reads e.recovered at t.has bad);
+      };
 }
   where
     no_fault : why.NoMemory ≡ why.DiskFault → ⊥

@@ -1,16 +1,21 @@
 -- What becomes of the disk that a command opens, and what a crash at each moment of the run leaves of it.
-use Rattle.std.specs.Prelude.{◌≡◌, ◌⊎◌, ℕ, ◌<◌, ◌≤◌, IsTrue, true, IfSome, List, ◌++◌, Option, Some, None}
+use Rattle.std.specs.Prelude.{◌≡◌, ◌⊎◌, ℕ, ◌<◌, ◌≤◌, Bool, ◌||◌, not, IsTrue, true, false, IfSome, List, [], ◌∷◌, ◌++◌, Option, Some, None}
+use Rattle.std.specs.List.{AllByRecursion}
 use Rattle.ebr_faults.specs.Faults.{Rises}
 use Rattle.ebr_words.specs.declared.words.Command.{Command}
 use Rattle.ebr_words.specs.declared.words.Command.TheVariants as command
-use Rattle.ebr_outside.specs.Disk.{Goes, HoldsJust, Medium, Stands}
+use Rattle.ebr_outside.specs.Disk.{Goes, HoldsJust, LeavesNow, Medium, Stands}
+use Rattle.ebr_asks.specs.declared.answer.Answer.{Answer}
+use Rattle.ebr_asks.specs.declared.answer.Answer.TheVariants as answer
 use Rattle.ebr_asks.specs.declared.entry.Entry.{Entry}
 use Rattle.ebr_record.specs.declared.record.Record.{Record}
-use Rattle.ebr_database.specs.Shows.{Between}
+use Rattle.ebr_database.specs.Shows.{Between, OneMore}
+use Rattle.ebr_journal.specs.Journal.{HasRecords}
 use Rattle.ebr_journal.specs.Keeper.{HasNoOther}
 use Rattle.ebr_allowed.specs.Allowed.{AreAllowed}
-use Rattle.ebr_core.specs.Kept.{Begins}
-use Rattle.ebr_core.specs.History.{Acknowledged, Records}
+use Rattle.ebr_core.specs.Asked.{IsFit}
+use Rattle.ebr_core.specs.FirstRecords.{Begins}
+use Rattle.ebr_core.specs.History.{Acknowledged, Records, is_light}
 use Rattle.ebr_core.specs.Machine.{Build}
 use Rattle.ebr_startup.specs.Damage.{HasDatabase, IsDamagedAt}
 use Rattle.ebr_startup.specs.Opened.{Unopened}
@@ -22,21 +27,45 @@ use Rattle.ebr_server.specs.declared.exit.ExitCode.TheVariants as code
 
 -- ---- a stop at any moment
 
--- A crash since a moment may leave an image with these records and no others. A damaged image, which has none, would leave any: what is
--- said of each list that a crash may leave says, too, that it leaves no damaged image.
+-- A crash since a moment may leave an image with these records and no others. A damaged image, which has none, leaves any list.
 abbrev pub LeavesRecords : Medium → ℕ → List Record → Type 0
 LeavesRecords m t records = (image : List ℕ) × m.leaves t image × HasNoOther image records
 
--- A stop at any moment of a run. The first sync of the journal ended at one of them: what a crash leaves from then on are the records that
--- were recovered and the first of those that the run made. Since a moment before the entry it leaves such records too, or what it left at
--- the entry. A crash now leaves all that were acknowledged.
-pub record Survives (entry now : Medium) (recovered made acknowledged : List Record) : Type 0 where
+-- The image has the recovered records and the first of those that the run made.
+abbrev pub HasFirst : (List ℕ → List Record → Type 0) → List Record → List Record → List ℕ → Type 0
+HasFirst Has recovered made image = (l : List Record) × Has image l × Between (Some recovered) made l
+
+-- The engine gave up with an answer: the disk failed, or there was no memory for an ask that isn't light.
+abbrev pub ends_engine : Answer → Bool → Bool
+ends_engine answer.DiskFault light = true
+ends_engine answer.NoMemory light = not light
+ends_engine a light = false
+
+-- one of the entries says that it gave up
+abbrev pub has_given_up : List Entry → Bool
+has_given_up [] = false
+has_given_up (x ∷ history) = ends_engine x.answer (is_light x.ask) || has_given_up history
+
+-- A stop at any moment of a run. The first sync of the journal ended at one of them: each image that a crash leaves from then on has the
+-- records that were recovered and the first of those that the run made. Where the entry had just one image, so has each image since the
+-- entry. Where it had others, a crash since before the first sync leaves such records, or what it left at the entry.
+--
+-- The first of the records that the run made were kept, and all where no entry says that the engine gave up; the acknowledged ones are the
+-- first of those. Each image that a crash leaves now has all that were kept, and at most the next one: so what an ask kept before it
+-- failed, as by an autonomous commit, is in each of them.
+pub record Survives (Has : List ℕ → List Record → Type 0) (entry now : Medium) (recovered made acknowledged : List Record) (gave_up : Bool) : Type 0 where
   pub synced : ℕ
   pub later : entry.moment ≤ synced
   pub within : synced ≤ now.moment
   pub before : (t : ℕ) (l : List Record) → t ≤ entry.moment → LeavesRecords now t l → LeavesRecords entry t l ⊎ Between (Some recovered) made l
-  pub after : (l : List Record) → LeavesRecords now synced l → Between (Some recovered) made l
-  pub end : (l : List Record) → LeavesRecords now now.moment l → Between (Some recovered) made l × Begins (recovered ++ acknowledged) l
+  pub just : (bytes : List ℕ) → HoldsJust entry bytes → (image : List ℕ) → now.leaves entry.moment image → HasFirst Has recovered made image
+  pub after : (image : List ℕ) → now.leaves synced image → HasFirst Has recovered made image
+  pub kept : List Record
+  pub left : List Record
+  pub made_is : made ≡ kept ++ left
+  pub has_acknowledged : Begins acknowledged kept
+  pub all : gave_up ≡ false → left ≡ []
+  pub end : (image : List ℕ) → LeavesNow now image → (l : List Record) × Has image l × OneMore (Some (recovered ++ kept)) left l
 
 -- ---- the disk of a run
 
@@ -46,7 +75,8 @@ pub record IsEntry {D : Type 0} (as_medium : D → Medium) (told : Option (List 
   pub fresh : (as_medium entry).faults ≡ 0
 
 -- Sessions ran over the disk. The history began with the records of the file, each allowed behind those before it. The disk failed
--- where an entry says so.
+-- where an entry says so. No image is damaged before its records are judged: each is a blank file or a journal of these. Each record is
+-- allowed behind those before it where each definition came with its own text (`IsFit`), so then a database is opened from each image.
 pub record RanOver {D : Type 0} (as_medium : D → Medium) (told : Option (List ℕ)) (sessions : ℕ) (recovered : List Record) (history : List Entry) (now : D) : Type 0 where
   pub entry : D
   pub is_entry : IsEntry as_medium told entry
@@ -55,7 +85,9 @@ pub record RanOver {D : Type 0} (as_medium : D → Medium) (told : Option (List 
   pub failed : has_fault history ≡ true → 0 < (as_medium now).faults
   pub recovers : IsTrue (as_medium entry).tells → HasDatabase (as_medium entry).reads recovered
   pub survives : IsTrue (as_medium entry).tells
-      → Survives (as_medium entry) (as_medium now) recovered (Records (Build recovered sessions) history) (Acknowledged (Build recovered sessions) history)
+      → Survives HasRecords (as_medium entry) (as_medium now) recovered (Records (Build recovered sessions) history) (Acknowledged (Build recovered sessions) history) (has_given_up history)
+  pub opens : AllByRecursion (λ (x : Entry). IsFit x.ask) history → IsTrue (as_medium entry).tells
+      → Survives HasDatabase (as_medium entry) (as_medium now) recovered (Records (Build recovered sessions) history) (Acknowledged (Build recovered sessions) history) (has_given_up history)
 
 -- ---- a disk over which none began
 

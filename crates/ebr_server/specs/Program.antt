@@ -22,10 +22,10 @@ use Rattle.ebr_core.specs.Machine.{Build}
 use Rattle.ebr_dump.specs.Dump.{Dump}
 use Rattle.ebr_startup.specs.Damage.{IsDamagedAt}
 use Rattle.ebr_startup.specs.declared.why.OpenWhy.{OpenWhy}
-use Rattle.ebr_worker.specs.Ends.{CameTo}
+use Rattle.ebr_worker.specs.Ends.{CameTo, Job}
 use Rattle.ebr_worker.specs.Matches.{has_fault, has_stop}
 use Rattle.ebr_worker.specs.Paced.{Paced}
-use Rattle.ebr_worker.specs.Runs.{AreEnds, nth_session}
+use Rattle.ebr_worker.specs.Runs.{AreEnds, IsUnwritten, nth_session}
 use Rattle.ebr_server.specs.declared.exit.ExitCode.{ExitCode}
 use Rattle.ebr_server.specs.declared.exit.ExitCode.TheVariants as code
 use Rattle.ebr_server.specs.Disks.{DiskStops, Leaves, RanOver, WasReadOff}
@@ -162,6 +162,26 @@ order_of_work (Some command.Rehearse) words = before_rehearsal words ++ disk_at 
 abbrev pub call_of : Bool → Step → HostCall
 call_of failed step = record { method = step.method; word = step.word; failed = failed }
 
+-- the words of the sinks that steps make, in order
+abbrev pub sinks_by : HostMethod → List ℕ → List (List ℕ) → List (List ℕ)
+sinks_by method.Source word others = others
+sinks_by method.Sink word others = word ∷ others
+sinks_by method.Disk word others = others
+
+abbrev pub sinks_of : List Step → List (List ℕ)
+sinks_of [] = []
+sinks_of (step ∷ steps) = sinks_by step.method step.word (sinks_of steps)
+
+-- one of the steps opens a disk
+abbrev pub is_disk : HostMethod → Bool
+is_disk method.Source = false
+is_disk method.Sink = false
+is_disk method.Disk = true
+
+abbrev pub opens_disk : List Step → Bool
+opens_disk [] = false
+opens_disk (step ∷ steps) = is_disk step.method || opens_disk steps
+
 -- What was called behind the steps that came through: the next one, which failed, where a fault of its word is told, and else nothing.
 abbrev pub LastFails : Option ℕ → List Step → List HostCall → Type 0
 LastFails None left calls = calls ≡ []
@@ -169,23 +189,35 @@ LastFails (Some at) [] calls = ⊥
 LastFails (Some at) (step ∷ left) calls = (step.place ≡ at) × (calls ≡ call_of true step ∷ [])
 
 -- The calls go by the order of work: they are those of its first steps, each of which came through but for the last one where a fault is
--- told.
-pub record InOrder (work : List Step) (fault : Option ℕ) (calls : List HostCall) : Type 0 where
+-- told. All that they gave but sources is handed back: sinks of these words, and the disk.
+pub record InOrder (work : List Step) (fault : Option ℕ) (sinks : List (List ℕ)) (disk : Bool) (calls : List HostCall) : Type 0 where
   pub done : List Step
   pub left : List Step
   pub work_is : work ≡ done ++ left
   pub last : List HostCall
   pub calls_are : calls ≡ map (call_of false) done ++ last
   pub last_fails : LastFails fault left last
+  pub sinks_are : sinks ≡ sinks_of done
+  pub disk_is : disk ≡ opens_disk done
 
 -- the same of the calls between two moments, where they are told
-abbrev pub CallsInOrder : Option (List HostCall) → Option (List HostCall) → List Step → Option ℕ → Type 0
-CallsInOrder None new work fault = new ≡ None
-CallsInOrder (Some old) new work fault = (calls : List HostCall) × (new ≡ Some (old ++ calls)) × InOrder work fault calls
+abbrev pub CallsInOrder : Option (List HostCall) → Option (List HostCall) → List Step → Option ℕ → List (List ℕ) → Bool → Type 0
+CallsInOrder None new work fault sinks disk = new ≡ None
+CallsInOrder (Some old) new work fault sinks disk = (calls : List HostCall) × (new ≡ Some (old ++ calls)) × InOrder work fault sinks disk calls
 
 abbrev pub fault_at : ExitCode → Option ℕ
 fault_at (code.HostFault at) = Some at
 fault_at c = None
+
+-- the word of a sink, where there is one, in front of others
+abbrev pub with_sink : {S : Type 0} → (S → List ℕ) → Option S → List (List ℕ) → List (List ℕ)
+with_sink sink_word None others = others
+with_sink sink_word (Some sink) others = sink_word sink ∷ others
+
+-- the words of the sinks that sessions have ended with, and then those of sinks over which none ran
+abbrev pub sinks_back : {S : Type 0} → (S → List ℕ) → List (SessionEnd S) → List S → List (List ℕ)
+sinks_back sink_word [] sinks = map sink_word sinks
+sinks_back sink_word (e ∷ ends) sinks = with_sink sink_word e.sink (sinks_back sink_word ends sinks)
 
 -- the place of a host fault that no source has
 abbrev pub own_fault : {C : Type 0} → ExitCode → Option C → Option ℕ
@@ -224,24 +256,28 @@ pub record BrokenOff (held text : List ℕ) : Type 0 where
 
 -- ---- what a run is given, and what it hands back
 
--- What the host tells of words: the bytes behind them, and those of their disks; and what is told of the sinks and the disks that it makes.
+-- What the host tells of words: the bytes behind them, and those of their disks; and what is told of the sinks and the disks that it makes,
+-- a sink's word first.
 pub record Outside (S D : Type 0) : Type 1 where
   pub bytes : List ℕ → Option (List ℕ)
   pub disks : List ℕ → Option (List ℕ)
+  pub sink_word : S → List ℕ
   pub sink_held : S → Option (List ℕ)
   pub sink_faults : S → ℕ
   pub as_medium : D → Medium
 
-abbrev pub outside : {S D : Type 0} → (List ℕ → Option (List ℕ)) → (List ℕ → Option (List ℕ)) → (S → Option (List ℕ)) → (S → ℕ) → (D → Medium) → Outside S D
-outside bytes disks sink_held sink_faults as_medium = record { bytes = bytes; disks = disks; sink_held = sink_held; sink_faults = sink_faults; as_medium = as_medium }
+abbrev pub outside : {S D : Type 0} → (List ℕ → Option (List ℕ)) → (List ℕ → Option (List ℕ)) → (S → List ℕ) → (S → Option (List ℕ)) → (S → ℕ) → (D → Medium) → Outside S D
+outside bytes disks sink_word sink_held sink_faults as_medium =
+    record { bytes = bytes; disks = disks; sink_word = sink_word; sink_held = sink_held; sink_faults = sink_faults; as_medium = as_medium }
 
--- What is handed back: the code; the records with which the history began, the history, and what the sessions came to; the disk; how many writes of the report
--- have failed, and what it holds, where it tells.
+-- What is handed back: the code; the records with which the history began, the history, and what the sessions came to; the sinks over which
+-- none ran; the disk; how many writes of the report have failed, and what it holds, where it tells.
 pub record Handed (S D : Type 0) : Type 0 where
   pub code : ExitCode
   pub recovered : List Record
   pub history : List Entry
   pub ends : List (SessionEnd S)
+  pub sinks : List S
   pub disk : Option D
   pub faults : ℕ
   pub held : Option (List ℕ)
@@ -268,12 +304,13 @@ Stops (Some command.Dump) bytes words fails code.DiskFault = Unit {0}
 Stops (Some c) bytes words fails code.NoMemory = Unit {0}
 Stops c bytes words fails x = ⊥
 
--- No session ran. What became of the disk goes by the code: it stays as it was, so that nothing is lost.
+-- No session ran, and nothing is in a sink. What became of the disk goes by the code: it stays as it was, so that nothing is lost.
 pub record NoneRan {S D : Type 0} (stops : ExitCode → Type 0) (Left : Medium → OpenWhy → Medium → Type 0) (o : Outside S D) (words : List (List ℕ)) (run : Handed S D) : Type 0 where
   pub stop : stops run.code
   pub no_record : run.recovered ≡ []
   pub no_entry : run.history ≡ []
   pub no_end : run.ends ≡ []
+  pub unwritten : All (IsUnwritten o.sink_held o.sink_faults) run.sinks
   pub disk : DiskStops Left o.as_medium (journal_bytes o words) run.code run.disk
   pub failed : LineFailed run.code run.faults
   pub report : IfSome run.held (λ bytes. Reported run.faults bytes [] (last_line run.code words))
@@ -345,20 +382,29 @@ pub record IsOrder (bytes : List ℕ → Option (List ℕ)) (words : List (List 
   pub short : length order ≤ most
   pub right : wrong_at n order ≡ None
 
--- The scripts of the words from a place on were run, each as a session of its own with a sink of its own, in the database of the journal.
+-- the words of the sinks of so many scripts, of which the first one's word is at a place
+abbrev pub out_words : List (List ℕ) → ℕ → ℕ → List (List ℕ)
+out_words words at n = sinks_of (steps_from (sink_at words) at n)
+
+-- The scripts of the words from a place on are to be run, each with the sink that was made for its word.
+pub record AreJobs (bytes : List ℕ → Option (List ℕ)) (words : List (List ℕ)) (first : ℕ) (jobs : List Job) : Type 0 where
+  pub scripts : AreScripts bytes words first (length words) (map (λ (j : Job). j.script) jobs)
+  pub sinks : map (λ (j : Job). j.word) jobs ≡ out_words words first (length words - first)
+
+-- The scripts of the words from a place on were run, each as a session of its own with its own sink, in the database of the journal.
 pub record SessionsRan {S D : Type 0} (o : Outside S D) (words : List (List ℕ)) (first : ℕ) (recovered : List Record) (history : List Entry) (ends : List (SessionEnd S)) (now : D) : Type 0 where
-  pub scripts : List (List ℕ)
-  pub are_scripts : AreScripts o.bytes words first (length words) scripts
-  pub legal : IsLegal recovered (length scripts) history
-  pub are_ends : AreEnds o.sink_held o.sink_faults scripts history ends
-  pub disk : RanOver o.as_medium (journal_bytes o words) (length scripts) recovered history now
+  pub jobs : List Job
+  pub are_jobs : AreJobs o.bytes words first jobs
+  pub legal : IsLegal recovered (length jobs) history
+  pub are_ends : AreEnds o.sink_held o.sink_faults o.sink_word jobs history ends
+  pub disk : RanOver o.as_medium (journal_bytes o words) (length jobs) recovered history now
 
 -- .. by the order
 pub record SessionsPaced {S D : Type 0} (o : Outside S D) (words : List (List ℕ)) (recovered : List Record) (history : List Entry) (ends : List (SessionEnd S)) (now : D) : Type 0 where
   pub ran : SessionsRan o words 3 recovered history ends now
   pub order : List ℕ
-  pub is_order : IsOrder o.bytes words (length ran.scripts) order
-  pub paced : Paced (length ran.scripts) (turns_of order) history
+  pub is_order : IsOrder o.bytes words (length ran.jobs) order
+  pub paced : Paced (length ran.jobs) (turns_of order) history
 
 -- the text and the last line, by whether a write of the text failed
 abbrev pub Summed : Bool → ℕ → List ℕ → List ℕ → List ℕ → Type 0
@@ -424,10 +470,10 @@ Served asked o fails words run = NoneRan (Stops asked o.bytes words fails) (Leav
 
 -- ---- what a code says
 
--- the code that a failed call of the host or of a source has
-abbrev pub IsHostFault : ExitCode → Type 0
-IsHostFault (code.HostFault at) = Unit {0}
-IsHostFault c = ⊥
+-- the code that a failed read of the source of a word has
+abbrev pub IsReadFault : ExitCode → List (List ℕ) → List ℕ → Type 0
+IsReadFault (code.HostFault at) words word = word ≡ word_at words at
+IsReadFault c words word = ⊥
 
 -- the sink of one of the sessions has failed
 pub record SinkFailed {S : Type 0} (sink_faults : S → ℕ) (ends : List (SessionEnd S)) : Type 0 where

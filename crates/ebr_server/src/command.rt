@@ -1,19 +1,19 @@
 //! The one call that the program makes.
 
-ghost use Rattle.std.specs.Prelude.{◌≡◌, ◌≢◌, ◌<◌, ◌≤◌, ◌↔◌, ◌⊎◌, ℕ, List, [], length, Option, Some, None, IfSome, IsSome, IsSomeAnd};
-ghost use Rattle.ebr_faults.specs.Faults.{Rises};
+ghost use Rattle.std.specs.Prelude.{◌≡◌, ◌≢◌, ◌<◌, ◌≤◌, ◌↔◌, ◌⊎◌, ℕ, List, [], length, Option, Some, None, IfSome, IsSome, IsSomeAnd, is_some};
+ghost use Rattle.ebr_faults.specs.Faults.{Rises, one_more};
 ghost use Rattle.ebr_order.specs.Order.{wrong_at};
 ghost use Rattle.ebr_words.specs.Words.{command_of};
 ghost use Rattle.ebr_words.specs.declared.words.Command.TheVariants.{Dump, Rehearse, Run, Try};
 ghost use Rattle.ebr_startup.specs.Damage.{IsDamagedAt};
 ghost use Rattle.ebr_worker.specs.Runs.{IsUnwritten};
 ghost use Rattle.ebr_server.specs.Handed.{handed};
-ghost use Rattle.ebr_server.specs.Program.{AllEnded, AllRight, CallsInOrder, DiskFails, EndsTold, IsComplete, IsHostFault, IsLegal, IsLong, IsSinkStop, LineFailed, Opens, OpensJournal, OrderWrong, Reads, Reported, Served, SinkFailed, SinkFails, StopsBad, StopsBy, StopsDamaged, journal_place, last_line, order_of_work, order_place, outside, own_fault, sessions_of, told_at};
+ghost use Rattle.ebr_server.specs.Program.{AllEnded, AllRight, CallsInOrder, DiskFails, EndsTold, IsComplete, IsLegal, IsLong, IsReadFault, IsSinkStop, LineFailed, Opens, OpensJournal, OrderWrong, Reads, Reported, Served, SinkFailed, SinkFails, StopsBad, StopsBy, StopsDamaged, journal_place, last_line, order_of_work, order_place, outside, own_fault, sessions_of, sinks_back, told_at};
 ghost use Rattle.ebr_server.specs.inside.Opened.{ScriptServed};
 
 use crate::exit::ExitCode;
 use crate::journal::lines;
-use crate::opened::{Halt, Stop, open_disk, read_word, without_disk, without_source};
+use crate::opened::{Halt, Stop, open_disk, read_word, with_disk, without_sinks, without_source};
 use crate::over::Ended;
 use crate::read::MAX_SCRIPT;
 use crate::rehearsal::rehearsed;
@@ -24,7 +24,7 @@ use ebr_base::{Bytes, List};
 use ebr_outside::{Disk, Host, Sink};
 use ebr_record::Record;
 use ebr_report::SessionEnd;
-use ebr_startup::a_database_is_not_damaged;
+use ebr_startup::{a_database_is_not_damaged, a_file_is_damaged_at_one_place};
 use ebr_words::{Command, command_of};
 use ebr_worker::run_alone;
 use std::alloc::Global;
@@ -41,6 +41,8 @@ pub struct Outcome<C, S, R, D> {
     /// What the sessions came to, in the order of their scripts; none where no session has begun. In `run` and
     /// `rehearse` each has its sink; that of `try` is the report.
     pub ends: List<SessionEnd<S>>,
+    /// The sinks that were made for sessions, where none has begun: nothing is written in them.
+    pub sinks: List<S>,
     /// The records with which the history began: those of the journal, where sessions ran over one.
     pub recovered: List<Record>,
     /// All asks in the order in which they were answered.
@@ -53,12 +55,13 @@ pub struct Outcome<C, S, R, D> {
 fn stopped<C: Drop, S: Drop, R: Sink, D: Drop>(
     alloc: Global,
     words: &[Bytes],
-    stop: Stop<C, D>,
+    stop: Stop<C, S, D>,
     report: R,
 ) -> Outcome<C, S, R, D>
     requires empty { IsUnwritten R.held R.faults report }
     ensures code { result.code ≡ stop.halt.code }
     ensures source { result.source ≡ stop.halt.source }
+    ensures sinks { result.sinks ≡ stop.sinks }
     ensures disk { result.disk ≡ stop.disk }
     ensures ends { result.ends ≡ [] }
     ensures recovered { result.recovered ≡ [] }
@@ -66,7 +69,7 @@ fn stopped<C: Drop, S: Drop, R: Sink, D: Drop>(
     ensures failed { LineFailed stop.halt.code (R.faults result.report) }
     ensures report { IfSome (R.held result.report) (λ bytes. Reported (R.faults result.report) bytes [] (last_line stop.halt.code words.now)) }
 {
-    let Stop { halt, disk } = stop;
+    let Stop { halt, sinks, disk } = stop;
     let Halt { code, source } = halt;
     let mut report = report;
     let _ = write_last_line(&mut report, code, words);
@@ -75,6 +78,7 @@ fn stopped<C: Drop, S: Drop, R: Sink, D: Drop>(
         source,
         report,
         ends: List::new(alloc),
+        sinks,
         recovered: List::new(alloc),
         history: List::new(alloc),
         disk,
@@ -91,6 +95,7 @@ fn stopped_by<C: Drop, S: Drop, R: Sink, D: Drop>(
     requires empty { IsUnwritten R.held R.faults report }
     ensures code { result.code ≡ code }
     ensures source { result.source ≡ None }
+    ensures sinks { result.sinks ≡ [] }
     ensures disk { result.disk ≡ None }
     ensures ends { result.ends ≡ [] }
     ensures recovered { result.recovered ≡ [] }
@@ -98,7 +103,12 @@ fn stopped_by<C: Drop, S: Drop, R: Sink, D: Drop>(
     ensures failed { LineFailed code (R.faults result.report) }
     ensures report { IfSome (R.held result.report) (λ bytes. Reported (R.faults result.report) bytes [] (last_line code words.now)) }
 {
-    stopped(alloc, words, without_disk(without_source(code)), report)
+    stopped(
+        alloc,
+        words,
+        without_sinks(alloc, without_source(code)),
+        report,
+    )
 }
 
 /// The end of a session apart from its sink.
@@ -133,9 +143,11 @@ fn run_script<C: Drop, S: Drop, R: Sink, D: Disk>(
 ) -> Outcome<C, S, R, D>
     requires short { length script.now ≤ MAX_SCRIPT }
     requires empty { IsUnwritten R.held R.faults report }
-    ensures served { (bytes disks : List ℕ → Option (List ℕ)) (sink_held : S → Option (List ℕ)) (sink_faults : S → ℕ)
-        → ScriptServed (outside bytes disks sink_held sink_faults D.as_medium) script.now words.now (handed R.faults R.held result) }
+    ensures served { (bytes disks : List ℕ → Option (List ℕ)) (sink_word : S → List ℕ) (sink_held : S → Option (List ℕ)) (sink_faults : S → ℕ)
+        → ScriptServed (outside bytes disks sink_word sink_held sink_faults D.as_medium) script.now words.now (handed R.faults R.held result) }
     ensures source { result.source ≡ None }
+    ensures back { (sink_word : S → List ℕ) → sinks_back sink_word result.ends result.sinks ≡ [] }
+    ensures no_disk { result.disk ≡ None }
 {
     let Ok(mut ends) = Vec::with_capacity(alloc, 1) else {
         return stopped_by(alloc, words, ExitCode::NoMemory, report);
@@ -150,6 +162,7 @@ fn run_script<C: Drop, S: Drop, R: Sink, D: Disk>(
                 source: None,
                 report,
                 ends: List::from_vec(ends),
+                sinks: List::new(alloc),
                 recovered: List::new(alloc),
                 history,
                 disk: None,
@@ -168,25 +181,27 @@ fn try_script<H: Host>(
 ) -> Outcome<H::Source, H::Sink, H::Report, H::Disk>
     requires some { 2 ≤ length words.now }
     requires empty { IsUnwritten H.Report.held H.Report.faults report }
-    ensures served { Served (Some Try) (outside (H.bytes host.old) (H.disk_bytes host.old) H.Sink.held H.Sink.faults H.Disk.as_medium) (Rises (H.faults host.old) (H.faults host.new) ⊎ IsSomeAnd result.source (λ s. 0 < H.Source.faults s)) words.now (handed H.Report.faults H.Report.held result) }
-    ensures source { IfSome result.source (λ s. IsHostFault result.code × (0 < H.Source.faults s)) }
-    ensures called { CallsInOrder (H.calls host.old) (H.calls host.new) (order_of_work (Some Try) words.now) (own_fault result.code result.source) }
+    ensures served { Served (Some Try) (outside (H.bytes host.old) (H.disk_bytes host.old) H.Sink.word H.Sink.held H.Sink.faults H.Disk.as_medium) (Rises (H.faults host.old) (H.faults host.new) ⊎ IsSomeAnd result.source (λ s. 0 < H.Source.faults s)) words.now (handed H.Report.faults H.Report.held result) }
+    ensures source { IfSome result.source (λ s. IsReadFault result.code words.now (H.Source.word s) × (0 < H.Source.faults s)) }
+    ensures called { CallsInOrder (H.calls host.old) (H.calls host.new) (order_of_work (Some Try) words.now) (own_fault result.code result.source) (sinks_back H.Sink.word result.ends result.sinks) (is_some result.disk) }
+    ensures reports { H.reports host.new ≡ H.reports host.old }
 {
     match read_word(alloc, words, 1, host) {
         Ok(script) => run_script(alloc, words, script.as_slice(), report),
-        Err(halt) => stopped(alloc, words, without_disk(halt), report),
+        Err(halt) => stopped(alloc, words, without_sinks(alloc, halt), report),
     }
 }
 
 /// What sessions over a journal came to, as the report tells it.
 fn outcome_of<C: Drop, S: Drop, R: Sink, D: Drop>(
+    alloc: Global,
     words: &[Bytes],
     ended: Ended<S, D>,
     report: R,
 ) -> Outcome<C, S, R, D>
     requires empty { IsUnwritten R.held R.faults report }
     ensures source { result.source ≡ None }
-    ensures is { handed R.faults R.held result ≡ record { code = result.code; recovered = ended.recovered; history = ended.history; ends = ended.ends; disk = Some ended.disk; faults = R.faults result.report; held = R.held result.report } }
+    ensures is { handed R.faults R.held result ≡ record { code = result.code; recovered = ended.recovered; history = ended.history; ends = ended.ends; sinks = []; disk = Some ended.disk; faults = R.faults result.report; held = R.held result.report } }
     ensures told { EndsTold words.now ended.history result.code ended.ends (R.faults result.report) (R.held result.report) }
 {
     let mut report = report;
@@ -201,6 +216,7 @@ fn outcome_of<C: Drop, S: Drop, R: Sink, D: Drop>(
         source: None,
         report,
         ends: ended.ends,
+        sinks: List::new(alloc),
         recovered: ended.recovered,
         history: ended.history,
         disk: Some(ended.disk),
@@ -217,12 +233,13 @@ fn rehearse<H: Host>(
     requires some { 3 ≤ length words.now }
     requires few { length words.now ≤ 35 }
     requires empty { IsUnwritten H.Report.held H.Report.faults report }
-    ensures served { Served (Some Rehearse) (outside (H.bytes host.old) (H.disk_bytes host.old) H.Sink.held H.Sink.faults H.Disk.as_medium) (Rises (H.faults host.old) (H.faults host.new) ⊎ IsSomeAnd result.source (λ s. 0 < H.Source.faults s)) words.now (handed H.Report.faults H.Report.held result) }
-    ensures source { IfSome result.source (λ s. IsHostFault result.code × (0 < H.Source.faults s)) }
-    ensures called { CallsInOrder (H.calls host.old) (H.calls host.new) (order_of_work (Some Rehearse) words.now) (own_fault result.code result.source) }
+    ensures served { Served (Some Rehearse) (outside (H.bytes host.old) (H.disk_bytes host.old) H.Sink.word H.Sink.held H.Sink.faults H.Disk.as_medium) (Rises (H.faults host.old) (H.faults host.new) ⊎ IsSomeAnd result.source (λ s. 0 < H.Source.faults s)) words.now (handed H.Report.faults H.Report.held result) }
+    ensures source { IfSome result.source (λ s. IsReadFault result.code words.now (H.Source.word s) × (0 < H.Source.faults s)) }
+    ensures called { CallsInOrder (H.calls host.old) (H.calls host.new) (order_of_work (Some Rehearse) words.now) (own_fault result.code result.source) (sinks_back H.Sink.word result.ends result.sinks) (is_some result.disk) }
+    ensures reports { H.reports host.new ≡ H.reports host.old }
 {
     match rehearsed(alloc, words, host) {
-        Ok(ended) => outcome_of(words, ended, report),
+        Ok(ended) => outcome_of(alloc, words, ended, report),
         Err(stop) => stopped(alloc, words, stop, report),
     }
 }
@@ -238,12 +255,13 @@ fn run_scripts<H: Host, R: Threads + Wait + Sync>(
     requires some { 2 ≤ length words.now }
     requires few { length words.now ≤ 34 }
     requires empty { IsUnwritten H.Report.held H.Report.faults report }
-    ensures served { Served (Some Run) (outside (H.bytes host.old) (H.disk_bytes host.old) H.Sink.held H.Sink.faults H.Disk.as_medium) (Rises (H.faults host.old) (H.faults host.new) ⊎ IsSomeAnd result.source (λ s. 0 < H.Source.faults s)) words.now (handed H.Report.faults H.Report.held result) }
-    ensures source { IfSome result.source (λ s. IsHostFault result.code × (0 < H.Source.faults s)) }
-    ensures called { CallsInOrder (H.calls host.old) (H.calls host.new) (order_of_work (Some Run) words.now) (own_fault result.code result.source) }
+    ensures served { Served (Some Run) (outside (H.bytes host.old) (H.disk_bytes host.old) H.Sink.word H.Sink.held H.Sink.faults H.Disk.as_medium) (Rises (H.faults host.old) (H.faults host.new) ⊎ IsSomeAnd result.source (λ s. 0 < H.Source.faults s)) words.now (handed H.Report.faults H.Report.held result) }
+    ensures source { IfSome result.source (λ s. IsReadFault result.code words.now (H.Source.word s) × (0 < H.Source.faults s)) }
+    ensures called { CallsInOrder (H.calls host.old) (H.calls host.new) (order_of_work (Some Run) words.now) (own_fault result.code result.source) (sinks_back H.Sink.word result.ends result.sinks) (is_some result.disk) }
+    ensures reports { H.reports host.new ≡ H.reports host.old }
 {
     match ran_in_threads(rt, alloc, words, host) {
-        Ok(ended) => outcome_of(words, ended, report),
+        Ok(ended) => outcome_of(alloc, words, ended, report),
         Err(stop) => stopped(alloc, words, stop, report),
     }
 }
@@ -257,9 +275,10 @@ fn dump_journal<H: Host>(
 ) -> Outcome<H::Source, H::Sink, H::Report, H::Disk>
     requires some { 2 ≤ length words.now }
     requires empty { IsUnwritten H.Report.held H.Report.faults report }
-    ensures served { Served (Some Dump) (outside (H.bytes host.old) (H.disk_bytes host.old) H.Sink.held H.Sink.faults H.Disk.as_medium) (Rises (H.faults host.old) (H.faults host.new) ⊎ IsSomeAnd result.source (λ s. 0 < H.Source.faults s)) words.now (handed H.Report.faults H.Report.held result) }
-    ensures source { IfSome result.source (λ s. IsHostFault result.code × (0 < H.Source.faults s)) }
-    ensures called { CallsInOrder (H.calls host.old) (H.calls host.new) (order_of_work (Some Dump) words.now) (own_fault result.code result.source) }
+    ensures served { Served (Some Dump) (outside (H.bytes host.old) (H.disk_bytes host.old) H.Sink.word H.Sink.held H.Sink.faults H.Disk.as_medium) (Rises (H.faults host.old) (H.faults host.new) ⊎ IsSomeAnd result.source (λ s. 0 < H.Source.faults s)) words.now (handed H.Report.faults H.Report.held result) }
+    ensures source { IfSome result.source (λ s. IsReadFault result.code words.now (H.Source.word s) × (0 < H.Source.faults s)) }
+    ensures called { CallsInOrder (H.calls host.old) (H.calls host.new) (order_of_work (Some Dump) words.now) (own_fault result.code result.source) (sinks_back H.Sink.word result.ends result.sinks) (is_some result.disk) }
+    ensures reports { H.reports host.new ≡ H.reports host.old }
 {
     let disk = match open_disk(words, host) {
         Ok(disk) => disk,
@@ -274,12 +293,13 @@ fn dump_journal<H: Host>(
                 source: None,
                 report,
                 ends: List::new(alloc),
+                sinks: List::new(alloc),
                 recovered: List::new(alloc),
                 history: List::new(alloc),
                 disk: Some(disk),
             }
         }
-        Err(stop) => stopped(alloc, words, stop, report),
+        Err(fruitless) => stopped(alloc, words, with_disk(fruitless, Vec::new(alloc)), report),
     }
 }
 
@@ -292,9 +312,10 @@ fn do_alone<H: Host>(
 ) -> Outcome<H::Source, H::Sink, H::Report, H::Disk>
     requires alone { command_of words.now ≢ Some Run }
     requires empty { IsUnwritten H.Report.held H.Report.faults report }
-    ensures served { Served (command_of words.now) (outside (H.bytes host.old) (H.disk_bytes host.old) H.Sink.held H.Sink.faults H.Disk.as_medium) (Rises (H.faults host.old) (H.faults host.new) ⊎ IsSomeAnd result.source (λ s. 0 < H.Source.faults s)) words.now (handed H.Report.faults H.Report.held result) }
-    ensures source { IfSome result.source (λ s. IsHostFault result.code × (0 < H.Source.faults s)) }
-    ensures called { CallsInOrder (H.calls host.old) (H.calls host.new) (order_of_work (command_of words.now) words.now) (own_fault result.code result.source) }
+    ensures served { Served (command_of words.now) (outside (H.bytes host.old) (H.disk_bytes host.old) H.Sink.word H.Sink.held H.Sink.faults H.Disk.as_medium) (Rises (H.faults host.old) (H.faults host.new) ⊎ IsSomeAnd result.source (λ s. 0 < H.Source.faults s)) words.now (handed H.Report.faults H.Report.held result) }
+    ensures source { IfSome result.source (λ s. IsReadFault result.code words.now (H.Source.word s) × (0 < H.Source.faults s)) }
+    ensures called { CallsInOrder (H.calls host.old) (H.calls host.new) (order_of_work (command_of words.now) words.now) (own_fault result.code result.source) (sinks_back H.Sink.word result.ends result.sinks) (is_some result.disk) }
+    ensures reports { H.reports host.new ≡ H.reports host.old }
 {
     match command_of(words) {
         Some(Command::Try) => try_script(alloc, words, host, report),
@@ -325,7 +346,7 @@ pub fn serve<H: Host, R: Threads + Wait + Sync>(
 ) -> Outcome<H::Source, H::Sink, H::Report, H::Disk>
     // What the sessions came to, what the sinks and the report hold, and where none has begun, why. The history's asks are just
     // those of the scripts, each session's in order. What a crash at each moment leaves of the journal.
-    ensures served { Served (command_of words.now) (outside (H.bytes host.old) (H.disk_bytes host.old) H.Sink.held H.Sink.faults H.Disk.as_medium) (Rises (H.faults host.old) (H.faults host.new) ⊎ IsSomeAnd result.source (λ s. 0 < H.Source.faults s)) words.now (handed H.Report.faults H.Report.held result) }
+    ensures served { Served (command_of words.now) (outside (H.bytes host.old) (H.disk_bytes host.old) H.Sink.word H.Sink.held H.Sink.faults H.Disk.as_medium) (Rises (H.faults host.old) (H.faults host.new) ⊎ IsSomeAnd result.source (λ s. 0 < H.Source.faults s)) words.now (handed H.Report.faults H.Report.held result) }
 
     // Each answer of the history is the machine's, in the database that the entries before it leave, which begins with the recovered
     // records, up to one, if any, that the disk failed or that there was no memory, behind which all are Stopped.
@@ -336,7 +357,7 @@ pub fn serve<H: Host, R: Threads + Wait + Sync>(
     ensures usage { (result.code ≡ ExitCode.Usage) ↔ (command_of words.now ≡ None) }
     ensures host_fault { (w : ℕ) → result.code ≡ ExitCode.HostFault w
         → Opens (command_of words.now) words.now w × (Rises (H.faults host.old) (H.faults host.new) ⊎ IsSomeAnd result.source (λ s. 0 < H.Source.faults s)) }
-    ensures source { IfSome result.source (λ s. IsHostFault result.code × (0 < H.Source.faults s)) }
+    ensures source { IfSome result.source (λ s. IsReadFault result.code words.now (H.Source.word s) × (0 < H.Source.faults s)) }
     ensures disk_fault { result.code ≡ ExitCode.DiskFault → DiskFails H.Disk.as_medium result.disk }
     ensures damaged { (at : ℕ) → result.code ≡ ExitCode.Damaged at
         → OpensJournal (command_of words.now) × IfSome (told_at (H.disk_bytes host.old) words.now journal_place) (λ bytes. IsDamagedAt bytes at) }
@@ -346,10 +367,11 @@ pub fn serve<H: Host, R: Threads + Wait + Sync>(
     ensures bad_order { (at : ℕ) → result.code ≡ ExitCode.BadOrder at → (command_of words.now ≡ Some Rehearse) × OrderWrong (H.bytes host.old) words.now (Some at) }
 
     // What the host was asked to open, and in which order. A call of it failed exactly where the code is a host fault that no source has,
-    // and then it was the last one, of that word.
-    ensures called { CallsInOrder (H.calls host.old) (H.calls host.new) (order_of_work (command_of words.now) words.now) (own_fault result.code result.source) }
+    // and then it was the last one, of that word. Each sink that it made is handed back, and its disk.
+    ensures called { CallsInOrder (H.calls host.old) (H.calls host.new) (order_of_work (command_of words.now) words.now) (own_fault result.code result.source) (sinks_back H.Sink.word result.ends result.sinks) (is_some result.disk) }
 
-    // One write of the report at most has failed, so none was tried behind it.
+    // One report was made. One write of it at most has failed, so none was tried behind it.
+    ensures reported { H.reports host.new ≡ one_more (H.reports host.old) }
     ensures once { H.Report.faults result.report ≤ 1 }
 
     // A word whose bytes are too many stops the run, and so does an order that is wrong, and a damaged journal.
@@ -366,6 +388,7 @@ pub fn serve<H: Host, R: Threads + Wait + Sync>(
         → ¬ (0 < H.Report.faults result.report) → ¬ SinkFailed H.Sink.faults result.ends → IsComplete result.code) }
 {
     a_database_is_not_damaged();
+    a_file_is_damaged_at_one_place();
     match command_of(words) {
         Some(Command::Run) => serve_run(rt, alloc, words, host),
         _ => serve_alone(alloc, words, host),
@@ -380,9 +403,10 @@ fn serve_run<H: Host, R: Threads + Wait + Sync>(
     host: &mut H,
 ) -> Outcome<H::Source, H::Sink, H::Report, H::Disk>
     requires run { command_of words.now ≡ Some Run }
-    ensures served { Served (Some Run) (outside (H.bytes host.old) (H.disk_bytes host.old) H.Sink.held H.Sink.faults H.Disk.as_medium) (Rises (H.faults host.old) (H.faults host.new) ⊎ IsSomeAnd result.source (λ s. 0 < H.Source.faults s)) words.now (handed H.Report.faults H.Report.held result) }
-    ensures source { IfSome result.source (λ s. IsHostFault result.code × (0 < H.Source.faults s)) }
-    ensures called { CallsInOrder (H.calls host.old) (H.calls host.new) (order_of_work (Some Run) words.now) (own_fault result.code result.source) }
+    ensures served { Served (Some Run) (outside (H.bytes host.old) (H.disk_bytes host.old) H.Sink.word H.Sink.held H.Sink.faults H.Disk.as_medium) (Rises (H.faults host.old) (H.faults host.new) ⊎ IsSomeAnd result.source (λ s. 0 < H.Source.faults s)) words.now (handed H.Report.faults H.Report.held result) }
+    ensures source { IfSome result.source (λ s. IsReadFault result.code words.now (H.Source.word s) × (0 < H.Source.faults s)) }
+    ensures called { CallsInOrder (H.calls host.old) (H.calls host.new) (order_of_work (Some Run) words.now) (own_fault result.code result.source) (sinks_back H.Sink.word result.ends result.sinks) (is_some result.disk) }
+    ensures reported { H.reports host.new ≡ one_more (H.reports host.old) }
 {
     let report = host.report();
     run_scripts(rt, alloc, words, host, report)
@@ -398,7 +422,7 @@ pub fn serve_alone<H: Host>(
 
     // What the sessions came to, what the sinks and the report hold, and where none has begun, why. The history's asks are just
     // those of the scripts, each session's in order. What a crash at each moment leaves of the journal.
-    ensures served { Served (command_of words.now) (outside (H.bytes host.old) (H.disk_bytes host.old) H.Sink.held H.Sink.faults H.Disk.as_medium) (Rises (H.faults host.old) (H.faults host.new) ⊎ IsSomeAnd result.source (λ s. 0 < H.Source.faults s)) words.now (handed H.Report.faults H.Report.held result) }
+    ensures served { Served (command_of words.now) (outside (H.bytes host.old) (H.disk_bytes host.old) H.Sink.word H.Sink.held H.Sink.faults H.Disk.as_medium) (Rises (H.faults host.old) (H.faults host.new) ⊎ IsSomeAnd result.source (λ s. 0 < H.Source.faults s)) words.now (handed H.Report.faults H.Report.held result) }
 
     // Each answer of the history is the machine's, in the database that the entries before it leave, which begins with the recovered
     // records, up to one, if any, that the disk failed or that there was no memory, behind which all are Stopped.
@@ -409,7 +433,7 @@ pub fn serve_alone<H: Host>(
     ensures usage { (result.code ≡ ExitCode.Usage) ↔ (command_of words.now ≡ None) }
     ensures host_fault { (w : ℕ) → result.code ≡ ExitCode.HostFault w
         → Opens (command_of words.now) words.now w × (Rises (H.faults host.old) (H.faults host.new) ⊎ IsSomeAnd result.source (λ s. 0 < H.Source.faults s)) }
-    ensures source { IfSome result.source (λ s. IsHostFault result.code × (0 < H.Source.faults s)) }
+    ensures source { IfSome result.source (λ s. IsReadFault result.code words.now (H.Source.word s) × (0 < H.Source.faults s)) }
     ensures disk_fault { result.code ≡ ExitCode.DiskFault → DiskFails H.Disk.as_medium result.disk }
     ensures damaged { (at : ℕ) → result.code ≡ ExitCode.Damaged at
         → OpensJournal (command_of words.now) × IfSome (told_at (H.disk_bytes host.old) words.now journal_place) (λ bytes. IsDamagedAt bytes at) }
@@ -419,10 +443,11 @@ pub fn serve_alone<H: Host>(
     ensures bad_order { (at : ℕ) → result.code ≡ ExitCode.BadOrder at → (command_of words.now ≡ Some Rehearse) × OrderWrong (H.bytes host.old) words.now (Some at) }
 
     // What the host was asked to open, and in which order. A call of it failed exactly where the code is a host fault that no source has,
-    // and then it was the last one, of that word.
-    ensures called { CallsInOrder (H.calls host.old) (H.calls host.new) (order_of_work (command_of words.now) words.now) (own_fault result.code result.source) }
+    // and then it was the last one, of that word. Each sink that it made is handed back, and its disk.
+    ensures called { CallsInOrder (H.calls host.old) (H.calls host.new) (order_of_work (command_of words.now) words.now) (own_fault result.code result.source) (sinks_back H.Sink.word result.ends result.sinks) (is_some result.disk) }
 
-    // One write of the report at most has failed, so none was tried behind it.
+    // One report was made. One write of it at most has failed, so none was tried behind it.
+    ensures reported { H.reports host.new ≡ one_more (H.reports host.old) }
     ensures once { H.Report.faults result.report ≤ 1 }
 
     // A word whose bytes are too many stops the run, and so does an order that is wrong, and a damaged journal.
@@ -439,6 +464,7 @@ pub fn serve_alone<H: Host>(
         → ¬ (0 < H.Report.faults result.report) → ¬ SinkFailed H.Sink.faults result.ends → IsComplete result.code) }
 {
     a_database_is_not_damaged();
+    a_file_is_damaged_at_one_place();
     let report = host.report();
     do_alone(alloc, words, host, report)
 }

@@ -1,6 +1,6 @@
 //! The lines of a journal.
 
-ghost use Rattle.std.specs.Prelude.{◌≡◌, ℕ, All, List, None, Option, IfErr, IfOk};
+ghost use Rattle.std.specs.Prelude.{◌≡◌, ℕ, All, List, Option, Some, IfErr, IfOk};
 ghost use Rattle.ebr_dump.specs.Dump.{Dump};
 ghost use Rattle.ebr_record.specs.Payload.{HasPayload};
 ghost use Rattle.ebr_server.specs.Disks.{IsEntry, Unread};
@@ -8,7 +8,7 @@ ghost use Rattle.ebr_server.specs.inside.Opened.{ReadsOff, StopsOver};
 
 use crate::codes::code_of_open;
 use crate::exit::ExitCode;
-use crate::opened::{Stop, with_disk};
+use crate::opened::Fruitless;
 use ebr_base::{Bytes, List, NoMemory};
 use ebr_dump::dump;
 use ebr_outside::Disk;
@@ -18,19 +18,26 @@ use ebr_worker::release_records;
 use std::alloc::Global;
 
 /// The lines of the records on a disk, and the disk.
-pub fn lines<C: Drop, D: Disk>(alloc: Global, disk: D) -> Result<(Bytes, D), Stop<C, D>>
+pub fn lines<D: Disk>(alloc: Global, disk: D) -> Result<(Bytes, D), Fruitless<D>>
     ensures lines { IfOk result (λ r. (told : Option (List ℕ)) → IsEntry D.as_medium told disk → ReadsOff D.as_medium told r.0 r.1) }
-    ensures stops { IfErr result (λ stop. (told : Option (List ℕ)) → IsEntry D.as_medium told disk → StopsOver Unread D.as_medium told stop.halt.code stop.disk) }
-    ensures source { IfErr result (λ stop. stop.halt.source ≡ None) }
+    ensures stops { IfErr result (λ stop. (told : Option (List ℕ)) → IsEntry D.as_medium told disk → StopsOver Unread D.as_medium told stop.code (Some stop.disk)) }
 {
     let mut disk = disk;
     let records = match read(alloc, &mut disk) {
         Ok(records) => records,
-        Err(why) => return Err(with_disk(code_of_open(why), disk)),
+        Err(why) => {
+            return Err(Fruitless {
+                code: code_of_open(why),
+                disk,
+            });
+        }
     };
     match lines_of(alloc, records) {
         Ok(lines) => Ok((lines, disk)),
-        Err(NoMemory) => Err(with_disk(ExitCode::NoMemory, disk)),
+        Err(NoMemory) => Err(Fruitless {
+            code: ExitCode::NoMemory,
+            disk,
+        }),
     }
 }
 

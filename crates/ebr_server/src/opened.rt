@@ -1,14 +1,14 @@
 //! Opens what the words of a command name: a source or a disk.
 
-ghost use Rattle.std.specs.Prelude.{◌≡◌, ◌<◌, ◌≤◌, ◌⊎◌, ℕ, List, [], ◌∷◌, None, Some, length, IfErr, IfOk, IfSome, IsSomeAnd, OnOk};
+ghost use Rattle.std.specs.Prelude.{◌≡◌, ◌<◌, ◌≤◌, ◌⊎◌, ℕ, List, [], ◌∷◌, false, None, Some, length, IfErr, IfOk, IfSome, IsSomeAnd, OnOk};
 ghost use Rattle.ebr_faults.specs.Faults.{Rises};
 ghost use Rattle.ebr_server.specs.Disks.{IsEntry};
-ghost use Rattle.ebr_server.specs.Program.{CallsInOrder, IsHostFault, disk_at, fault_at, journal_place, own_fault, source_at, word_at};
+ghost use Rattle.ebr_server.specs.Program.{CallsInOrder, IsReadFault, disk_at, fault_at, journal_place, own_fault, source_at, word_at};
 ghost use Rattle.ebr_server.specs.inside.Opened.{Fails, OpensNone, WasRead, with_steps};
 
 use crate::exit::ExitCode;
 use crate::read::{MAX_SCRIPT, ReadErr, read_bytes};
-use ebr_base::Bytes;
+use ebr_base::{Bytes, List};
 use ebr_outside::{Host, HostErr};
 use std::alloc::Global;
 
@@ -31,29 +31,67 @@ pub fn without_source<C: Drop>(code: ExitCode) -> Halt<C>
     Halt { code, source: None }
 }
 
-/// A run that ends before its sessions begin, and the disk, where it was opened.
+/// A run that ends before its sessions begin, the sinks that were made, and the disk, where it was opened.
 #[derive(Drop)]
-pub struct Stop<C, D> {
+pub struct Stop<C, S, D> {
     pub halt: Halt<C>,
+    pub sinks: List<S>,
     pub disk: Option<D>,
 }
 
-/// A run that ends so before a disk was opened.
-pub fn without_disk<C: Drop, D: Drop>(halt: Halt<C>) -> Stop<C, D>
+/// A run that ends so before a sink was made.
+pub fn without_sinks<C: Drop, S: Drop, D: Drop>(alloc: Global, halt: Halt<C>) -> Stop<C, S, D>
     ensures halt { result.halt ≡ halt }
+    ensures sinks { result.sinks ≡ [] }
     ensures disk { result.disk ≡ None }
 {
-    Stop { halt, disk: None }
+    Stop {
+        halt,
+        sinks: List::new(alloc),
+        disk: None,
+    }
 }
 
-/// A run that ends with a disk that was opened.
-pub fn with_disk<C: Drop, D: Drop>(code: ExitCode, disk: D) -> Stop<C, D>
-    ensures code { result.halt.code ≡ code }
+/// Why the sessions of scripts don't run, and the sinks that were made for them.
+#[derive(Drop)]
+pub struct Unused<S> {
+    pub code: ExitCode,
+    pub sinks: Vec<S>,
+}
+
+/// A run that ends so before a disk was opened.
+pub fn with_sinks<C: Drop, S: Drop, D: Drop>(unused: Unused<S>) -> Stop<C, S, D>
+    ensures code { result.halt.code ≡ unused.code }
     ensures source { result.halt.source ≡ None }
-    ensures disk { result.disk ≡ Some disk }
+    ensures sinks { result.sinks ≡ unused.sinks.items }
+    ensures disk { result.disk ≡ None }
 {
+    let Unused { code, sinks } = unused;
     Stop {
         halt: without_source(code),
+        sinks: List::from_vec(sinks),
+        disk: None,
+    }
+}
+
+/// Why a disk came to nothing, and the disk.
+#[derive(Drop)]
+pub struct Fruitless<D> {
+    pub code: ExitCode,
+    pub disk: D,
+}
+
+/// A run that ends so, with the sinks that were made.
+pub fn with_disk<C: Drop, S: Drop, D: Drop>(fruitless: Fruitless<D>, sinks: Vec<S>) -> Stop<C, S, D>
+    ensures code { result.halt.code ≡ fruitless.code }
+    ensures source { result.halt.source ≡ None }
+    ensures sinks { result.sinks ≡ sinks.items }
+    ensures disk { result.disk ≡ Some fruitless.disk }
+{
+    let Fruitless { code, disk } = fruitless;
+    Stop {
+        halt: without_source(code),
+        sinks: List::from_vec(sinks),
         disk: Some(disk),
     }
 }
@@ -65,7 +103,8 @@ pub fn open_disk<H: Host>(words: &[Bytes], host: &mut H) -> Result<H::Disk, Exit
     ensures fails { IfErr result (λ code. OpensNone (Rises (H.faults host.old) (H.faults host.new)) code) }
     ensures counted { H.faults host.old ≤ H.faults host.new }
     ensures opened { OnOk result (H.calls host.new ≡ with_steps (H.calls host.old) (disk_at words.now journal_place ∷ [])) }
-    ensures called { IfErr result (λ code. CallsInOrder (H.calls host.old) (H.calls host.new) (disk_at words.now journal_place ∷ []) (fault_at code)) }
+    ensures called { IfErr result (λ code. CallsInOrder (H.calls host.old) (H.calls host.new) (disk_at words.now journal_place ∷ []) (fault_at code) [] false) }
+    ensures reports { H.reports host.new ≡ H.reports host.old }
 {
     match host.disk(&words[JOURNAL as usize]) {
         Ok(disk) => Ok(disk),
@@ -84,12 +123,13 @@ pub fn read_word<H: Host>(
     requires within { word < length words.now }
     ensures read { IfOk result (λ text. WasRead (H.bytes host.old) words.now word text) }
     ensures fails { IfErr result (λ halt. Fails (H.bytes host.old) words.now word (Rises (H.faults host.old) (H.faults host.new) ⊎ IsSomeAnd halt.source (λ s. 0 < H.Source.faults s)) halt.code) }
-    ensures source { IfErr result (λ halt. IfSome halt.source (λ s. IsHostFault halt.code × (0 < H.Source.faults s))) }
+    ensures source { IfErr result (λ halt. IfSome halt.source (λ s. IsReadFault halt.code words.now (H.Source.word s) × (0 < H.Source.faults s))) }
     ensures same { (w : List ℕ) → H.bytes host.new w ≡ H.bytes host.old w }
     ensures same_disks { (w : List ℕ) → H.disk_bytes host.new w ≡ H.disk_bytes host.old w }
     ensures counted { H.faults host.old ≤ H.faults host.new }
     ensures opened { OnOk result (H.calls host.new ≡ with_steps (H.calls host.old) (source_at words.now word ∷ [])) }
-    ensures called { IfErr result (λ halt. CallsInOrder (H.calls host.old) (H.calls host.new) (source_at words.now word ∷ []) (own_fault halt.code halt.source)) }
+    ensures called { IfErr result (λ halt. CallsInOrder (H.calls host.old) (H.calls host.new) (source_at words.now word ∷ []) (own_fault halt.code halt.source) [] false) }
+    ensures reports { H.reports host.new ≡ H.reports host.old }
 {
     let mut source = match host.source(&words[word as usize]) {
         Ok(source) => source,

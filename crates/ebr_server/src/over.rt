@@ -1,12 +1,13 @@
 //! An engine over the journal's disk, and what sessions over it came to.
 
-ghost use Rattle.std.specs.Prelude.{◌≡◌, ◌≤◌, ℕ, List, None, Option, IfErr, IfOk};
-ghost use Rattle.ebr_startup.specs.Opened.{Opened, Unopened};
+ghost use Rattle.std.specs.Prelude.{◌≡◌, ◌≤◌, ℕ, List, Option, Some, IfErr, IfOk};
+ghost use Rattle.ebr_startup.specs.Engines.{Opened};
+ghost use Rattle.ebr_startup.specs.Opened.{Unopened};
 ghost use Rattle.ebr_server.specs.Disks.{IsEntry};
 ghost use Rattle.ebr_server.specs.inside.Opened.{StopsOver};
 
 use crate::codes::code_of_open;
-use crate::opened::{Stop, with_disk};
+use crate::opened::Fruitless;
 use ebr_asks::Entry;
 use ebr_base::List;
 use ebr_core::Engine;
@@ -29,18 +30,20 @@ pub struct Ended<S, D> {
 }
 
 /// Opens an engine over the disk, for so many sessions.
-pub fn open_engine<C: Drop, D: Disk>(
+pub fn open_engine<D: Disk>(
     alloc: Global,
     disk: D,
     sessions: u32,
-) -> Result<Engine<Upgraded<D>>, Stop<C, D>>
+) -> Result<Engine<Upgraded<D>>, Fruitless<D>>
     ensures opened { IfOk result (λ e. Opened D.as_medium disk sessions e) }
-    ensures stops { IfErr result (λ stop. (told : Option (List ℕ)) → IsEntry D.as_medium told disk → StopsOver Unopened D.as_medium told stop.halt.code stop.disk) }
-    ensures source { IfErr result (λ stop. stop.halt.source ≡ None) }
+    ensures stops { IfErr result (λ stop. (told : Option (List ℕ)) → IsEntry D.as_medium told disk → StopsOver Unopened D.as_medium told stop.code (Some stop.disk)) }
 {
     match open(alloc, disk, sessions) {
         Ok(engine) => Ok(engine),
-        Err(fault) => Err(with_disk(code_of_open(fault.why), fault.disk)),
+        Err(fault) => Err(Fruitless {
+            code: code_of_open(fault.why),
+            disk: fault.disk,
+        }),
     }
 }
 

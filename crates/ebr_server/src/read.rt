@@ -39,6 +39,7 @@ pub fn read_bytes<S: Source>(alloc: Global, source: &mut S) -> Result<Bytes, Rea
     ensures limit { IfOk result (λ bytes. length bytes ≤ MAX_SCRIPT + 1) }
     ensures counted { S.faults source.old ≤ S.faults source.new }
     ensures failed { result ≡ Err ReadErr.Failed → Rises (S.faults source.old) (S.faults source.new) }
+    ensures same { S.word source.new ≡ S.word source.old }
 {
     let mut bytes = Bytes::new(alloc);
     while bytes.len() <= MAX_SCRIPT {
@@ -58,6 +59,7 @@ fn read_some<S: Source>(source: &mut S, bytes: &mut Bytes, room: usize) -> Resul
     ensures reads { IfOk result (λ n. Reads (S.left source.old) n bytes.old bytes.new (S.left source.new)) }
     ensures counted { S.faults source.old ≤ S.faults source.new }
     ensures failed { result ≡ Err ReadErr.Failed → Rises (S.faults source.old) (S.faults source.new) }
+    ensures same { S.word source.new ≡ S.word source.old }
 {
     let mut chunk = [0u8; CHUNK];
     let part = &mut chunk[..room.min(CHUNK)];

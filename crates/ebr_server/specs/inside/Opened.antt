@@ -7,6 +7,7 @@ use Rattle.ebr_server.specs.declared.exit.ExitCode.TheVariants as code
 use Rattle.ebr_words.specs.declared.words.Command.TheVariants as command
 use Rattle.ebr_order.specs.Order.{turns_of, wrong_at}
 use Rattle.ebr_base.specs.declared.numbers.SessionId.{SessionId}
+use Rattle.ebr_worker.specs.Ends.{Job}
 use Rattle.ebr_worker.specs.Runs.{IsUnwritten}
 use Rattle.ebr_startup.specs.declared.why.OpenWhy.{OpenWhy}
 use Rattle.ebr_startup.specs.declared.why.OpenWhy.TheVariants as why
@@ -14,7 +15,7 @@ use Rattle.ebr_outside.specs.Disk.{Medium}
 use Rattle.ebr_record.specs.declared.record.Record.{Record}
 use Rattle.ebr_dump.specs.Dump.{Dump}
 use Rattle.ebr_server.specs.Disks.{DiskStops, Leaves, WasReadOff}
-use Rattle.ebr_server.specs.Program.{AreScripts, Handed, IsBehind, IsLong, IsOrder, NoneRan, Outside, ScriptRan, ShortBetween, Step, Tells, call_of, code_of_lines, journal_place, most}
+use Rattle.ebr_server.specs.Program.{AreJobs, Handed, IsBehind, IsLong, IsOrder, NoneRan, Outside, ScriptRan, ShortBetween, Step, Tells, call_of, code_of_lines, journal_place, most}
 
 -- the calls, and then those of steps that came through, where they are told
 abbrev pub with_steps : Option (List HostCall) → List Step → Option (List HostCall)
@@ -58,9 +59,9 @@ OpensNone fails (code.HostFault w) = (w ≡ journal_place) × fails
 OpensNone fails code.NoMemory = Unit {0}
 OpensNone fails c = ⊥
 
--- sinks of the words from one place up to another, in which nothing is written
-pub record AreUnwritten {S : Type 0} (held : S → Option (List ℕ)) (faults : S → ℕ) (first last : ℕ) (sinks : List S) : Type 0 where
-  pub count : first + length sinks ≡ last
+-- the sinks of these words, in which nothing is written
+pub record AreBack {S : Type 0} (word : S → List ℕ) (held : S → Option (List ℕ)) (faults : S → ℕ) (words : List (List ℕ)) (sinks : List S) : Type 0 where
+  pub words_are : map word sinks ≡ words
   pub unwritten : All (IsUnwritten held faults) sinks
 
 -- the turns of an order
@@ -105,10 +106,10 @@ pub record ReadsOff {D : Type 0} (as_medium : D → Medium) (told : Option (List
   pub lines_are : lines ≡ Dump records
 
 -- A rehearsal whose order and scripts are read, and whose sessions have sinks.
-pub record IsPrepared (bytes : List ℕ → Option (List ℕ)) (words scripts : List (List ℕ)) (turns : List SessionId) : Type 0 where
-  pub are_scripts : AreScripts bytes words 3 (length words) scripts
+pub record IsPrepared (bytes : List ℕ → Option (List ℕ)) (words : List (List ℕ)) (jobs : List Job) (turns : List SessionId) : Type 0 where
+  pub are_jobs : AreJobs bytes words 3 jobs
   pub order : List ℕ
-  pub is_order : IsOrder bytes words (length scripts) order
+  pub is_order : IsOrder bytes words (length jobs) order
   pub turns_are : turns ≡ turns_of order
 
 -- why no engine is opened over a disk, as a code, and what became of the disk

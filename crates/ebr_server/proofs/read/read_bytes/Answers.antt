@@ -1,4 +1,4 @@
-use Rattle.std.proofs.Common.{◌≡◌, ◌≤◌, length, arith}
+use Rattle.std.proofs.Common.{◌≡◌, ◌≤◌, ◌∙◌, length, arith}
 use Rattle.ebr_server.proofs.ReadBytes.{read_on, read_to_end, read_enough}
 use Rattle.ebr_server.proofs.read.read_bytes.Goals as goal
 
@@ -12,6 +12,7 @@ loop-bytes-preserved g c = record {
   first = read_on _ _ _ _ _ _ c.loop-bytes.invariant.first c.in_ok-read_some.ensures.reads;
   limit = omega (arith, c.in_ok-read_some.ensures.within, c.in_ok-read_some.ensures.grown);
   counted = omega arith;
+  same = c.read_some.ensures.same ∙ c.loop-bytes.invariant.same;
 }
 
 pub returns-clause-bytes : goal.returns-clause-bytes

@@ -1,4 +1,4 @@
-use Rattle.std.proofs.Common.{◌-◌, ◌<◌, ◌⊎◌, None, length, ap, ◌∙◌}
+use Rattle.std.proofs.Common.{◌-◌, ◌<◌, ◌⊎◌, None, length, ap, refl, ◌∙◌}
 use Rattle.std.specs.Prelude.{IsSomeAnd}
 use Rattle.ebr_faults.specs.Faults.{Rises}
 use Rattle.ebr_server.specs.Program.{fault_at}
@@ -8,8 +8,8 @@ use Rattle.ebr_server.proofs.rehearsal.read_turns.Goals as goal
 
 pub returns-in-Ok-clause-called : goal.returns-in-Ok-clause-called
 returns-in-Ok-clause-called g c =
-    all_called _ _ _ _ c.in-Ok.ensures.opened
-    (fault_of _ _ None c.without_source.ensures.source (ap fault_at c.without_source.ensures.code ∙ order_faultless (length c.args.words.now - 3) c.as_slice.result.now c.in-Err-turns_in.code c.in-Err-turns_in.ensures.stops))
+    all_called _ _ _ _ _ _ c.in-Ok.ensures.opened
+    (fault_of _ _ None c.without_source.ensures.source (ap fault_at c.without_source.ensures.code ∙ order_faultless (length c.args.words.now - 3) c.as_slice.result.now c.in-Err-turns_in.code c.in-Err-turns_in.ensures.stops)) refl refl
 
 pub returns-in-Ok-clause-no_disk : goal.returns-in-Ok-clause-no_disk
 returns-in-Ok-clause-no_disk g c = bad_none (length c.args.words.now - 3) c.as_slice.result.now _ _ c.without_source.ensures.code c.in-Err-turns_in.ensures.stops

@@ -11,5 +11,6 @@ invariant-loop-word g l = record {
   same : (w : List ℕ) → g.H.Host.bytes l.host w ≡ g.H.Host.bytes l.initial.host w;
   same_disks : (w : List ℕ) → g.H.Host.disk_bytes l.host w ≡ g.H.Host.disk_bytes l.initial.host w;
   counted : g.H.Host.faults l.initial.host ≤ g.H.Host.faults l.host;
+  reports : g.H.Host.reports l.host ≡ g.H.Host.reports l.initial.host;
   called : g.H.Host.calls l.host ≡ with_steps (g.H.Host.calls l.initial.host) (steps_from (source_at l.words) l.first (l.word - l.first));
 }

@@ -1,51 +1,52 @@
-use Rattle.std.proofs.Common.{◌<◌, ◌⊎◌, Some, arith, sym, subst}
-use Rattle.std.specs.Prelude.{IsSomeAnd}
+use Rattle.std.proofs.Common.{◌<◌, ◌⊎◌, Option, Some, arith, sym, ap, subst, ◌∙◌}
+use Rattle.std.specs.Prelude.{All, IsSomeAnd, is_some, map}
 use Rattle.ebr_faults.specs.Faults.{Rises}
 use Rattle.ebr_words.specs.declared.words.Command.TheVariants.{Run}
+use Rattle.ebr_worker.specs.Runs.{IsUnwritten}
 use Rattle.ebr_startup.specs.Opened.{Unopened}
 use Rattle.ebr_server.specs.Disks.{IsEntry}
-use Rattle.ebr_server.specs.Program.{CallsInOrder, IsHostFault, Stops, disk_at, journal_place, order_of_work, outside, own_fault, scripts_and_sinks, word_at}
-use Rattle.ebr_server.proofs.Calls.{before_called, disk_opened}
-use Rattle.ebr_server.proofs.InThreads.{all_short, few_scripts, scripts_stop}
-use Rattle.ebr_server.proofs.OverDisk.{either_opened, late_called, late_disk, late_none, late_stops, no_source, over_called, over_disk, over_stops, ran_over}
+use Rattle.ebr_server.specs.Program.{CallsInOrder, IsReadFault, disk_at, journal_place, order_of_work, outside, own_fault, scripts_and_sinks, word_at}
+use Rattle.ebr_server.proofs.Calls.{before_called, both_make, both_open, disk_makes, disk_opened, disk_opens}
+use Rattle.ebr_server.proofs.InThreads.{all_short, few_jobs, scripts_stop}
+use Rattle.ebr_server.proofs.OverDisk.{all_unwritten, either_opened, late_called, late_disk, late_none, late_stops, no_source, over_called, over_disk, over_stops, ran_over}
 use Rattle.ebr_server.proofs.Staying.{from_none}
 use Rattle.ebr_server.proofs.threads.ran_in_threads.Goals as goal
 
 pub run_over-requires-clause-few : goal.run_over-requires-clause-few
-run_over-requires-clause-few g c = λ κs within. few_scripts (g.H.Host.bytes c.args.host.now) c.args.words.now _ c.in-Ok.ensures.begun c.requires.few
+run_over-requires-clause-few g c = λ κs within. few_jobs (g.H.Host.bytes c.args.host.now) c.args.words.now _ c.in-Ok.ensures.begun c.requires.few
 
 pub returns-in-Err-clause-stops : goal.returns-in-Err-clause-stops
-returns-in-Err-clause-stops g c =
-    subst (λ h. Stops (Some Run) (g.H.Host.bytes c.args.host.now) c.args.words.now (Rises (g.H.Host.faults c.args.host.now) (g.H.Host.faults c.begin_sessions.new.host) ⊎ IsSomeAnd h.source (λ s. 0 < g.H.Source.Source.faults s)) h.code) (sym c.without_disk.ensures.halt)
-    (scripts_stop (g.H.Host.bytes c.args.host.now) c.args.words.now _ _ c.in-Err.ensures.fails)
+returns-in-Err-clause-stops g c = scripts_stop (g.H.Host.bytes c.args.host.now) c.args.words.now _ _ c.in-Err.ensures.fails
 
 pub returns-in-Err-clause-disk : goal.returns-in-Err-clause-disk
 returns-in-Err-clause-disk g c =
-    late_none _ _ c.without_disk.ensures.halt c.without_disk.ensures.disk Unopened g.H.Disk.Disk.as_medium _ (from_none (g.H.Host.bytes c.args.host.now) c.args.words.now 2 _ _ c.in-Err.ensures.fails)
+    late_none c.in-Err.stop c.in-Err.ensures.no_disk Unopened g.H.Disk.Disk.as_medium _
+    (from_none (g.H.Host.bytes c.args.host.now) c.args.words.now 2 (Rises (g.H.Host.faults c.args.host.now) (g.H.Host.faults c.begin_sessions.new.host) ⊎ IsSomeAnd c.in-Err.stop.halt.source (λ s. 0 < g.H.Source.Source.faults s)) c.in-Err.stop.halt.code c.in-Err.ensures.fails)
 
 pub returns-in-Err-clause-called : goal.returns-in-Err-clause-called
 returns-in-Err-clause-called g c =
-    subst (λ h. CallsInOrder (g.H.Host.calls c.args.host.now) (g.H.Host.calls c.begin_sessions.new.host) (order_of_work (Some Run) c.args.words.now) (own_fault h.code h.source)) (sym c.without_disk.ensures.halt)
-    (before_called (scripts_and_sinks c.args.words.now 2) (disk_at c.args.words.now journal_place) _ _ _ c.in-Err.ensures.called)
+    subst (CallsInOrder (g.H.Host.calls c.args.host.now) (g.H.Host.calls c.begin_sessions.new.host) (order_of_work (Some Run) c.args.words.now) (own_fault c.in-Err.stop.halt.code c.in-Err.stop.halt.source) (map g.H.Sink.Sink.word c.in-Err.stop.sinks))
+    (sym (ap (λ (d : Option g.row.H-Disk.Denot). is_some d) c.in-Err.ensures.no_disk))
+    (before_called (scripts_and_sinks c.args.words.now 2) (disk_at c.args.words.now journal_place) _ _ _ _ c.in-Err.ensures.called)
 
 pub returns-in-Ok-open_disk-clause-ran : goal.returns-in-Ok-open_disk-clause-ran
 returns-in-Ok-open_disk-clause-ran g c =
     let entry = subst (λ told. IsEntry g.H.Disk.Disk.as_medium told c.in-Ok-open_disk.disk) (c.begin_sessions.ensures.same_disks (word_at c.args.words.now journal_place)) c.in-Ok-open_disk.ensures.entry in
-    ran_over (outside (g.H.Host.bytes c.args.host.now) (g.H.Host.disk_bytes c.args.host.now) g.H.Sink.Sink.held g.H.Sink.Sink.faults g.H.Disk.Disk.as_medium) c.args.words.now _ c.in-Ok-open_disk.disk entry 2 c.in-Ok.ensures.begun c.run_over.result c.run_over.ensures.ends c.run_over.ensures.legal c.run_over.ensures.disk
+    ran_over (outside (g.H.Host.bytes c.args.host.now) (g.H.Host.disk_bytes c.args.host.now) g.H.Sink.Sink.word g.H.Sink.Sink.held g.H.Sink.Sink.faults g.H.Disk.Disk.as_medium) c.args.words.now _ c.in-Ok-open_disk.disk entry 2 c.in-Ok.ensures.begun c.run_over.result c.run_over.ensures.ends c.run_over.ensures.legal c.run_over.ensures.disk
 
 pub returns-in-Ok-open_disk-clause-stops : goal.returns-in-Ok-open_disk-clause-stops
 returns-in-Ok-open_disk-clause-stops g c =
     let entry = subst (λ told. IsEntry g.H.Disk.Disk.as_medium told c.in-Ok-open_disk.disk) (c.begin_sessions.ensures.same_disks (word_at c.args.words.now journal_place)) c.in-Ok-open_disk.ensures.entry in
-    over_stops (outside (g.H.Host.bytes c.args.host.now) (g.H.Host.disk_bytes c.args.host.now) g.H.Sink.Sink.held g.H.Sink.Sink.faults g.H.Disk.Disk.as_medium) c.args.words.now c.in-Ok-open_disk.disk entry Run tt (all_short (g.H.Host.bytes c.args.host.now) c.args.words.now _ c.in-Ok.ensures.begun)
+    over_stops (outside (g.H.Host.bytes c.args.host.now) (g.H.Host.disk_bytes c.args.host.now) g.H.Sink.Sink.word g.H.Sink.Sink.held g.H.Sink.Sink.faults g.H.Disk.Disk.as_medium) c.args.words.now c.in-Ok-open_disk.disk entry Run tt (all_short (g.H.Host.bytes c.args.host.now) c.args.words.now _ c.in-Ok.ensures.begun)
     (λ stop. Rises (g.H.Host.faults c.args.host.now) (g.H.Host.faults c.open_disk.new.host) ⊎ IsSomeAnd stop.halt.source (λ s. 0 < g.H.Source.Source.faults s)) c.run_over.result c.run_over.ensures.stops
 
 pub returns-in-Ok-open_disk-clause-source : goal.returns-in-Ok-open_disk-clause-source
-returns-in-Ok-open_disk-clause-source g c = no_source (λ s code. IsHostFault code × (0 < g.H.Source.Source.faults s)) c.run_over.result c.run_over.ensures.source
+returns-in-Ok-open_disk-clause-source g c = no_source (λ s code. IsReadFault code c.args.words.now (g.H.Source.Source.word s) × (0 < g.H.Source.Source.faults s)) c.run_over.result c.run_over.ensures.source
 
 pub returns-in-Ok-open_disk-clause-disk : goal.returns-in-Ok-open_disk-clause-disk
 returns-in-Ok-open_disk-clause-disk g c =
     let entry = subst (λ told. IsEntry g.H.Disk.Disk.as_medium told c.in-Ok-open_disk.disk) (c.begin_sessions.ensures.same_disks (word_at c.args.words.now journal_place)) c.in-Ok-open_disk.ensures.entry in
-    over_disk (outside (g.H.Host.bytes c.args.host.now) (g.H.Host.disk_bytes c.args.host.now) g.H.Sink.Sink.held g.H.Sink.Sink.faults g.H.Disk.Disk.as_medium) c.args.words.now c.in-Ok-open_disk.disk entry c.run_over.result c.run_over.ensures.stops
+    over_disk (outside (g.H.Host.bytes c.args.host.now) (g.H.Host.disk_bytes c.args.host.now) g.H.Sink.Sink.word g.H.Sink.Sink.held g.H.Sink.Sink.faults g.H.Disk.Disk.as_medium) c.args.words.now c.in-Ok-open_disk.disk entry c.run_over.result c.run_over.ensures.stops
 
 pub returns-in-Ok-open_disk-clause-opened : goal.returns-in-Ok-open_disk-clause-opened
 returns-in-Ok-open_disk-clause-opened g c = either_opened c.run_over.result _ (disk_opened (scripts_and_sinks c.args.words.now 2) (disk_at c.args.words.now journal_place) _ _ _ c.in-Ok.ensures.opened c.in-Ok-open_disk.ensures.opened)
@@ -53,14 +54,24 @@ returns-in-Ok-open_disk-clause-opened g c = either_opened c.run_over.result _ (d
 pub returns-in-Ok-open_disk-clause-called : goal.returns-in-Ok-open_disk-clause-called
 returns-in-Ok-open_disk-clause-called g c =
     let entry = subst (λ told. IsEntry g.H.Disk.Disk.as_medium told c.in-Ok-open_disk.disk) (c.begin_sessions.ensures.same_disks (word_at c.args.words.now journal_place)) c.in-Ok-open_disk.ensures.entry in
-    over_called (outside (g.H.Host.bytes c.args.host.now) (g.H.Host.disk_bytes c.args.host.now) g.H.Sink.Sink.held g.H.Sink.Sink.faults g.H.Disk.Disk.as_medium) c.args.words.now c.in-Ok-open_disk.disk entry _ _ _ c.run_over.result (disk_opened (scripts_and_sinks c.args.words.now 2) (disk_at c.args.words.now journal_place) _ _ _ c.in-Ok.ensures.opened c.in-Ok-open_disk.ensures.opened) c.run_over.ensures.source c.run_over.ensures.stops
+    over_called (outside (g.H.Host.bytes c.args.host.now) (g.H.Host.disk_bytes c.args.host.now) g.H.Sink.Sink.word g.H.Sink.Sink.held g.H.Sink.Sink.faults g.H.Disk.Disk.as_medium) c.args.words.now c.in-Ok-open_disk.disk entry _ _ _ _ c.run_over.result (disk_opened (scripts_and_sinks c.args.words.now 2) (disk_at c.args.words.now journal_place) _ _ _ c.in-Ok.ensures.opened c.in-Ok-open_disk.ensures.opened)
+    (c.in-Ok.ensures.begun.sinks ∙ sym (disk_makes (scripts_and_sinks c.args.words.now 2) c.args.words.now journal_place ∙ both_make c.args.words.now 2)) (disk_opens (scripts_and_sinks c.args.words.now 2) c.args.words.now journal_place (both_open c.args.words.now 2))
+    c.run_over.ensures.source c.run_over.ensures.back c.run_over.ensures.some_disk c.run_over.ensures.stops
+
+pub returns-in-Ok-open_disk-clause-unwritten : goal.returns-in-Ok-open_disk-clause-unwritten
+returns-in-Ok-open_disk-clause-unwritten g c = all_unwritten g.H.Sink.Sink.word g.H.Sink.Sink.held g.H.Sink.Sink.faults _ c.run_over.result c.run_over.ensures.back
 
 pub returns-in-Err-open_disk-clause-stops : goal.returns-in-Err-open_disk-clause-stops
-returns-in-Err-open_disk-clause-stops g c = late_stops _ _ _ c.without_disk-in-Err-open_disk.ensures.halt c.without_source.ensures.code c.without_source.ensures.source c.without_disk-in-Err-open_disk.ensures.disk (g.H.Host.bytes c.args.host.now) c.args.words.now Run tt (all_short (g.H.Host.bytes c.args.host.now) c.args.words.now _ c.in-Ok.ensures.begun) _ _ _ _ (omega (arith, c.requires.some)) c.begin_sessions.ensures.counted c.in-Err-open_disk.ensures.fails
+returns-in-Err-open_disk-clause-stops g c = late_stops c.with_sinks.result _ c.with_sinks.ensures.code c.with_sinks.ensures.source c.with_sinks.ensures.disk (g.H.Host.bytes c.args.host.now) c.args.words.now Run tt (all_short (g.H.Host.bytes c.args.host.now) c.args.words.now _ c.in-Ok.ensures.begun) _ _ _ _ (omega (arith, c.requires.some)) c.begin_sessions.ensures.counted c.in-Err-open_disk.ensures.fails
 
 pub returns-in-Err-open_disk-clause-disk : goal.returns-in-Err-open_disk-clause-disk
 returns-in-Err-open_disk-clause-disk g c =
-    late_disk _ _ _ c.without_disk-in-Err-open_disk.ensures.halt c.without_source.ensures.code c.without_source.ensures.source c.without_disk-in-Err-open_disk.ensures.disk Unopened g.H.Disk.Disk.as_medium (g.H.Host.disk_bytes c.args.host.now (word_at c.args.words.now journal_place)) _ c.in-Err-open_disk.ensures.fails
+    late_disk c.with_sinks.result _ c.with_sinks.ensures.code c.with_sinks.ensures.source c.with_sinks.ensures.disk Unopened g.H.Disk.Disk.as_medium (g.H.Host.disk_bytes c.args.host.now (word_at c.args.words.now journal_place)) _ c.in-Err-open_disk.ensures.fails
 
 pub returns-in-Err-open_disk-clause-called : goal.returns-in-Err-open_disk-clause-called
-returns-in-Err-open_disk-clause-called g c = late_called _ _ _ c.without_disk-in-Err-open_disk.ensures.halt c.without_source.ensures.code c.without_source.ensures.source c.without_disk-in-Err-open_disk.ensures.disk (scripts_and_sinks c.args.words.now 2) (disk_at c.args.words.now journal_place) _ _ _ c.in-Ok.ensures.opened c.in-Err-open_disk.ensures.called
+returns-in-Err-open_disk-clause-called g c =
+    late_called c.with_sinks.result _ c.with_sinks.ensures.code c.with_sinks.ensures.source c.with_sinks.ensures.disk g.H.Sink.Sink.word _ (ap (map g.H.Sink.Sink.word) c.with_sinks.ensures.sinks ∙ c.into_sinks.ensures.words) (scripts_and_sinks c.args.words.now 2) (disk_at c.args.words.now journal_place) _ _ _ c.in-Ok.ensures.opened
+    (c.in-Ok.ensures.begun.sinks ∙ sym (both_make c.args.words.now 2)) (both_open c.args.words.now 2) c.in-Err-open_disk.ensures.called
+
+pub returns-in-Err-open_disk-clause-unwritten : goal.returns-in-Err-open_disk-clause-unwritten
+returns-in-Err-open_disk-clause-unwritten g c = subst (All (IsUnwritten g.H.Sink.Sink.held g.H.Sink.Sink.faults)) (sym c.with_sinks.ensures.sinks) c.into_sinks.ensures.unwritten
