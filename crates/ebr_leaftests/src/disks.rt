@@ -150,7 +150,7 @@ fn each_call_of_a_disk_may_fail(rt: HostRuntime) -> Result<(), std::test::Fail> 
 }
 
 /// Whether the disk that a word names reads as these bytes.
-fn names<H: Host>(
+pub fn names<H: Host>(
     alloc: Global,
     host: &mut H,
     word: &[u8],
@@ -237,8 +237,15 @@ fn a_file_keeps_what_was_written_and_is_locked_while_it_is_a_disk(
     Ok(())
 }
 
-/// Words that are no disk: a folder, a file that isn't in a folder, what is no path.
-static NO_DISKS: [&[u8]; 3] = [b"/", b"/dev/null/missing", b"\xff"];
+/// Words that are no disk: a folder, devices, a file that isn't in a folder, one in a folder that isn't there, what is no path.
+static NO_DISKS: [&[u8]; 6] = [
+    b"/",
+    b"/dev/null",
+    b"/dev/zero",
+    b"/dev/null/missing",
+    b"missing/a.jnl",
+    b"\xff",
+];
 
 fn opens_none(alloc: Global, host: &mut FileHost) -> bool {
     for word in &NO_DISKS {
@@ -257,7 +264,7 @@ fn disks_that_cannot_be_opened_are_faults(rt: HostRuntime) -> Result<(), std::te
 }
 
 /// The words of a command line.
-fn words(alloc: Global, words: &[&[u8]]) -> Result<List<Bytes>, NoMemory> {
+pub fn words(alloc: Global, words: &[&[u8]]) -> Result<List<Bytes>, NoMemory> {
     let mut owned = List::new(alloc);
     for word in words {
         owned.push(Bytes::from_slice(alloc, word)?)?;
@@ -274,7 +281,7 @@ fn make_files(rt: &HostRuntime) -> io::Result<()> {
 }
 
 /// Whether a host makes a sink of a word, or fails.
-fn makes_sink(alloc: Global, host: &mut FileHost, word: &[u8]) -> Result<bool, NoMemory> {
+pub fn makes_sink(alloc: Global, host: &mut FileHost, word: &[u8]) -> Result<bool, NoMemory> {
     let word = Bytes::from_slice(alloc, word)?;
     match host.sink(&word) {
         Ok(mut sink) => Ok(sink.write(b"x") == Ok(1)),

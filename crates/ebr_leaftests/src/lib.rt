@@ -20,6 +20,8 @@ mod editions;
 #[cfg(test)]
 mod encoding;
 #[cfg(test)]
+mod files;
+#[cfg(test)]
 mod functions;
 #[cfg(test)]
 mod large;

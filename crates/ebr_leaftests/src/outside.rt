@@ -62,7 +62,11 @@ fn reads(source: &mut MemSource) -> bool {
 
 fn source_goes_on(alloc: Global) -> Result<bool, NoMemory> {
     let failing = failing(alloc, 2, false)?;
-    let mut source = MemSource::new(Bytes::from_slice(alloc, b"abcde")?, failing);
+    let mut source = MemSource::new(
+        Bytes::from_slice(alloc, b"word")?,
+        Bytes::from_slice(alloc, b"abcde")?,
+        failing,
+    );
     let goes = reads(&mut source);
     release(source);
     Ok(goes)

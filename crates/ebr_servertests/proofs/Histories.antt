@@ -17,7 +17,7 @@ use Rattle.ebr_asks.specs.declared.answer.Answer.{Answer}
 use Rattle.ebr_asks.specs.declared.answer.Answer.TheVariants.{View, Rows, Count, Done, Invalid, Refused, DiskFault, NoMemory, Stopped}
 use Rattle.ebr_asks.specs.declared.entry.Entry.{Entry}
 use Rattle.ebr_asks.specs.declared.entry.Exchange.{Exchange}
-use Rattle.ebr_calls.specs.Courses.{Continues}
+use Rattle.ebr_calls.specs.Continuation.{Continues}
 use Rattle.ebr_record.specs.declared.record.Record.{Record}
 use Rattle.ebr_record.specs.declared.record.Record.TheVariants.{Edition, Object}
 use Rattle.ebr_database.specs.Database.{Database, Replied}

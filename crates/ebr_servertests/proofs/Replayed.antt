@@ -12,8 +12,8 @@ use Rattle.ebr_asks.specs.declared.answer.Answer.{Answer}
 use Rattle.ebr_asks.specs.declared.answer.Answer.TheVariants.{Done, Stopped}
 use Rattle.ebr_asks.specs.declared.entry.Exchange.{Exchange}
 use Rattle.ebr_calls.specs.Steps.{Ended, ended, line_of}
-use Rattle.ebr_calls.specs.Courses.{AllContinue, Continues}
-use Rattle.ebr_session.specs.Has.{answers, asks}
+use Rattle.ebr_calls.specs.Continuation.{AllContinue, Continues}
+use Rattle.ebr_session.specs.Transcripts.{answers, asks}
 use Rattle.ebr_session.specs.Sessions.{SessionRun}
 use Rattle.ebr_core.specs.History.{Mine}
 use Rattle.ebr_worker.specs.Ends.{RanToEnd}

@@ -66,27 +66,34 @@ fn host_fault(word: u32, report: &'static [u8]) -> Stop {
     }
 }
 
-/// Whether the run ends so where these calls of the host fail.
-fn host_stops(alloc: Global, host: Option<Fail>, stop: Stop) -> Result<bool, NoMemory> {
+/// Whether the run ends so where these calls of the host fail, and hands back so many sinks.
+fn host_stops(
+    alloc: Global,
+    host: Option<Fail>,
+    sinks: usize,
+    stop: Stop,
+) -> Result<bool, NoMemory> {
     let files = three_files(alloc)?;
     let outcome = rehearsed(alloc, rehearse_words(3), files, None, host)?;
-    let so = stop.is(&outcome) && outcome.source.is_none() && outcome.disk.is_none();
+    let alone = outcome.source.is_none() && outcome.disk.is_none();
+    let so = stop.is(&outcome) && alone && outcome.sinks.len() == sinks;
     release(outcome);
     Ok(so)
 }
 
-/// The order is opened first, then the scripts, then the sinks are made, and the journal is opened last. A sink's word is that of its script.
+/// The order is opened first, then the scripts, then the sinks are made, and the journal is opened last. A sink's word is that of its
+/// script. The sinks that were made come back.
 #[test]
 fn a_host_that_fails_is_a_host_fault_of_the_word(rt: HostRuntime) -> Result<(), TestFail> {
     let alloc = rt.alloc();
-    assert!(rt; host_stops(alloc, at(1), host_fault(2, b"host fault: order\n"))?);
-    assert!(rt; host_stops(alloc, at(2), host_fault(3, b"host fault: 1.sql\n"))?);
-    assert!(rt; host_stops(alloc, at(3), host_fault(4, b"host fault: 2.sql\n"))?);
-    assert!(rt; host_stops(alloc, onward(4), host_fault(5, b"host fault: 3.sql\n"))?);
-    assert!(rt; host_stops(alloc, at(5), host_fault(3, b"host fault: 1.sql\n"))?);
-    assert!(rt; host_stops(alloc, at(6), host_fault(4, b"host fault: 2.sql\n"))?);
-    assert!(rt; host_stops(alloc, onward(7), host_fault(5, b"host fault: 3.sql\n"))?);
-    assert!(rt; host_stops(alloc, at(8), host_fault(1, b"host fault: journal\n"))?);
+    assert!(rt; host_stops(alloc, at(1), 0, host_fault(2, b"host fault: order\n"))?);
+    assert!(rt; host_stops(alloc, at(2), 0, host_fault(3, b"host fault: 1.sql\n"))?);
+    assert!(rt; host_stops(alloc, at(3), 0, host_fault(4, b"host fault: 2.sql\n"))?);
+    assert!(rt; host_stops(alloc, onward(4), 0, host_fault(5, b"host fault: 3.sql\n"))?);
+    assert!(rt; host_stops(alloc, at(5), 0, host_fault(3, b"host fault: 1.sql\n"))?);
+    assert!(rt; host_stops(alloc, at(6), 1, host_fault(4, b"host fault: 2.sql\n"))?);
+    assert!(rt; host_stops(alloc, onward(7), 2, host_fault(5, b"host fault: 3.sql\n"))?);
+    assert!(rt; host_stops(alloc, at(8), 3, host_fault(1, b"host fault: journal\n"))?);
     Ok(())
 }
 
