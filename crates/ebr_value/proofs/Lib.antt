@@ -5,3 +5,4 @@ pub mod Numbers
 pub mod Numerals
 pub mod Relations
 pub mod Search
+pub mod Stretches

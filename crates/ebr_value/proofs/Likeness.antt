@@ -2,9 +2,8 @@
 use Rattle.std.proofs.Common.{ℕ, zero, suc, ◌≡◌, ◌<◌, ◌≤◌, ◌+◌, ◌-◌, Bool, true, false, cond, ◌&&◌, ◌||◌, ◌==◌, List, [], ◌∷◌, ◌++◌, length, take, drop, refl, sym, ap, subst, inl, inr, ◌∙◌, arith, zero-add, leb, Option, Some, None}
 use Rattle.std.specs.Option.{option_map}
 use Rattle.std.specs.List.{list_any, list_all, prefix_len}
-use Rattle.std.proofs.Common.{not, length-take, length-drop, take_all, drop-drop}
-use Rattle.ebr_value.proofs.Places.{place_none}
-use Rattle.std.proofs.lemmas.Bool.{and_parts, and_from, and_left, or_cases, or_left, or_right, not-true, leb-true, le-leb, lt-leb, eqb-true, eq-eqb, cases_Bool, cases_lt, cases_order, and_right, false_from_ne_true, cond-true, cond-false, false≢true}
+use Rattle.std.proofs.Common.{not, length-take, take_all, drop-drop}
+use Rattle.std.proofs.lemmas.Bool.{and_parts, and_from, and_left, or_cases, or_left, or_right, not-true, leb-true, le-leb, lt-leb, eqb-true, eq-eqb, cases_Bool, cases_order, and_right, false_from_ne_true, cond-true, cond-false, false≢true}
 use Rattle.ebr_value.specs.Patterns.{StandsFor, IsLike, suffixes, is_empty, after_one, like}
 use Rattle.ebr_value.specs.inside.Parts.{in_part, fits}
 use Rattle.ebr_value.specs.Places.{first_place}
@@ -208,14 +207,6 @@ pub first_part : (pattern text : List ℕ) (n : ℕ) → n ≡ prefix_len in_par
 first_part pattern text n e l =
     let h = cut_at pattern n e in
     ap (λ xs. like xs text) (h.1 l) ∙ like_part (take n pattern) (37 ∷ drop (n + 1) pattern) text h.0 ∙ ap (λ m. fits (take n pattern) text && like (37 ∷ drop (n + 1) pattern) (drop m text)) (length_part pattern n h)
-
-pub none_fits : (part text : List ℕ) → ((k : ℕ) → k < length text → fits part (drop k text) ≡ false) → 0 < length part → first_place (fits part) text ≡ None
-none_fits part text below some =
-    place_none (fits part) text
-    (λ k l. elim (cases_lt k (length text)) [
-      | inl less ↦ below k less
-      | inr more ↦ too-short part (drop k text) (omega (arith, some, more, length-drop k text))
-    ])
 
 -- the steps of the code
 

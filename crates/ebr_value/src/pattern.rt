@@ -5,11 +5,12 @@
 ghost use Rattle.std.specs.Prelude.{◌≡◌, ◌∷◌, ◌≤◌, ◌+◌, true, length, IfSome, ◌==◌, ◌||◌};
 ghost use Rattle.std.specs.List.{prefix_len, list_all};
 ghost use Rattle.ebr_value.specs.Patterns.{like, likeness};
-ghost use Rattle.ebr_value.specs.inside.Parts.{in_part, fits};
+ghost use Rattle.ebr_value.specs.inside.Parts.{in_part, fits, IsLongest};
 ghost use Rattle.ebr_value.specs.Places.{first_place};
 
 use crate::outcome::{Outcome, WRONG_OPERANDS};
 use ebr_base::{Value, rest_from};
+use memchr::memmem::Finder;
 
 /// `x LIKE y`
 pub fn likeness(x: &Value, y: &Value) -> Outcome
@@ -24,8 +25,9 @@ pub fn likeness(x: &Value, y: &Value) -> Outcome
 
 /// Whether a text is like a pattern.
 ///
-/// The pattern is cut at each `%`, and each part is found as early as it can be, so the work is at most the product of
-/// the lengths.
+/// The pattern is cut at each `%`, and each part is found as early as it can be. A part without `_` is found by one
+/// search, so where no part has `_` the work is bounded by the sum of the lengths. A part with `_` is tried at each place
+/// where its longest stretch without `_` stands, so its work is bounded by the product of its length and the text's.
 fn like(pattern: &[u8], text: &[u8]) -> bool
     ensures { result ≡ like pattern.now text.now }
 {
@@ -101,19 +103,43 @@ fn ends_like(part: &[u8], text: &[u8]) -> bool
     part.len() <= text.len() && fits(part, rest_from(text, text.len() - part.len()))
 }
 
+/// Where the longest stretch of a part without `_` begins, and where it ends.
+fn longest_stretch(part: &[u8]) -> (usize, usize)
+    ensures { IsLongest part.now result.0 result.1 }
+{
+    let mut start = 0;
+    let mut end = 0;
+    let mut from = 0;
+    for (i, byte) in part.iter().enumerate() {
+        if *byte == b'_' {
+            from = i + 1;
+        } else if end - start < i + 1 - from {
+            start = from;
+            end = i + 1;
+        }
+    }
+    (start, end)
+}
+
 /// How many bytes of a text stand before the first place where a part of a pattern fits.
+///
+/// The part is tried where its longest stretch without `_` stands: a part that has no `_` fits at the first such place.
 fn first_fit(part: &[u8], text: &[u8]) -> Option<usize>
     ensures value { result ≡ first_place (fits part.now) text.now }
     ensures within { IfSome result (λ place. place + length part.now ≤ length text.now) }
 {
-    for place in 0..text.len() {
+    let (start, end) = longest_stretch(part);
+    let finder = Finder::new(&part[start..end]);
+    let mut place = 0;
+    while place + part.len() <= text.len() {
+        let Some(skipped) = finder.find(rest_from(text, place + start)) else {
+            return None;
+        };
+        place += skipped;
         if fits(part, rest_from(text, place)) {
             return Some(place);
         }
+        place += 1;
     }
-    if part.is_empty() {
-        Some(text.len())
-    } else {
-        None
-    }
+    None
 }
