@@ -16,7 +16,7 @@ use Rattle.ebr_rules.specs.Noted.{noted}
 use Rattle.ebr_validity.specs.Targets.{In}
 use Rattle.ebr_rules.proofs.Laws.{noted_append}
 use Rattle.ebr_check.specs.inside.Caught as written
-use Rattle.ebr_validity.specs.Statements.{Handling, each, in_statement, in_body, in_handler, caught_of, inside_of, handlers, decls_sites, with_decls}
+use Rattle.ebr_validity.specs.Statements.{Handling, each, in_statement, in_body, in_handler, caught_of, caught_in_full, inside_of, handlers, decls_sites, with_decls}
 use Rattle.ebr_check.proofs.Laws.{body-out, handler-out}
 
 -- ---- blocks
@@ -83,10 +83,10 @@ caught_same (h ∷ hs) =
 
 pub handlers_noted : (hs slice : List Handler) (around : Env) (l m n : Option ℕ)
     → slice ≡ hs
-    → m ≡ noted (Handles (map written.caught_of slice) ∷ []) l
+    → m ≡ noted (Handles (map (caught_in_full around) (map written.caught_of slice)) ∷ []) l
     → n ≡ noted (each (map inside_of (map in_handler hs)) around) m
     → n ≡ noted (handlers (map in_handler hs) around) l
 handlers_noted hs slice around l m n q h e =
     e
     ∙ ap (noted (each (map inside_of (map in_handler hs)) around))
-    (h ∙ ap (λ (cs : List Caught). noted (Handles cs ∷ []) l) (ap (map written.caught_of) q ∙ sym (caught_same hs)))
+    (h ∙ ap (λ (cs : List Caught). noted (Handles (map (caught_in_full around) cs) ∷ []) l) (ap (map written.caught_of) q ∙ sym (caught_same hs)))

@@ -6,3 +6,4 @@ mod Validity
 mod Defined
 mod Distinct
 mod Exceptions
+mod FullNames

@@ -1,5 +1,5 @@
 -- The places of a unit, noted part by part.
-use Rattle.std.proofs.Common.{◌≡◌, ℕ, List, [], ◌∷◌, ◌++◌, map, Option, Some, None, false, refl, sym, ap, ◌∙◌}
+use Rattle.std.proofs.Common.{◌≡◌, ℕ, List, [], ◌∷◌, ◌++◌, map, Option, Some, None, false, length, refl, sym, ap, ◌∙◌}
 use Rattle.std.specs.List.{filter_map}
 use Rattle.std.specs.Option.{option_map}
 use Rattle.ebr_ast.specs.declared.unit.Head.{Head}
@@ -15,9 +15,11 @@ use Rattle.ebr_ast.specs.Views.{unit_named}
 use Rattle.ebr_names.specs.declared.column.ViewColumn.{ViewColumn}
 use Rattle.ebr_names.specs.Headers.{head_in, declaration_in}
 use Rattle.ebr_sqlcheck.specs.Types.{Known}
+use Rattle.ebr_scope.specs.declared.place.Place.{Place}
 use Rattle.ebr_scope.specs.Meanings.{Scope}
 use Rattle.ebr_scope.specs.Names.{visible_items}
-use Rattle.ebr_scope.specs.Around.{Env, knowing, outside}
+use Rattle.ebr_scope.specs.Around.{Env, knowing, outside, within_block}
+use Rattle.ebr_scope.specs.Lent.{env}
 use Rattle.ebr_scope.specs.Declarations.{with_parameters, with_heads, parameter_type, decl_name, item_name}
 use Rattle.ebr_validity.specs.Sites.{Site, Declares, Pragmas, Specifies, Implements}
 use Rattle.ebr_rules.specs.Noted.{noted}
@@ -89,42 +91,51 @@ pub specification_known : (items : List PackageItem) (env : Env) (heads all : Sc
 specification_known items env heads all h e =
     ap (λ (s : Scope). knowing s env) (e ∙ ap (λ (s : Scope). with_decls (filter_map declaration_in items) (knowing s env)) h)
 
-pub body_noted : (b : PackageBody) (env : Env) (k1 k2 k3 : Scope) (l l1 l2 l3 n : Option ℕ)
-    → l1 ≡ noted (decls_sites b.declarations env) l
-    → k1 ≡ with_decls b.declarations env
-    → l2 ≡ noted (subprograms_sites b.subprograms (knowing k1 env)) l1
+pub body_noted : (b : PackageBody) (place inner : Place) (k k1 k2 k3 : Scope) (l l1 l2 l3 n : Option ℕ)
+    → l1 ≡ noted (decls_sites b.declarations (env place k)) l
+    → k1 ≡ with_decls b.declarations (env place k)
+    → l2 ≡ noted (subprograms_sites b.subprograms (env place k1)) l1
     → k2 ≡ k1
-    → l3 ≡ noted (each (map in_statement b.statements) (knowing k2 env)) l2
+    → inner ≡ record place { outermost = false }
+    → l3 ≡ noted (each (map in_statement b.statements) (env inner k2)) l2
     → k3 ≡ k2
-    → n ≡ noted (handlers (map in_handler b.handlers) (knowing k3 env)) l3
-    → n ≡ noted (body_parts b env) l
-body_noted b env k1 k2 k3 l l1 l2 l3 n h1 s1 h2 s2 h3 s3 h4 =
-    let inner = knowing (with_decls b.declarations env) env in
-    let ds = decls_sites b.declarations env in
-    let ps = subprograms_sites b.subprograms inner in
-    let ss = each (map in_statement b.statements) inner in
-    let hs = handlers (map in_handler b.handlers) inner in
+    → n ≡ noted (handlers (map in_handler b.handlers) (env inner k3)) l3
+    → n ≡ noted (body_parts b (env place k)) l
+body_noted b place inner k k1 k2 k3 l l1 l2 l3 n h1 s1 h2 s2 p h3 s3 h4 =
+    let around : Env = env place k in
+    let known = with_decls b.declarations around in
+    let behind : Env = within_block known around in
+    let ds = decls_sites b.declarations around in
+    let ps = subprograms_sites b.subprograms (knowing known around) in
+    let ss = each (map in_statement b.statements) in
+    let hs = handlers (map in_handler b.handlers) in
+    let q : (k : Scope) → k ≡ known → env inner k ≡ behind = λ k s. ap (λ (x : Place). env x k) p ∙ ap (env (record place { outermost = false })) s in
     h4
-    ∙ ap (λ (k : Scope). noted (handlers (map in_handler b.handlers) (knowing k env)) l3) (s3 ∙ (s2 ∙ s1))
-    ∙ ap (noted hs) (h3 ∙ ap (λ (k : Scope). noted (each (map in_statement b.statements) (knowing k env)) l2) (s2 ∙ s1))
-    ∙ ap (λ x. noted hs (noted ss x)) (h2 ∙ ap (λ (k : Scope). noted (subprograms_sites b.subprograms (knowing k env)) l1) s1)
-    ∙ ap (λ x. noted hs (noted ss (noted ps x))) h1
-    ∙ sym (noted_append ds (ps ++ (ss ++ hs)) l ∙ (noted_append ps (ss ++ hs) (noted ds l) ∙ noted_append ss hs (noted ps (noted ds l))))
+    ∙ ap (λ (x : Env). noted (hs x) l3) (q k3 (s3 ∙ (s2 ∙ s1)))
+    ∙ ap (noted (hs behind)) (h3 ∙ ap (λ (x : Env). noted (ss x) l2) (q k2 (s2 ∙ s1)))
+    ∙ ap (λ x. noted (hs behind) (noted (ss behind) x)) (h2 ∙ ap (λ (k : Scope). noted (subprograms_sites b.subprograms (env place k)) l1) s1)
+    ∙ ap (λ x. noted (hs behind) (noted (ss behind) (noted ps x))) h1
+    ∙ sym (noted_append ds (ps ++ (ss behind ++ hs behind)) l ∙ (noted_append ps (ss behind ++ hs behind) (noted ds l) ∙ noted_append (ss behind) (hs behind) (noted ps (noted ds l))))
 
-pub package_body_noted : (b : PackageBody) (env : Env) (k1 k2 : Scope) (l l1 l2 l3 n : Option ℕ)
-    → l1 ≡ noted (Implements (tree_of (unit_named b.name env.view.objects)) (map head_of_subprogram b.subprograms) ∷ []) l
+pub package_body_noted : (b : PackageBody) (place inner : Place) (k k1 k2 : Scope) (depth : ℕ) (l l1 l2 l3 n : Option ℕ)
+    → l1 ≡ noted (Implements (tree_of (unit_named b.name (env place k).view.objects)) (map head_of_subprogram b.subprograms) ∷ []) l
     → l2 ≡ noted (Declares (filter_map decl_name b.declarations ++ map head_name (map head_of_subprogram b.subprograms)) ∷ []) l1
     → l3 ≡ noted (Pragmas false b.declarations ∷ []) l2
-    → knowing k1 env ≡ behind_specification (visible_items env.view b.name) env
+    → env place k1 ≡ behind_specification (visible_items (env place k).view b.name) (env place k)
+    → depth ≡ length k1
+    → ((scope : Scope) → env inner scope ≡ record (env place scope) { own = Some (record { name = b.name; declares = depth }) })
     → k2 ≡ with_heads (map head_of_subprogram b.subprograms) k1
-    → n ≡ noted (body_parts b (knowing k2 env)) l3
-    → n ≡ noted (package_body_sites b env) l
-package_body_noted b env k1 k2 l l1 l2 l3 n h1 h2 h3 q s e =
+    → n ≡ noted (body_parts b (env inner k2)) l3
+    → n ≡ noted (package_body_sites b (env place k)) l
+package_body_noted b place inner k k1 k2 depth l l1 l2 l3 n h1 h2 h3 q d p s e =
     let heads = map head_of_subprogram b.subprograms in
+    let given = behind_specification (visible_items (env place k).view b.name) (env place k) in
+    let counted : env inner (with_heads heads k1) ≡ in_package_body b.name heads (env place k1) =
+    p (with_heads heads k1) ∙ ap (λ (m : ℕ). record (env place (with_heads heads k1)) { own = Some (record { name = b.name; declares = m }) }) d
+    in
     e
-    ∙ ap (λ (k : Scope). noted (body_parts b (knowing k env)) l3) s
-    ∙ ap (λ (x : Env). noted (body_parts b (in_package_body heads x)) l3) q
-    ∙ ap (noted (body_parts b (in_package_body heads (behind_specification (visible_items env.view b.name) env))))
+    ∙ ap (λ (x : Env). noted (body_parts b x) l3) (ap (env inner) s ∙ (counted ∙ ap (in_package_body b.name heads) q))
+    ∙ ap (noted (body_parts b (in_package_body b.name heads given)))
     (h3 ∙ ap (noted (Pragmas false b.declarations ∷ [])) (h2 ∙ ap (noted (Declares (filter_map decl_name b.declarations ++ map head_name heads) ∷ [])) h1))
 
 -- ---- triggers

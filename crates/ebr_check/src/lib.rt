@@ -3,7 +3,7 @@
 //! What is used above: `check` finds the `verdict` of `ebr_validity`, the least number of a rule that doesn't hold, and
 //! none exactly where the unit `is_valid`.
 //!
-//! That calls succeed with ample memory is tested alone (`ebr_parsetests`).
+//! That calls succeed with ample memory is tested alone (`ebr_parsetests`, and the cases).
 #![tactic(auto)]
 
 mod declaration;

@@ -467,7 +467,7 @@ pub fn handlers<'a>(
     ensures least { OnOk result (least.new ≡ noted (spec.handlers (map spec.in_handler list.now) (env place.now known.old)) least.old) }
     ensures known { OnOk result (known.new ≡ known.old) }
 {
-    handles(alloc, list.as_slice(), least)?;
+    handles(alloc, list.as_slice(), place, &*known, least)?;
     each_handler(alloc, list, place, known, least)
 }
 

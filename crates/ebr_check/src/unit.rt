@@ -179,8 +179,9 @@ fn body_parts<'a>(
 {
     declarations(alloc, it.declarations.as_slice(), place, known, least)?;
     subprograms(alloc, it.subprograms.as_slice(), place, known, least)?;
-    statements(alloc, &it.statements, place, known, least)?;
-    handlers(alloc, &it.handlers, place, known, least)
+    let inner = place.within_block();
+    statements(alloc, &it.statements, &inner, known, least)?;
+    handlers(alloc, &it.handlers, &inner, known, least)
 }
 
 /// Judges a package's body.
@@ -198,8 +199,9 @@ fn package_body<'a>(
     declares_body(alloc, list, it.subprograms.as_slice(), least)?;
     pragmas(alloc, false, list, least)?;
     add_specification(alloc, visible_items(place.seen, &it.name), place, known)?;
+    let inner = place.within_package(&it.name, known.depth());
     add_subprograms(it.subprograms.as_slice(), known)?;
-    body_parts(alloc, it, place, known, least)
+    body_parts(alloc, it, &inner, known, least)
 }
 
 // ---- triggers

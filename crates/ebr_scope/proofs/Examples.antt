@@ -1,9 +1,9 @@
 -- The definitions compute: what names stand for in small scopes.
-use Rattle.std.proofs.Common.{◌≡◌, [], ◌∷◌, Some, None, refl}
+use Rattle.std.proofs.Common.{◌≡◌, [], ◌∷◌, Some, None, true, false, refl}
 use Rattle.std.specs.Prelude.{codes}
 use Rattle.ebr_ast.specs.declared.view.EditionView.{EditionView}
 use Rattle.ebr_sqlcheck.specs.declared.value_type.ValueType.TheVariants as type
-use Rattle.ebr_scope.specs.Meanings.{Word, Variable, Constant, Exception, Record, entry, with_fields}
+use Rattle.ebr_scope.specs.Meanings.{Word, Variable, Constant, Exception, Record, entry, with_fields, is_outer}
 use Rattle.ebr_scope.specs.Names.{meant_at, applied_at, raised_at, is_predefined}
 
 abbrev nothing : EditionView
@@ -38,3 +38,10 @@ no_field = refl
 predefined : raised_at nothing [] (codes "NO_DATA_FOUND") None ≡ Some Exception
 unfolding raised_at is_predefined
 predefined = refl
+
+-- A name is an outer one where its innermost declaration is.
+outer : is_outer 1 n (entry (codes "M") Exception ∷ entry n Exception ∷ []) ≡ true
+outer = refl
+
+not_outer : is_outer 1 n (entry n Exception ∷ entry n Exception ∷ []) ≡ false
+not_outer = refl

@@ -12,19 +12,25 @@ use Rattle.ebr_sqlcheck.specs.Names.{Others}
 use Rattle.ebr_scope.specs.Meanings.{Word, Meaning, Variable, Constant, Parameter, Scope}
 use Rattle.ebr_scope.specs.Names.{meant}
 
+-- the package in whose body code stands, and how many names its specification declares: those are the outermost ones
+pub record OwnPackage : Type 0 where
+  pub name : Word
+  pub declares : ℕ
+
 pub record Env : Type 0 where
   pub view : EditionView
   pub scope : Scope
   pub in_loop : Bool
   pub in_handler : Bool
   pub outermost : Bool  -- whether the next declarations are the outermost of a subprogram, a trigger or a block that is run
+  pub own : Option OwnPackage  -- none outside the bodies of packages
   pub result : Option Known  -- what the enclosing function gives; none outside functions
   pub timing : Option Timing  -- the enclosing trigger's; none outside triggers
   pub columns : List ViewColumn  -- those of what the trigger is on
 
 -- what is known outermost
 abbrev pub outside : EditionView → Env
-outside v = record { view = v; scope = []; in_loop = false; in_handler = false; outermost = true; result = None; timing = None; columns = [] }
+outside v = record { view = v; scope = []; in_loop = false; in_handler = false; outermost = true; own = None; result = None; timing = None; columns = [] }
 
 abbrev pub knowing : Scope → Env → Env
 knowing scope env = record env { scope = scope }

@@ -1,6 +1,6 @@
 -- What names stand for at a place in code.
 -- Oracle Database PL/SQL Language Reference 19c, Scope and Visibility of Identifiers, and Name Resolution.
-use Rattle.std.specs.Prelude.{ℕ, Bool, true, false, ◌&&◌, List, find, Option, Some, None, option_map, option_and_then}
+use Rattle.std.specs.Prelude.{ℕ, Bool, true, false, ◌&&◌, if◌then◌else◌, nat_lt, List, [], ◌∷◌, find, length, Option, Some, None, option_map, option_and_then}
 use Rattle.std.specs.Option.{is_some}
 use Rattle.std.specs.Str.{bytes_eq}
 use Rattle.ebr_ast.specs.declared.unit.Head.{Head}
@@ -46,6 +46,11 @@ with_fields n m fs = record { name = n; meaning = m; fields = fs }
 -- the innermost declaration of a name decides
 abbrev pub innermost : Word → Scope → Option Entry
 innermost n scope = find (λ (e : Entry). bytes_eq n e.name) scope
+
+-- whether that one is among so many outermost names
+abbrev pub is_outer : ℕ → Word → Scope → Bool
+is_outer count n [] = false
+is_outer count n (e ∷ scope) = if bytes_eq n e.name then nat_lt (length scope) count else is_outer count n scope
 
 abbrev pub head_in : Meaning → Option Head
 head_in (Subprogram h) = Some h

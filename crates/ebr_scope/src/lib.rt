@@ -3,7 +3,7 @@
 //! What is used above: `meant`, `plain`, `called`, `applied` and `raised` are the words of these names of `specs/Names.antt`
 //! over what the edition sees and the declared names (`Scopes`, the innermost first).
 //!
-//! That calls succeed with ample memory is tested alone (`ebr_parsetests`).
+//! That calls succeed with ample memory is tested alone (the cases).
 #![tactic(auto)]
 
 mod column;
@@ -22,5 +22,5 @@ pub use lookup::{
 };
 pub use meaning::{Meaning, is_out, is_target, variable_type};
 pub use nest::{Nest, is_pushed};
-pub use place::{Place, Seen};
+pub use place::{OwnPackage, Place, Seen};
 pub use scopes::Scopes;

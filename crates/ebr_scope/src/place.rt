@@ -7,6 +7,7 @@ ghost use Rattle.ebr_scope.specs.Around.{outside};
 ghost use Rattle.ebr_scope.specs.Lent.{env};
 
 use ebr_ast::{EditionView, Timing};
+use ebr_base::Name;
 use ebr_names::ViewColumn;
 use ebr_sqlcheck::ValueType;
 use std::marker::Model;
@@ -49,6 +50,14 @@ impl<'a> Seen<'a> {
     }
 }
 
+/// The package in whose body code stands.
+#[derive(Clone, Copy)]
+pub struct OwnPackage<'a> {
+    pub name: &'a Name,
+    /// How many names its specification declares, which are the outermost ones.
+    pub declares: usize,
+}
+
 /// What a part of the code stands in.
 #[derive(Clone, Copy)]
 pub struct Place<'a> {
@@ -57,6 +66,8 @@ pub struct Place<'a> {
     pub in_handler: bool,
     /// Whether the next declarations are the outermost of a subprogram, a trigger or a block that is run.
     pub outermost: bool,
+    /// None outside the bodies of packages.
+    pub own: Option<OwnPackage<'a>>,
     /// What the enclosing function gives, as far as it is known; none outside functions.
     pub gives: Option<Option<ValueType>>,
     /// When the enclosing trigger fires; none outside triggers.
@@ -75,6 +86,7 @@ impl<'a> Place<'a> {
             in_loop: false,
             in_handler: false,
             outermost: true,
+            own: None,
             gives: None,
             timing: None,
             columns: &[],
@@ -105,6 +117,16 @@ impl<'a> Place<'a> {
     {
         Place {
             in_handler: true,
+            ..*self
+        }
+    }
+
+    /// In the body of a package whose specification declares so many names.
+    pub fn within_package(&self, name: &'a Name, declares: usize) -> Place<'a>
+        ensures { (scope : Scope) → env result scope ≡ record (env self.now scope) { own = Some (record { name = name.now; declares = declares }) } }
+    {
+        Place {
+            own: Some(OwnPackage { name, declares }),
             ..*self
         }
     }

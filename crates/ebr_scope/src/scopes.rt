@@ -125,6 +125,16 @@ impl<'a> Scopes<'a> {
         }
     }
 
+    /// Whether the innermost one of a name is among so many outermost names.
+    pub fn is_outer(&self, name: &Name, count: usize) -> bool
+        ensures { result ≡ spec.is_outer count name.now self.now }
+    {
+        match self.places.find(name) {
+            Some(at) => at < count,
+            None => false,
+        }
+    }
+
     /// The head of the innermost subprogram of a name.
     pub fn subprogram(&self, name: &Name) -> Option<&'a Head>
         ensures { option_copied result ≡ spec.subprogram name.now self.now }

@@ -39,7 +39,7 @@ pub data Site : Type 0 where
   -- statements
   Leaves : Bool → Site  -- EXIT and CONTINUE: whether they stand in a loop
   Reraises : Bool → Site  -- RAISE without a name: whether it stands in a handler
-  Handles : List Caught → Site  -- the handlers of a block
+  Handles : List Caught → Site  -- the handlers of a block, each exception with its full name
   Counts : Fields → ℕ → Site  -- a query's columns, and how many targets take them
   Loops : Fields → Site  -- the fields of a loop's record
   -- statements of SQL

@@ -1,6 +1,6 @@
 -- The places in declarations, statements and blocks in code. One line for each kind, with the places of its parts.
 -- Oracle Database PL/SQL Language Reference 19c, Block, and the statements by their names.
-use Rattle.std.specs.Prelude.{Bool, true, false, List, [], ◌∷◌, ◌++◌, map, filter_map, length, Option, Some, None, option_map}
+use Rattle.std.specs.Prelude.{Bool, true, false, if◌then◌else◌, List, [], ◌∷◌, ◌++◌, map, filter_map, length, Option, Some, None, option_map}
 use Rattle.std.specs.Option.{is_some}
 use Rattle.ebr_exprtree.specs.declared.expression.Path.{Path}
 use Rattle.ebr_exprtree.specs.declared.expression.Expr.{Expr}
@@ -30,10 +30,10 @@ use Rattle.ebr_value.specs.declared.form.Builtin.{Builtin}
 use Rattle.ebr_expr.specs.Operators.{builtin_at}
 use Rattle.ebr_sqlcheck.specs.declared.value_type.ValueType.TheVariants as type
 use Rattle.ebr_sqlcheck.specs.Types.{Known, type_in}
-use Rattle.ebr_scope.specs.Meanings.{Word, Constant, Exception, Cursor, Record, Subprogram, Fields, Scope, entry, with_fields, innermost}
+use Rattle.ebr_scope.specs.Meanings.{Word, Constant, Exception, Cursor, Record, Subprogram, Fields, Scope, entry, with_fields, innermost, is_outer}
 use Rattle.ebr_scope.specs.Declarations.{column_type_of, declared_type, decl_name, variable}
 use Rattle.ebr_scope.specs.Names.{entry_fields, meant_at, called, applied, raised}
-use Rattle.ebr_scope.specs.Around.{Env, knowing, within_block, within_loop, within_handler}
+use Rattle.ebr_scope.specs.Around.{Env, OwnPackage, knowing, within_block, within_loop, within_handler}
 use Rattle.ebr_fields.specs.Columns.{fields_of}
 use Rattle.ebr_validity.specs.Sites.{Calls, Raises, Cursors, Fits, Prints, RaisesNumber, Unset, Gives, Leaves, Reraises, Handles, Loops, Declares, Sized, OfColumn, Pragmas}
 use Rattle.ebr_validity.specs.Expressions.{reading_of, sites_of, type_of, wanted, arguments, parameters_of}
@@ -189,6 +189,22 @@ abbrev pub caught_sites : Caught → In
 caught_sites caught.Others env = []
 caught_sites (caught.Named paths) env = catches paths env
 
+abbrev pub path_of : Word → Option Word → Path
+path_of n m = record { name = n; member = m }
+
+-- The full name of an exception: one of the own package's specification may be written without the package.
+abbrev pub in_full : Word → Option Word → Option OwnPackage → Scope → Path
+in_full n (Some m) own scope = path_of n (Some m)
+in_full n None None scope = path_of n None
+in_full n None (Some p) scope = if is_outer p.declares n scope then path_of p.name (Some n) else path_of n None
+
+abbrev pub full_name : Env → Path → Path
+full_name env path = in_full path.name path.member env.own env.scope
+
+abbrev pub caught_in_full : Env → Caught → Caught
+caught_in_full env caught.Others = caught.Others
+caught_in_full env (caught.Named paths) = caught.Named (map (full_name env) paths)
+
 abbrev pub caught_of : Handling → Caught
 caught_of h = h.caught
 
@@ -196,7 +212,7 @@ abbrev pub inside_of : Handling → In
 inside_of h = h.inside
 
 abbrev pub handlers : List Handling → In
-handlers hs env = Handles (map caught_of hs) ∷ each (map inside_of hs) env
+handlers hs env = Handles (map (caught_in_full env) (map caught_of hs)) ∷ each (map inside_of hs) env
 
 abbrev pub in_block : Block-F In In In Handling → In
 in_block b env =

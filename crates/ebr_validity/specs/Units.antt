@@ -1,7 +1,7 @@
 -- The places in a unit.
 -- Oracle Database PL/SQL Language Reference 19c, CREATE PROCEDURE, CREATE FUNCTION, CREATE PACKAGE, CREATE PACKAGE BODY,
 -- CREATE TRIGGER, and Block.
-use Rattle.std.specs.Prelude.{Bool, true, false, List, [], ◌∷◌, ◌++◌, map, filter_map, Option, Some, None, option_map, Result, Ok, Err}
+use Rattle.std.specs.Prelude.{Bool, true, false, List, [], ◌∷◌, ◌++◌, map, filter_map, length, Option, Some, None, option_map, Result, Ok, Err}
 use Rattle.ebr_base.specs.declared.code.Code.{Code}
 use Rattle.ebr_base.specs.Keys.{table_named}
 use Rattle.ebr_ast.specs.declared.unit.Direction.{Direction}
@@ -25,7 +25,7 @@ use Rattle.ebr_names.specs.Headers.{head_in, declaration_in}
 use Rattle.ebr_scope.specs.Meanings.{Word, Scope}
 use Rattle.ebr_scope.specs.Declarations.{column_type_of, parameter_type, decl_name, item_name, with_parameters, with_heads}
 use Rattle.ebr_scope.specs.Names.{visible_items}
-use Rattle.ebr_scope.specs.Around.{Env, outside, knowing}
+use Rattle.ebr_scope.specs.Around.{Env, outside, knowing, within_block}
 use Rattle.ebr_validity.specs.Sites.{Site, Declares, OfColumn, Pragmas, Specifies, Implements, OnRows}
 use Rattle.ebr_validity.specs.Targets.{In}
 use Rattle.ebr_validity.specs.Statements.{each, decl_sites, decls_sites, with_decl, with_decls, handlers, in_statement, in_handler, in_body}
@@ -96,17 +96,21 @@ head_name h = h.name
 abbrev pub behind_specification : List PackageItem → Env → Env
 behind_specification items env = knowing (with_decls (filter_map declaration_in items) (in_specification items env)) env
 
-abbrev pub in_package_body : List Head → Env → Env
-in_package_body heads env = knowing (with_heads heads env.scope) env
+-- behind its specification, whose names are the outermost ones
+abbrev pub in_package_body : Word → List Head → Env → Env
+in_package_body p heads env = record env { scope = with_heads heads env.scope; own = Some (record { name = p; declares = length env.scope }) }
 
 abbrev pub tree_of : Option Object → Option UnitTree
 tree_of o = option_map (λ (o : Object). o.tree) o
 
+-- the initial part of a body, with its handlers: a block in it is no outermost one
+abbrev pub initial_part : PackageBody → In
+initial_part b env = each (map in_statement b.statements) env ++ handlers (map in_handler b.handlers) env
+
 abbrev pub body_parts : PackageBody → In
 body_parts b env =
-    let inner = knowing (with_decls b.declarations env) env in
-    decls_sites b.declarations env
-    ++ (subprograms_sites b.subprograms inner ++ (each (map in_statement b.statements) inner ++ handlers (map in_handler b.handlers) inner))
+    let scope = with_decls b.declarations env in
+    decls_sites b.declarations env ++ (subprograms_sites b.subprograms (knowing scope env) ++ initial_part b (within_block scope env))
 
 abbrev pub package_body_sites : PackageBody → In
 package_body_sites b env =
@@ -114,7 +118,7 @@ package_body_sites b env =
     Implements (tree_of (unit_named b.name env.view.objects)) heads
     ∷ Declares (filter_map decl_name b.declarations ++ map head_name heads)
     ∷ Pragmas false b.declarations
-    ∷ body_parts b (in_package_body heads (behind_specification (visible_items env.view b.name) env))
+    ∷ body_parts b (in_package_body b.name heads (behind_specification (visible_items env.view b.name) env))
 
 -- ---- triggers
 
