@@ -1,5 +1,5 @@
 -- Blocks whose runs are computed.
-use Rattle.std.proofs.Common.{◌≡◌, ℕ, List, [], ◌∷◌, codes, Bool, false, refl, ap, ◌∙◌}
+use Rattle.std.proofs.Common.{◌≡◌, ℕ, List, [], ◌∷◌, codes, Bool, true, false, refl, ap, ◌∙◌}
 use Rattle.std.specs.Prelude.{pos, if◌then◌else◌, Option, Some, None}
 use Rattle.std.specs.Fmt.{digits}
 use Rattle.ebr_base.specs.declared.code.Code.TheVariants.{Ora, Ebr}
@@ -32,7 +32,7 @@ use Rattle.ebr_expr.specs.Operators.{compared_by}
 use Rattle.ebr_base.specs.Values.{text_value}
 use Rattle.ebr_ast.specs.declared.statement.Target.TheVariants as target
 use Rattle.ebr_value.specs.Texts.{printed}
-use Rattle.ebr_run.specs.State.{line, bare, done, loop, then_run}
+use Rattle.ebr_run.specs.State.{State, Runs, line, bare, done, loop, then_run, raises}
 use Rattle.ebr_run.specs.declared.fault.Exception.{Exception}
 use Rattle.ebr_run.specs.declared.fault.Fault.TheVariants as fault
 use Rattle.ebr_run.specs.declared.place.VariableType.TheVariants.{Unknown}
@@ -359,3 +359,15 @@ takes_every v = refl
 
 fits_every : known_of (Some Unknown) ≡ None
 fits_every = refl
+
+-- ---- bounds of FOR that aren't two numbers
+
+null_bound : (reversed : Bool) (body : Runs) (σ : State) → over_numbers 0 reversed value.Null (value.Num (pos 1)) body σ ≡ raises (ora 6502) σ
+null_bound reversed body σ = refl
+
+-- that of another type goes before the one that is NULL
+other_type : (reversed : Bool) (body : Runs) (σ : State) → over_numbers 0 reversed value.Null (value.Bool true) body σ ≡ raises (ora 932) σ
+other_type reversed body σ = refl
+
+first_of_other_type : (reversed : Bool) (body : Runs) (σ : State) → over_numbers 0 reversed (value.Bool true) value.Null body σ ≡ raises (ora 932) σ
+first_of_other_type reversed body σ = refl

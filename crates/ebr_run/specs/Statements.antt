@@ -1,6 +1,6 @@
 -- What statements and blocks do: one line for each statement.
 -- Oracle Database PL/SQL Language Reference 19c, PL/SQL Language Elements, by the names of the statements.
-use Rattle.std.specs.Prelude.{ℕ, zero, suc, ◌-◌, ℤ, pos, ◌-ℤ◌, ◌+ℤ◌, int_lt, unsigned_abs, Bool, true, false, if◌then◌else◌, List, [], ◌∷◌, map, filter_map, length, Option, Some, None}
+use Rattle.std.specs.Prelude.{ℕ, zero, suc, ◌-◌, ℤ, pos, ◌-ℤ◌, ◌+ℤ◌, int_lt, unsigned_abs, Bool, true, false, ◌&&◌, if◌then◌else◌, List, [], ◌∷◌, map, filter_map, length, Option, Some, None}
 use Rattle.ebr_base.specs.declared.value.Value.{Value}
 use Rattle.ebr_base.specs.declared.value.Value.TheVariants as value
 use Rattle.ebr_base.specs.declared.object.ObjectKey.{ObjectKey}
@@ -320,10 +320,19 @@ abbrev pub between : ℕ → Bool → ℤ → ℤ → Runs → Runs
 between k reversed low high body σ =
     if int_lt high low then done σ else counting (suc (unsigned_abs (high -ℤ low))) (in_turn k reversed low high body) σ
 
--- a bound that is NULL is ORA-06502
+abbrev pub is_number_or_null : Value → Bool
+is_number_or_null (value.Num n) = true
+is_number_or_null value.Null = true
+is_number_or_null v = false
+
+-- What bounds raise that aren't two numbers: ORA-00932 where one is of another type, whatever the other one is, and else ORA-06502,
+-- since one is NULL.
+abbrev pub wrong_bounds : Value → Value → ℕ
+wrong_bounds low high = if is_number_or_null low && is_number_or_null high then 6502 else 932
+
 abbrev pub over_numbers : ℕ → Bool → Value → Value → Runs → Runs
 over_numbers k reversed (value.Num low) (value.Num high) body σ = between k reversed low high body σ
-over_numbers k reversed low high body σ = raises (ora 6502) σ
+over_numbers k reversed low high body σ = raises (ora (wrong_bounds low high)) σ
 
 abbrev pub for_range : Range → Meaning → Meaning
 for_range r body env calls σ =

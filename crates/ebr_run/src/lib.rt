@@ -4,7 +4,7 @@
 //! is given. It is a definition, and no code stands behind it here; the types of this crate are what its words and those of
 //! slot code share: where a variable or a cursor is, what type it has, what is called and what was raised.
 //!
-//! That copies of these succeed with ample memory is tested alone (`ebr_machinetests`).
+//! That copies of these succeed with ample memory is tested alone (the cases).
 #![tactic(auto)]
 
 mod callee;

@@ -3,7 +3,7 @@
 //! The crate above uses the clauses of the methods of `Running`, all in the words of `specs/Rest.antt`: what is left of a run
 //! behind a method is what was left before it, begun with what the instruction means.
 //!
-//! That calls succeed with ample memory is tested alone, by programs that run (`ebr_machinetests`).
+//! That calls succeed with ample memory is tested alone, by programs that run (the cases).
 #![tactic(auto)]
 
 mod answers;

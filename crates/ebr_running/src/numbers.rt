@@ -1,6 +1,7 @@
 //! Loops over numbers.
 
 ghost use Rattle.std.specs.Prelude.{◌≡◌, ◌-ℤ◌, false, int_lt, unsigned_abs, ◌∷◌, map, OnOk};
+ghost use Rattle.ebr_run.specs.Statements as spec;
 ghost use Rattle.ebr_run.specs.Statements.{between, number_of_turn};
 ghost use Rattle.ebr_code.specs.Books.{Book};
 ghost use Rattle.ebr_code.specs.Instructions as code;
@@ -44,7 +45,7 @@ impl Running {
                 Ok(())
             }
             _ => {
-                self.raise(Fault::Code(Refusal::Ora(6502)));
+                self.raise(Fault::Code(Refusal::Ora(wrong_bounds(&low, &high))));
                 Ok(())
             }
         }
@@ -111,6 +112,26 @@ impl Running {
             .push(Task::Numbers(place, reversed, low, high, body))?;
         self.tasks.push(Task::Rest(turn, 0))?;
         Ok(())
+    }
+}
+
+fn is_number_or_null(value: &Value) -> bool
+    ensures { result ≡ spec.is_number_or_null value.now }
+{
+    match value {
+        Value::Num(_) | Value::Null => true,
+        Value::Text(_) | Value::Bool(_) => false,
+    }
+}
+
+/// What bounds raise that aren't two numbers: one of another type goes before one that is NULL.
+fn wrong_bounds(low: &Value, high: &Value) -> u32
+    ensures { result ≡ spec.wrong_bounds low.now high.now }
+{
+    if is_number_or_null(low) && is_number_or_null(high) {
+        6502
+    } else {
+        932
     }
 }
 
