@@ -1,6 +1,5 @@
 -- What holds of a database at all times, so that the next record that it makes is allowed.
 use Rattle.std.specs.Prelude.{◌≡◌, ◌++◌, ℕ, true, IfSome, List, None, length, Some}
-use Rattle.std.specs.List.{AllByRecursion}
 use Rattle.ebr_base.specs.declared.numbers.SessionId.{SessionId}
 use Rattle.ebr_base.specs.declared.table.TableDef.{TableDef}
 use Rattle.ebr_asks.specs.declared.ask.Ask.{Ask}
@@ -14,7 +13,7 @@ use Rattle.ebr_database.specs.Database.{Database, Session, data_of, session_at}
 use Rattle.ebr_seats.specs.Seats.{stack_to}
 use Rattle.ebr_levels.specs.Keeps.{AreEarly, IsEarly}
 use Rattle.ebr_integrity.specs.Integrity.{IsIntact}
-use Rattle.ebr_core.specs.Asked.{IsFit}
+use Rattle.ebr_core.specs.Asked.{AreFit, IsFit}
 use Rattle.ebr_core.specs.History.{After, Records}
 use Rattle.ebr_core.specs.Machine.{Build, Reply, lists_of}
 use Rattle.ebr_allowed.specs.Allowed.{AreAllowed}
@@ -55,10 +54,6 @@ abbrev pub RepliesAreAllowed : Type 0
 RepliesAreAllowed = (db : Database) (s : SessionId) (ask : Ask) → IsFit ask → IsConsistent db → RepliesWell db s ask
 
 -- ---- histories
-
--- every ask of the history is fit
-abbrev pub AreFit : List Entry → Type 0
-AreFit history = AllByRecursion (λ (x : Entry). IsFit x.ask) history
 
 -- Whatever a history asks, the database that it leaves is consistent, and the records stand behind those that there were.
 pub record LeavesConsistent (db : Database) (history : List Entry) : Type 0 where

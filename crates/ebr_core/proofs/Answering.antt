@@ -20,12 +20,13 @@ use Rattle.ebr_database.proofs.Keeping.{grew_same, stays}
 use Rattle.ebr_units.specs.Served.{served}
 use Rattle.ebr_core.specs.declared.current.Current.{Current}
 use Rattle.ebr_core.specs.declared.parts.Parts.{Parts}
+use Rattle.ebr_core.specs.Asked.{AreFit, IsFit}
 use Rattle.ebr_core.specs.Machine.{Build, Reply}
 use Rattle.ebr_core.specs.History.{After, AllStopped, IsLive, Legal, edition_of, is_idle, is_light, is_short, next, session_edition, wants}
 use Rattle.ebr_core.specs.Engine as told
 use Rattle.ebr_core.specs.Engine.{AnswersAsk, Gives, HasBook, HasLegalHistory, IsAnswer, database_of, entry_of, gives_up, has_given_up, is_last}
 use Rattle.ebr_core.specs.inside.Held.{ComesWith, Fails, Holds, IsHeld, IsReplied, IsUntouched, Tries}
-use Rattle.ebr_core.specs.inside.Parts.{Adds, GivesUp, HasRoom, HasStopped, IsSound, Keeps, Runs, Stands, database, entry, first, last_answer, live_count, lives, lives_at, room_needed, state_of}
+use Rattle.ebr_core.specs.inside.Parts.{Adds, GivesUp, HasRoom, HasStopped, IsEngine, IsSound, Keeps, Runs, Stands, database, entry, first, last_answer, live_count, lives, lives_at, room_needed, state_of}
 use Rattle.ebr_core.proofs.Rooms.{needs_least, needs_leave, needs_more, needs_most, needs_short}
 use Rattle.ebr_core.proofs.Books.{length_set, placed}
 use Rattle.ebr_core.proofs.Lives.{Replies, Suits, at_there, lives_is, lives_left, one_left, other_lives, reply_suits, within}
@@ -529,3 +530,21 @@ module _ {K : Type 0} (as_keeper : K → Keeper) where
               (answers_by new _ None _ on_last refl ask (last_answer why) (last_entry s ask why) last_sound (λ r' differ is'. is') (λ y' stays'. lives_s) (whole new _ None _ on_last refl AllStopped last_legal tt) (last_book why) (λ q gave. absurd (stays q))
               (subst (λ b. Gives as_keeper b old.current.world.keeper new.current.world.keeper ask (last_answer why) (Reply db s ask)) (sym (given_before false is))
               (replies_last ask why (Reply db s ask) _ _ heavy (is_last_answer why (Reply db s ask) _ _ (runs is).goes (subst (λ (c : Current K). GaveUp (as_keeper old.current.world.keeper) (as_keeper c.world.keeper) (Reply db s ask).records why) (sym current) up)))))
+
+-- ---- the asks of the history are fit
+
+entry_fit : (s : SessionId) (ask : Ask) (a : Answer) → IsFit ask → IsFit (entry_of s ask a).ask
+entry_fit s ask answer.Stopped fit = tt
+entry_fit s ask a fit = fit
+
+one_more : (h : List Entry) (x : Entry) → AreFit h → IsFit x.ask → AreFit (h ++ x ∷ [])
+one_more [] x fits fit = (fit, tt)
+one_more (y ∷ h) x fits fit = (fits.0, one_more h x fits.1 fit)
+
+-- with an answer to a fit ask they stay so
+pub is_engine : {K : Type 0} (as_keeper : K → Keeper) (old new : Parts K) (s : SessionId) (ask : Ask) (a : Answer) → IsFit ask → IsEngine as_keeper old → IsSound as_keeper new
+    → AnswersAsk as_keeper (state_of as_keeper old) (state_of as_keeper new) s ask a → IsEngine as_keeper new
+is_engine as_keeper old new s ask a fit was sound answers = record {
+  sound = sound;
+  fit = subst AreFit (sym answers.entry) (one_more old.history.items (entry_of s ask a) was.fit (entry_fit s ask a fit));
+}

@@ -14,13 +14,14 @@ use Rattle.ebr_core.specs.declared.current.Current.{Current}
 use Rattle.ebr_ast.specs.declared.view.EditionView.{EditionView}
 use Rattle.std.specs.Prelude.{Option}
 use Rattle.ebr_core.specs.declared.parts.Parts.{Parts}
+use Rattle.ebr_core.specs.Asked.{AreFit}
 use Rattle.ebr_core.specs.History.{After, Legal, is_short}
 use Rattle.ebr_core.specs.Engine.{has_given_up, no_books}
 use Rattle.ebr_core.specs.Recovered.{AreRecovered, IsReady}
 use Rattle.ebr_core.specs.Machine.{Build}
 use Rattle.ebr_core.specs.Records.{catalogue_of}
 use Rattle.ebr_core.specs.inside.Held.{Holds}
-use Rattle.ebr_core.specs.inside.Parts.{IsSound, Runs, Stands, database, first, lives}
+use Rattle.ebr_core.specs.inside.Parts.{IsEngine, IsSound, Runs, Stands, database, first, lives}
 use Rattle.ebr_core.proofs.Lives.{all_there}
 use Rattle.ebr_core.proofs.Rooms.{needs_most}
 use Rattle.ebr_core.proofs.ReachedRecords.{none_reached}
@@ -72,10 +73,13 @@ module _ {K : Type 0} (as_keeper : K → Keeper) (p : Parts K) (n : ℕ) (record
       room = let m = needs_most (λ k. is_short p.history.items (record { 0 = k })) 1 p.living.items in let l = living_len in omega (arith, room, m, l);
     }
 
-    pub starts : IsSound as_keeper p
-    starts = record {
+    sound : IsSound as_keeper p
+    sound = record {
       living = living ∙ sym (all_there n _) ∙ ap lives (sym is_first);
       books = books_len ∙ sym living_len;
       stopped = running ∙ ap has_given_up (sym empty);
       stands = subst (λ b. Stands as_keeper b p) (sym running) runs;
     }
+
+    pub starts : IsEngine as_keeper p
+    starts = record { sound = sound; fit = subst AreFit (sym empty) tt }

@@ -2,7 +2,7 @@
 
 ghost use Rattle.std.specs.Prelude.{◌≡◌, ◌≤◌, ◌↔◌, [], true, length, IsTrue, IfErr, IfOk, None};
 ghost use Rattle.ebr_core.specs.Apart.{IsApart};
-ghost use Rattle.ebr_core.specs.Asked.{IsFit};
+ghost use Rattle.ebr_core.specs.Asked.{AreFit, IsFit};
 ghost use Rattle.ebr_core.specs.Engine.{AnswersAsk, HasLegalHistory, IsEmpty, book_at, database_of, no_books, with_book};
 ghost use Rattle.ebr_asks.specs.declared.ask.Ask.TheVariants.{Leave as leaves};
 ghost use Rattle.ebr_core.specs.History.{IsLive, is_short};
@@ -36,7 +36,7 @@ impl<K: Keep> Model for Engine<K> {
     ghost use Rattle.ebr_ast.specs.contracts.view.EditionView as v;
     ghost use Rattle.ebr_record.specs.contracts.record.Record as r;
     ghost use Rattle.ebr_core.specs.Engine.{EngineState};
-    ghost use Rattle.ebr_core.specs.inside.Parts.{IsSound, state_of};
+    ghost use Rattle.ebr_core.specs.inside.Parts.{IsEngine, state_of};
 
     ghost Value = { EngineState K };
 
@@ -44,7 +44,7 @@ impl<K: Keep> Model for Engine<K> {
 
     ghost view = { λ e. state_of K.as_keeper e.parts };
 
-    ghost invariant = { λ e. IsSound K.as_keeper e.parts };
+    ghost invariant = { λ e. IsEngine K.as_keeper e.parts };
 }
 
 impl<K: Keep> Engine<K> {
@@ -130,6 +130,7 @@ impl<K: Keep> Engine<K> {
     pub fn history(&self) -> &[Entry]
         ensures history { result.now ≡ self.now.history }
         ensures legal { HasLegalHistory self.now }
+        ensures fit { AreFit self.now.history }
     {
         self.parts.history.as_slice()
     }
@@ -147,6 +148,7 @@ impl<K: Keep> Engine<K> {
         ensures history { result.1 ≡ self.history }
         ensures keeper { result.2 ≡ self.keeper }
         ensures legal { HasLegalHistory self }
+        ensures fit { AreFit self.history }
     {
         let Engine { parts } = self;
         let Parts {

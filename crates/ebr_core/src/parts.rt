@@ -11,7 +11,7 @@ ghost use Rattle.ebr_core.specs.History.{IsLive, is_light, is_short};
 ghost use Rattle.ebr_core.specs.Machine as spec;
 ghost use Rattle.ebr_core.specs.Recovered.{AreRecovered, IsReady};
 ghost use Rattle.ebr_core.specs.inside.Held.{ComesWith, ForSession, Holds, IsHeld, IsReplied, Tries};
-ghost use Rattle.ebr_core.specs.inside.Parts.{Adds, ArePlaces, GivesUp, HasRoom, IsSound, Keeps, database, entry, last_answer, lives_at, state_of};
+ghost use Rattle.ebr_core.specs.inside.Parts.{Adds, ArePlaces, GivesUp, HasRoom, IsEngine, IsSound, Keeps, database, entry, last_answer, lives_at, state_of};
 
 use crate::current::{Current, Given, counted_reply, is_light};
 use crate::leaving::counted_leave;
@@ -66,7 +66,7 @@ impl<K: Keep> Parts<K> {
     ) -> Result<Parts<K>, K>
         requires are { AreRecovered recovered sessions catalogue transactions.contents }
         requires ready { IsReady recovered (K.as_keeper keeper) }
-        ensures sound { IfOk result (λ p. IsSound K.as_keeper p) }
+        ensures sound { IfOk result (λ p. IsEngine K.as_keeper p) }
         ensures state { IfOk result (λ p. state_of K.as_keeper p ≡ record { history = []; recovered = recovered; books = no_books sessions; keeper = keeper }) }
         ensures keeper { IfErr result (λ k. k ≡ keeper) }
     {
@@ -86,11 +86,11 @@ impl<K: Keep> Parts<K> {
 
     /// Answers one ask of a live session.
     pub fn answer(&mut self, s: SessionId, ask: Ask) -> Answer
-        requires sound { IsSound K.as_keeper self.old }
+        requires sound { IsEngine K.as_keeper self.old }
         requires live { IsLive (database K.as_keeper self.old) s }
         requires fit { IsFit ask }
         requires short { is_short self.old.history.items s ≡ true → ask ≡ leaves }
-        ensures sound { IsSound K.as_keeper self.new }
+        ensures sound { IsEngine K.as_keeper self.new }
         ensures answers { AnswersAsk K.as_keeper (state_of K.as_keeper self.old) (state_of K.as_keeper self.new) s ask result }
     {
         if self.stopped {
@@ -236,8 +236,8 @@ impl<K: Keep> Parts<K> {
 
     /// The book of a session, where one is set aside, which it is no more then.
     pub fn take_book(&mut self, s: SessionId) -> Option<Shared<Book>>
-        requires { IsSound K.as_keeper self.old }
-        ensures sound { IsSound K.as_keeper self.new }
+        requires { IsEngine K.as_keeper self.old }
+        ensures sound { IsEngine K.as_keeper self.new }
         ensures book { result ≡ book_at self.old.books.items s.0 }
         ensures state { state_of K.as_keeper self.new ≡ record (state_of K.as_keeper self.old) { books = with_book self.old.books.items s.0 None } }
     {

@@ -1,6 +1,7 @@
 //! All sessions of an engine, each in a thread of its own.
 
 ghost use Rattle.std.specs.Prelude.{◌≡◌, ◌<◌, ◌^◌, [], All, IfErr, IfOk, length, map};
+ghost use Rattle.ebr_core.specs.Asked.{AreFit};
 ghost use Rattle.ebr_core.specs.History.{Legal};
 ghost use Rattle.ebr_core.specs.Kept.{Kept};
 ghost use Rattle.ebr_core.specs.Machine.{Build};
@@ -50,6 +51,7 @@ where
     requires seats { length engine.books ≡ length sessions }
     requires few { length sessions < 2 ^ 31 }
     ensures legal { IfOk result (λ r. Legal (Build engine.recovered (length sessions)) r.history) }
+    ensures fit { IfOk result (λ r. AreFit r.history) }
     ensures ends { IfOk result (λ r. AreEnds S.held S.faults S.word sessions r.history r.ends) }
     ensures recovered { IfOk result (λ r. r.recovered ≡ engine.recovered) }
     ensures kept { IfOk result (λ r. Kept (K.as_keeper engine.keeper) (K.as_keeper r.keeper) (Build engine.recovered (length sessions)) r.history) }

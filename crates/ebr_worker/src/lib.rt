@@ -6,7 +6,7 @@
 //! their sinks back. `run_alone` runs one script from an empty database. `Worker::turn` and `rehearse_core` are their parts. A worker asks whoever answers (`Asked`): an engine, or a turn in
 //! which threads take one.
 //!
-//! That calls succeed with ample memory is tested alone (`ebr_servertests`, `ebr_cases`).
+//! That calls succeed with ample memory is tested alone (`ebr_servertests`, and the cases).
 #![tactic(auto)]
 
 mod asked;

@@ -1,6 +1,7 @@
 //! Scripts that are run as sessions of an engine.
 
 ghost use Rattle.std.specs.Prelude.{◌≡◌, ◌≤◌, [], All, IfOk, IfErr, IsSome, None, length, map, vec_capacity};
+ghost use Rattle.ebr_core.specs.Asked.{AreFit};
 ghost use Rattle.ebr_core.specs.Engine.{HasLegalHistory};
 ghost use Rattle.ebr_core.specs.History.{Legal};
 ghost use Rattle.ebr_core.specs.Kept.{Kept};
@@ -175,6 +176,7 @@ pub fn run_sessions<K: Keep, S: Sink>(
     requires seats { length engine.books ≡ length sessions }
     requires order { All (IsSession (length sessions)) order.now }
     ensures legal { Legal (Build engine.recovered (length sessions)) result.history }
+    ensures fit { AreFit result.history }
     ensures ends { AreEnds S.held S.faults S.word sessions result.history result.ends }
     ensures paced { Paced (length sessions) order.now result.history }
     ensures recovered { result.recovered ≡ engine.recovered }
@@ -199,6 +201,7 @@ pub fn results_of<K: Keep, S: Sink>(
     ensures history { result.history ≡ engine.history }
     ensures keeper { result.keeper ≡ engine.keeper }
     ensures legal { HasLegalHistory engine }
+    ensures fit { AreFit engine.history }
 {
     for worker in workers {
         ends.push_reserved(worker.into_end());

@@ -14,6 +14,7 @@ use Rattle.ebr_database.specs.Database.{Session, Database}
 use Rattle.ebr_seats.specs.Seats.{Begin}
 use Rattle.ebr_core.specs.declared.parts.Parts.{Parts}
 use Rattle.ebr_core.specs.declared.parts.Places.{Places}
+use Rattle.ebr_core.specs.Asked.{AreFit}
 use Rattle.ebr_core.specs.History.{Legal, AllStopped, is_short}
 use Rattle.ebr_core.specs.Engine.{EngineState, database_of, first_of, has_given_up, no_books}
 use Rattle.ebr_core.specs.inside.Held.{Holds}
@@ -106,6 +107,11 @@ module _ {K : Type 0} (as_keeper : K → Keeper) where
     pub books : length p.books.items ≡ length p.living.items
     pub stopped : p.stopped ≡ has_given_up p.history.items
     pub stands : Stands p.stopped p
+
+  -- An engine between two asks: it is sound, and each ask of its history was fit.
+  pub record IsEngine (p : Parts K) : Type 0 where
+    pub sound : IsSound p
+    pub fit : AreFit p.history.items
 
   -- One entry was added, and a book set aside; these sessions live then.
   pub record Adds (old new : Parts K) (s : SessionId) (x : Entry) (book : Option EditionView) (living : List Bool) : Type 0 where

@@ -1,5 +1,6 @@
-use Rattle.std.proofs.Common.{ap, arith, length, refl, subst, ◌∙◌}
+use Rattle.std.proofs.Common.{ap, arith, length, refl, subst, sym, ◌∙◌}
 use Rattle.std.specs.Prelude.{map}
+use Rattle.ebr_core.specs.Asked.{AreFit}
 use Rattle.ebr_worker.specs.Ends.{Job}
 use Rattle.ebr_worker.specs.Rehearsal.{jobs_of}
 use Rattle.ebr_worker.specs.Runs.{AreEnds}
@@ -29,6 +30,9 @@ results_of-requires-clause-room g c =
 
 pub returns-in-Ok-clause-legal : goal.returns-in-Ok-clause-legal
 returns-in-Ok-clause-legal g c = legal_since c.args.engine c.in-Ok.engine _ _ c.in-Ok.ensures.ran.recovered c.in-Ok.ensures.ran.sessions c.requires.seats c.results_of.ensures.history c.results_of.ensures.legal
+
+pub returns-in-Ok-clause-fit : goal.returns-in-Ok-clause-fit
+returns-in-Ok-clause-fit g c = subst AreFit (sym c.results_of.ensures.history) c.results_of.ensures.fit
 
 pub returns-in-Ok-clause-ends : goal.returns-in-Ok-clause-ends
 returns-in-Ok-clause-ends g c =

@@ -1,5 +1,6 @@
 use Rattle.std.proofs.Common.{◌≡◌, length, ap, arith, subst, sym, ◌∙◌}
 use Rattle.std.proofs.lemmas.List.{with_items_is}
+use Rattle.ebr_core.specs.Asked.{AreFit}
 use Rattle.ebr_worker.specs.Paced.{Paced}
 use Rattle.ebr_worker.specs.Rehearsal.{AllEnded, jobs_of}
 use Rattle.ebr_worker.specs.Runs.{AreEnds}
@@ -35,6 +36,9 @@ results_of-requires-clause-room g c =
 
 pub returns-clause-legal : goal.returns-clause-legal
 returns-clause-legal g c = legal_since c.args.engine c.rehearse_core.new.engine _ _ c.rehearse_core.ensures.recovered c.rehearse_core.ensures.sessions c.requires.seats c.results_of.ensures.history c.results_of.ensures.legal
+
+pub returns-clause-fit : goal.returns-clause-fit
+returns-clause-fit g c = subst AreFit (sym c.results_of.ensures.history) c.results_of.ensures.fit
 
 pub returns-clause-ends : goal.returns-clause-ends
 returns-clause-ends g c =
