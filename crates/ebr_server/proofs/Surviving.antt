@@ -19,8 +19,8 @@ use Rattle.ebr_journal.specs.Journal.{HasRecords}
 use Rattle.ebr_journal.specs.Keeper.{HasNoOther, JournalState, as_keeper}
 use Rattle.ebr_journal.proofs.Records.{one_list}
 use Rattle.ebr_allowed.specs.Allowed.{AreAllowed}
-use Rattle.ebr_allowed.specs.Consistent.{AreFit}
 use Rattle.ebr_allowed.proofs.HistoryLemmas.{first_records_allowed}
+use Rattle.ebr_core.specs.Asked.{AreFit}
 use Rattle.ebr_core.specs.Engine.{EngineState}
 use Rattle.ebr_core.specs.History.{Acknowledged, AllStopped, Answered, Legal, Records, acknowledged_by, is_idle, is_light, made_by, next, wants}
 use Rattle.ebr_core.specs.FirstRecords.{Begins}
@@ -334,8 +334,8 @@ module _ {D : Type 0} (as_medium : D → Medium) (disk : D) (n : ℕ) (e : Engin
   all_allowed : AreFit h → AreAllowed (e.recovered ++ made)
   all_allowed fit = first_records_allowed e.recovered n h (e.recovered ++ made) [] opened.allowed fit (sym (append-nil (e.recovered ++ made)))
 
-  pub ran_over : (told : Option (List ℕ)) → IsEntry as_medium told disk → Kept k1 k2 db h → Legal db h → RanOver as_medium told n e.recovered h last.disk
-  ran_over told is_entry kept legal =
+  pub ran_over : (told : Option (List ℕ)) → IsEntry as_medium told disk → Kept k1 k2 db h → Legal db h → AreFit h → RanOver as_medium told n e.recovered h last.disk
+  ran_over told is_entry kept legal fit =
       let comes = comes_by (given_up_by h) refl kept in
       record {
         entry = disk;
@@ -344,15 +344,14 @@ module _ {D : Type 0} (as_medium : D → Medium) (disk : D) (n : ℕ) (e : Engin
         allowed = opened.allowed;
         failed = λ fault. failed_by (given_up_by h) (fault_gave_up db h legal fault) kept;
         recovers = λ tells. (opened.told tells).has;
-        survives = survived comes;
-        opens = λ fit tells. survives_opened e.recovered made (all_allowed fit) m0 m2 acknowledged (has_given_up h) (survived comes tells);
+        survives = λ tells. survives_opened e.recovered made (all_allowed fit) m0 m2 acknowledged (has_given_up h) (survived comes tells);
       }
 
   -- the same, as the caller has it
-  pub ran_so : (told : Option (List ℕ)) → IsEntry as_medium told disk → (m : ℕ) → n ≡ m → (recovered : List Record) → recovered ≡ e.recovered → (now : D) → now ≡ last.disk → Kept k1 k2 (Build e.recovered m) h → Legal (Build e.recovered m) h
+  pub ran_so : (told : Option (List ℕ)) → IsEntry as_medium told disk → (m : ℕ) → n ≡ m → (recovered : List Record) → recovered ≡ e.recovered → (now : D) → now ≡ last.disk → Kept k1 k2 (Build e.recovered m) h → Legal (Build e.recovered m) h → AreFit h
       → RanOver as_medium told m recovered h now
-  ran_so told is_entry m is recovered same now there kept legal =
+  ran_so told is_entry m is recovered same now there kept legal fit =
       subst (λ k. RanOver as_medium told k recovered h now) is
       (subst (λ l. RanOver as_medium told n l h now) (sym same)
       (subst (λ x. RanOver as_medium told n e.recovered h x) (sym there)
-      (ran_over told is_entry (subst (λ k. Kept k1 k2 (Build e.recovered k) h) (sym is) kept) (subst (λ k. Legal (Build e.recovered k) h) (sym is) legal))))
+      (ran_over told is_entry (subst (λ k. Kept k1 k2 (Build e.recovered k) h) (sym is) kept) (subst (λ k. Legal (Build e.recovered k) h) (sym is) legal) fit)))

@@ -1,6 +1,5 @@
 -- What becomes of the disk that a command opens, and what a crash at each moment of the run leaves of it.
 use Rattle.std.specs.Prelude.{◌≡◌, ◌⊎◌, ℕ, ◌<◌, ◌≤◌, Bool, ◌||◌, not, IsTrue, true, false, IfSome, List, [], ◌∷◌, ◌++◌, Option, Some, None}
-use Rattle.std.specs.List.{AllByRecursion}
 use Rattle.ebr_faults.specs.Faults.{Rises}
 use Rattle.ebr_words.specs.declared.words.Command.{Command}
 use Rattle.ebr_words.specs.declared.words.Command.TheVariants as command
@@ -10,10 +9,8 @@ use Rattle.ebr_asks.specs.declared.answer.Answer.TheVariants as answer
 use Rattle.ebr_asks.specs.declared.entry.Entry.{Entry}
 use Rattle.ebr_record.specs.declared.record.Record.{Record}
 use Rattle.ebr_database.specs.Shows.{Between, OneMore}
-use Rattle.ebr_journal.specs.Journal.{HasRecords}
 use Rattle.ebr_journal.specs.Keeper.{HasNoOther}
 use Rattle.ebr_allowed.specs.Allowed.{AreAllowed}
-use Rattle.ebr_core.specs.Asked.{IsFit}
 use Rattle.ebr_core.specs.FirstRecords.{Begins}
 use Rattle.ebr_core.specs.History.{Acknowledged, Records, is_light}
 use Rattle.ebr_core.specs.Machine.{Build}
@@ -75,8 +72,7 @@ pub record IsEntry {D : Type 0} (as_medium : D → Medium) (told : Option (List 
   pub fresh : (as_medium entry).faults ≡ 0
 
 -- Sessions ran over the disk. The history began with the records of the file, each allowed behind those before it. The disk failed
--- where an entry says so. No image is damaged before its records are judged: each is a blank file or a journal of these. Each record is
--- allowed behind those before it where each definition came with its own text (`IsFit`), so then a database is opened from each image.
+-- where an entry says so. A database is opened from each image that a crash leaves.
 pub record RanOver {D : Type 0} (as_medium : D → Medium) (told : Option (List ℕ)) (sessions : ℕ) (recovered : List Record) (history : List Entry) (now : D) : Type 0 where
   pub entry : D
   pub is_entry : IsEntry as_medium told entry
@@ -85,8 +81,6 @@ pub record RanOver {D : Type 0} (as_medium : D → Medium) (told : Option (List 
   pub failed : has_fault history ≡ true → 0 < (as_medium now).faults
   pub recovers : IsTrue (as_medium entry).tells → HasDatabase (as_medium entry).reads recovered
   pub survives : IsTrue (as_medium entry).tells
-      → Survives HasRecords (as_medium entry) (as_medium now) recovered (Records (Build recovered sessions) history) (Acknowledged (Build recovered sessions) history) (has_given_up history)
-  pub opens : AllByRecursion (λ (x : Entry). IsFit x.ask) history → IsTrue (as_medium entry).tells
       → Survives HasDatabase (as_medium entry) (as_medium now) recovered (Records (Build recovered sessions) history) (Acknowledged (Build recovered sessions) history) (has_given_up history)
 
 -- ---- a disk over which none began

@@ -8,7 +8,7 @@
 //! the session left early; and a crash at any moment leaves the journal's records and the first of those that were made, among
 //! them each that was acknowledged.
 //!
-//! That calls succeed with ample memory is tested alone (`ebr_servertests`, `ebr_cases`).
+//! That calls succeed with ample memory is tested alone (`ebr_servertests`, and the cases).
 #![tactic(auto)]
 
 mod codes;

@@ -35,7 +35,7 @@ returns-in-Ok-clause-legal g c =
 pub returns-in-Ok-clause-disk : goal.returns-in-Ok-clause-disk
 returns-in-Ok-clause-disk g c = λ told entry.
     handed_on (λ x. RanOver g.D.Disk.as_medium told (length c.args.prepared.sessions) x.recovered x.history x.disk) _ _ c.ended_over.ensures
-    (ran_so g.D.Disk.as_medium c.args.disk _ c.in-Ok.engine c.in-Ok.ensures.opened c.run_sessions.result.keeper c.run_sessions.result.history told entry (length c.args.prepared.sessions) (omega (arith, c.len.ensures)) c.run_sessions.result.recovered c.run_sessions.ensures.recovered c.run_sessions.result.keeper.disk refl c.run_sessions.ensures.kept c.run_sessions.ensures.legal)
+    (ran_so g.D.Disk.as_medium c.args.disk _ c.in-Ok.engine c.in-Ok.ensures.opened c.run_sessions.result.keeper c.run_sessions.result.history told entry (length c.args.prepared.sessions) (omega (arith, c.len.ensures)) c.run_sessions.result.recovered c.run_sessions.ensures.recovered c.run_sessions.result.keeper.disk refl c.run_sessions.ensures.kept c.run_sessions.ensures.legal c.run_sessions.ensures.fit)
 
 pub returns-clause-back : goal.returns-clause-back
 returns-clause-back g c = back_as g.S.Sink.word g.S.Sink.held g.S.Sink.faults _ _ _ _ refl c.with_disk.ensures.sinks (record { words_are = c.into_sinks.ensures.words; unwritten = c.into_sinks.ensures.unwritten })

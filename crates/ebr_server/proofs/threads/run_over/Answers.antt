@@ -33,7 +33,7 @@ returns-in-Ok-run_threads-clause-legal g c =
 pub returns-in-Ok-run_threads-clause-disk : goal.returns-in-Ok-run_threads-clause-disk
 returns-in-Ok-run_threads-clause-disk g c = λ told entry.
     handed_on (λ x. RanOver g.D.Disk.as_medium told (length c.args.sessions) x.recovered x.history x.disk) _ _ c.ended_over.ensures
-    (ran_so g.D.Disk.as_medium c.args.disk _ c.in-Ok.engine c.in-Ok.ensures.opened c.in-Ok-run_threads.ran.keeper c.in-Ok-run_threads.ran.history told entry (length c.args.sessions) (omega (arith, c.len.ensures)) c.in-Ok-run_threads.ran.recovered c.in-Ok-run_threads.ensures.recovered c.in-Ok-run_threads.ran.keeper.disk refl c.in-Ok-run_threads.ensures.kept c.in-Ok-run_threads.ensures.legal)
+    (ran_so g.D.Disk.as_medium c.args.disk _ c.in-Ok.engine c.in-Ok.ensures.opened c.in-Ok-run_threads.ran.keeper c.in-Ok-run_threads.ran.history told entry (length c.args.sessions) (omega (arith, c.len.ensures)) c.in-Ok-run_threads.ran.recovered c.in-Ok-run_threads.ensures.recovered c.in-Ok-run_threads.ran.keeper.disk refl c.in-Ok-run_threads.ensures.kept c.in-Ok-run_threads.ensures.legal c.in-Ok-run_threads.ensures.fit)
 
 pub returns-in-Err-run_threads-clause-stops : goal.returns-in-Err-run_threads-clause-stops
 returns-in-Err-run_threads-clause-stops g c = λ told entry.
