@@ -5,7 +5,7 @@
 //! each definition `after_ddl` drops those of editions that may see something else now, and `book` and `book_of` answer the book
 //! of all that an edition sees.
 //!
-//! That calls succeed with ample memory is tested alone (`ebr_machinetests`).
+//! That calls succeed with ample memory is tested alone (the cases; of `make_all` `ebr_machinetests`).
 #![tactic(auto)]
 
 mod book;
