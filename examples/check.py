@@ -1,5 +1,5 @@
 #!/usr/bin/env python3
-"""Checks what the manual shows, where `rt ci` has passed: the program is built, and the cases of ebr_cases came out as written.
+"""Checks what the manual shows, where `rt ci` has passed: the program is built. That the cases come out as written is for tools/cases.py to tell.
 
 The commands of README.md, docs/TOUR.md, docs/OPERATING.md and examples/README.md print what stands behind them. Each script
 that these and docs/PROFILE.md show stands in an example or in a case, in PROFILE with the replies beneath it. PROFILE's examples of functions are
@@ -16,7 +16,9 @@ import sys
 import tempfile
 
 TOP = os.path.dirname(os.path.dirname(os.path.realpath(__file__)))
-CASES = f"{TOP}/crates/ebr_cases/data"
+sys.path.insert(0, f"{TOP}/tools")
+from cases import CASES, cases_of, joined, read_cases
+
 CURES = f"{TOP}/examples/cures"
 PROGRAM = f"{TOP}/ebrd"
 MARK = "@@ the next command @@"
@@ -35,23 +37,6 @@ def read(path):
 def same(what, wanted, came):
     if wanted != came:
         wrong.append(f"{what}\n--- stands there:\n{wanted}\n--- should be:\n{came}")
-
-
-def texts(case):
-    """Returns the texts of a case by their headings."""
-    parts = [it.partition("\n") for it in case.split("\n--- ")[1:]]
-    return {heading: text + "\n" for heading, _, text in parts}
-
-
-def cases_of(name):
-    """Returns the cases of a file by their titles, each with what is set up for it."""
-    setup, *cases = ("\n" + read(f"{CASES}/{name}").rstrip("\n")).split("\n=== ")
-    first = texts(setup)
-    found = {}
-    for case in cases:
-        its = texts(case)
-        found[case.partition("\n")[0]] = {it: first.get(it, "") + its.get(it, "") for it in {*first, *its}}
-    return found
 
 
 def blocks(page):
@@ -179,7 +164,7 @@ def check_codes(page):
     table = {code for code, cells in rows if cells.count("|") == 1}
     scripts = {name[:9]: script for name, (script, _) in {**written_cures(), **made_cures()}.items() if not name.endswith("-2")}
     cases = cases_of("manual_codes.txt")
-    setup = texts(read(f"{CASES}/manual_codes.txt").split("=== ")[0].rstrip("\n"))["script"]
+    setup = joined(read_cases(f"{CASES}/manual_codes.txt")[0], [])["script"]
     for code, case in cases.items():
         if code not in table or " to " not in code and case["replies"].split()[-1] != code:
             wrong.append(f"manual_codes.txt: {code} isn't in the tables, or isn't the last reply of its case")
@@ -189,7 +174,7 @@ def check_codes(page):
         wrong.append(f"{page}, examples/cures: {code} is in one of the two alone")
     named = set()
     for at, _, files in os.walk(f"{TOP}/crates"):
-        if "/src" in at and not re.search("tests|ebr_cases|ebr_trial", at):
+        if "/src" in at and not re.search("tests|ebr_trial", at):
             for kind, number in re.findall(r"\b(Ora|Ebr)\((\d[\d_]*)\)", "".join(read(f"{at}/{it}") for it in files)):
                 named.add(f"ORA-{int(number):05}" if kind == "Ora" else f"EBR-{int(number):04}")
     for code in sorted(named - table - UNKNOWN):

@@ -5,14 +5,10 @@ ghost use Rattle.std.specs.Prelude.{IfOk};
 ghost use Rattle.ebr_cross.specs.Following.{MayFollow};
 ghost use Rattle.ebr_units.specs.Living.{IsKept};
 
-use crate::definitions::{definition_of, planned};
-use crate::edition::name;
-use crate::inputs::number;
-use crate::run::{first_row, release};
-use ebr_base::{Bytes, Class, EditionNo, NoMemory, Shared};
+use crate::definitions::{definition_of, edition, first_row, name, planned, release};
+use ebr_base::{Bytes, Class, EditionNo, NoMemory};
 use ebr_code::CodeBook;
-use ebr_cross::{Catalogue, CatalogueRecord, view_of};
-use ebr_names::is_in_order;
+use ebr_cross::{Catalogue, CatalogueRecord};
 use ebr_units::Units;
 use std::alloc::Global;
 use std::rt::HostRuntime;
@@ -25,17 +21,7 @@ static DEFINITIONS: &str = "\
 1 H1.1+ P1.2+;2 none;3 none; @ 1 @ CREATE PROCEDURE p IS BEGIN h; END;~\
 1 H1.1+ P1.2+;2 H1.1+ P1.2+;3 none; @ 1 @ CREATE EDITION v2~\
 1 H1.1+ P1.2+;2 H2.1+ P1.2!;3 none; @ 2 @ CREATE OR REPLACE PROCEDURE h(n NUMBER) IS BEGIN NULL; END;~\
-1 H1.1+ P1.2+;2 H2.1+ P1.2!;3 H2.1+ P1.2!; @ 2 @ CREATE EDITION v3~\
-1 H1.1+ P1.2+;2 H2.1+ P1.2!;3 H2.1+ P3.1+; @ 3 @ CREATE OR REPLACE PROCEDURE p IS BEGIN h(1); END;~\
-1 H1.3+ P1.2!;2 H2.1+ P1.2!;3 H2.1+ P3.1+; @ 1 @ CREATE OR REPLACE PROCEDURE h(a NUMBER, b NUMBER) IS BEGIN NULL; END;~\
-1 H1.3+ P1.2!;2 H2.2+ P1.2+;3 H2.2+ P3.1!; @ 2 @ CREATE OR REPLACE PROCEDURE h IS BEGIN NULL; END;~\
-1 P1.2!;2 H2.2+ P1.2+;3 H2.2+ P3.1!; @ 1 @ DROP PROCEDURE h~\
-1 P1.2!;2 H2.2+ P1.2+;3 H2.2+ P3.1!; @ 1 @ CREATE TABLE t (id NUMBER(9) PRIMARY KEY)~\
-1 P1.2!;2 H2.2+ P1.2+;3 H2.2+ P3.1!; @ 1 @ ALTER TABLE t ADD n NUMBER(9)~\
-1 P1.2!;2 H2.2+ P1.2+;3 H2.2+ P3.1!; @ 1 @ DROP TABLE t~\
-1 P1.2!;2 H2.2+ P1.2+;3 H2.2+ P3.1!; @ 1 @ ALTER DATABASE DEFAULT EDITION = v2~\
-1 P1.2!;2 H2.2+ P1.2+;3 none; @ 1 @ DROP EDITION v3 CASCADE~\
-1 P1.2!;2 P1.2!;3 none; @ 2 @ DROP PROCEDURE h~\
+1 H1.1+ P1.2+;2 none;3 none; @ 1 @ DROP EDITION v2 CASCADE~\
 ";
 
 /// A catalogue in which nothing is defined.
@@ -119,47 +105,7 @@ fn both_names<B: CodeBook>(
     answered(alloc, book, e, "P", out)
 }
 
-/// How the books are asked for.
-#[derive(Clone, Copy)]
-enum Way {
-    /// For an edition.
-    Book,
-    /// From what an edition sees.
-    View,
-    /// All together.
-    All,
-}
-
-fn by_book(
-    alloc: Global,
-    c: &Catalogue,
-    units: &mut Units,
-    e: EditionNo,
-    out: &mut Bytes,
-) -> Result<(), NoMemory>
-    requires { IsKept c.now }
-{
-    match units.book(alloc, c, e)? {
-        Some(book) => both_names(alloc, book.get(), e, out),
-        None => out.extend(b" none"),
-    }
-}
-
-fn by_view(
-    alloc: Global,
-    c: &Catalogue,
-    units: &mut Units,
-    e: EditionNo,
-    out: &mut Bytes,
-) -> Result<(), NoMemory> {
-    let seen = Shared::new(alloc, view_of(c, alloc, e)?)?;
-    if !is_in_order(seen.get()) {
-        return Err(NoMemory);
-    }
-    let book = units.book_of(alloc, &seen)?;
-    both_names(alloc, book.get(), e, out)
-}
-
+/// What the books that are made together answer in a living edition.
 fn together(
     alloc: Global,
     c: &Catalogue,
@@ -173,23 +119,20 @@ fn together(
     both_names(alloc, units, e, out)
 }
 
-/// What the book of an edition answers.
+/// What the books answer in an edition.
 fn in_edition(
     alloc: Global,
     c: &Catalogue,
     units: &mut Units,
-    way: Way,
     e: EditionNo,
     out: &mut Bytes,
 ) -> Result<(), NoMemory>
     requires { IsKept c.now }
 {
-    match way {
-        Way::Book => by_book(alloc, c, units, e, out),
-        Way::View | Way::All if !c.chain.lives(e) => out.extend(b" none"),
-        Way::View => by_view(alloc, c, units, e, out),
-        Way::All => together(alloc, c, units, e, out),
+    if !c.chain.lives(e) {
+        return out.extend(b" none");
     }
+    together(alloc, c, units, e, out)
 }
 
 /// What the books of editions 1, 2 and 3 answer.
@@ -197,7 +140,6 @@ fn in_editions(
     alloc: Global,
     c: &Catalogue,
     units: &mut Units,
-    way: Way,
     out: &mut Bytes,
 ) -> Result<(), NoMemory>
     requires { IsKept c.now }
@@ -206,7 +148,7 @@ fn in_editions(
         let e = EditionNo(before + 1);
         let number = format!(in alloc; "{}", e.0)?;
         out.extend(number.as_bytes())?;
-        in_edition(alloc, c, units, way, e, out)?;
+        in_edition(alloc, c, units, e, out)?;
         out.push(b';')?;
     }
     Ok(())
@@ -217,19 +159,18 @@ fn fault_among(
     alloc: Global,
     c: &mut Catalogue,
     units: &mut Units,
-    way: Way,
     table: &str,
 ) -> Result<Option<String>, NoMemory>
     requires { IsKept c.old }
 {
     let mut rest = table;
     for _row in 0..table.len() {
-        let Some((wanted, edition, text, rows)) = first_row(rest) else {
+        let Some((wanted, digit, text, rows)) = first_row(rest) else {
             return Ok(None);
         };
-        define(alloc, c, units, EditionNo(number(edition)), text)?;
+        define(alloc, c, units, edition(digit), text)?;
         let mut found = Bytes::new(alloc);
-        in_editions(alloc, c, units, way, &mut found)?;
+        in_editions(alloc, c, units, &mut found)?;
         if found.as_slice() != wanted.as_bytes() {
             return Ok(Some(format!(in alloc; "after {text}: {found:?}")?));
         }
@@ -238,30 +179,18 @@ fn fault_among(
     Ok(None)
 }
 
-/// The fault of a way to ask, from a catalogue in which nothing is defined.
-fn fault(alloc: Global, way: Way) -> Result<Option<String>, NoMemory> {
+/// The fault, from a catalogue in which nothing is defined.
+fn fault(alloc: Global) -> Result<Option<String>, NoMemory> {
     let mut c = nothing_defined(alloc)?;
     let mut units = Units::new(alloc);
-    let fault = fault_among(alloc, &mut c, &mut units, way, DEFINITIONS);
+    let fault = fault_among(alloc, &mut c, &mut units, DEFINITIONS);
     release(c);
     release(units);
     fault
 }
 
 #[test]
-fn books_follow_definitions(rt: HostRuntime) -> Result<(), Fail> {
-    assert_eq!(&rt; fault(rt.alloc(), Way::Book)?, None);
-    Ok(())
-}
-
-#[test]
-fn books_of_views_follow_definitions(rt: HostRuntime) -> Result<(), Fail> {
-    assert_eq!(&rt; fault(rt.alloc(), Way::View)?, None);
-    Ok(())
-}
-
-#[test]
 fn all_books_together_follow_definitions(rt: HostRuntime) -> Result<(), Fail> {
-    assert_eq!(&rt; fault(rt.alloc(), Way::All)?, None);
+    assert_eq!(&rt; fault(rt.alloc())?, None);
     Ok(())
 }

@@ -11,12 +11,12 @@ use ebr_shared_list::SharedList;
 use std::alloc::Global;
 
 /// A name; where the text spells none, the test fails with want of memory.
-pub fn name(alloc: Global, text: &str) -> Result<Name, NoMemory> {
+fn name(alloc: Global, text: &str) -> Result<Name, NoMemory> {
     Name::of(alloc, text.as_bytes())?.ok_or(NoMemory)
 }
 
 /// The tokens of a short text; where it has none, the test fails with want of memory.
-pub fn tokens_of(alloc: Global, text: &str) -> Result<List<Token>, NoMemory> {
+fn tokens_of(alloc: Global, text: &str) -> Result<List<Token>, NoMemory> {
     if text.len() >= MAX_COUNT {
         return Err(NoMemory);
     }
@@ -32,17 +32,11 @@ pub fn tree(alloc: Global, text: &str) -> Result<UnitTree, NoMemory> {
     unit(alloc, tokens.as_slice())?.ok_or(NoMemory)
 }
 
-static TABLES: [(u32, &str, &[(&str, ColType)]); 2] = [
-    (
-        1,
-        "T",
-        &[
-            ("ID", ColType::Num(9)),
-            ("V", ColType::Text(10)),
-            ("N", ColType::Num(9)),
-        ],
-    ),
-    (2, "U", &[("ID", ColType::Num(9)), ("W", ColType::Text(5))]),
+/// The columns of the table T.
+static COLUMNS: [(&str, ColType); 3] = [
+    ("ID", ColType::Num(9)),
+    ("V", ColType::Text(10)),
+    ("N", ColType::Num(9)),
 ];
 
 fn stored(alloc: Global, text: &str, created: &str) -> Result<Shared<Object>, NoMemory> {
@@ -78,21 +72,19 @@ fn columns(alloc: Global, rows: &[(&str, ColType)]) -> Result<List<Column>, NoMe
     Ok(columns)
 }
 
-/// An edition that sees these objects of class Unit, each with the text after CREATE, and the tables T and U.
+/// An edition that sees these objects of class Unit, each with the text after CREATE, and the table T.
 pub fn seen(alloc: Global, created: &[(&str, &str)]) -> Result<EditionView, NoMemory> {
     let mut objects = List::new(alloc);
     for (text, created) in created {
         objects.push(stored(alloc, text, created)?)?;
     }
     let mut tables = List::new(alloc);
-    for (id, text, rows) in &TABLES {
-        tables.push(TableDef {
-            id: TableId(*id),
-            name: name(alloc, text)?,
-            columns: columns(alloc, rows)?,
-            key: List::new(alloc),
-        })?;
-    }
+    tables.push(TableDef {
+        id: TableId(1),
+        name: name(alloc, "T")?,
+        columns: columns(alloc, &COLUMNS)?,
+        key: List::new(alloc),
+    })?;
     Ok(EditionView {
         edition: EditionNo(1),
         objects: SharedList::from_slice(alloc, objects.as_slice())?,

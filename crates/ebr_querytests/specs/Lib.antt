@@ -1,1 +1,1 @@
-pub mod World
+pub mod Sample

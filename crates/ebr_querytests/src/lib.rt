@@ -1,25 +1,9 @@
-//! Tests of queries and of statements that change rows: their texts, and what they give over data that scripts set up.
+//! What no reply tells of queries and of statements that change rows, computed by the definitions alone.
 //!
-//! They stand above the readers, so that a statement is its text.
+//! `run` of `ebr_query` and the steps of `ebr_dml` give just what is defined, so this holds of them. All else that they do, and that their
+//! calls succeed with ample memory, the scripts of `cases/` show over the program.
 #![tactic(auto)]
 
-#[cfg(test)]
-mod catalogue;
-#[cfg(test)]
-mod changes;
-#[cfg(test)]
-mod keyed;
-#[cfg(test)]
-mod printing;
-#[cfg(test)]
-mod queries;
-#[cfg(test)]
-mod reading;
-#[cfg(test)]
-mod script;
-#[cfg(test)]
-mod statements;
-#[cfg(test)]
-mod steps;
-#[cfg(test)]
-mod transactions;
+mod definitions;
+
+pub use definitions::{locks_are_counted, rows_have_the_columns_of_their_table};

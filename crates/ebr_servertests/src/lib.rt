@@ -1,7 +1,7 @@
 //! Tests of `serve` over a host in memory, byte for byte.
 //!
-//! Scripts with their replies stand in the files that `ebr_cases` runs. Here is what they can't show: faults, histories, words, texts of
-//! many bytes, and bytes that a text file hides.
+//! Scripts with their replies stand in the files of `cases/`, which `tools/cases.py` runs over the program. Here is what they can't show:
+//! faults, histories, words, texts of many bytes, and bytes that a text file hides.
 #![tactic(auto)]
 
 #[cfg(test)]

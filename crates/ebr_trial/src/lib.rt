@@ -1,4 +1,4 @@
-//! Runs scripts through `serve` over a host in memory, for `ebr_cases` and `ebr_servertests`.
+//! Runs scripts through `serve` over a host in memory, for `ebr_servertests` and `ebr_threadtests`.
 //!
 //! What is used above: `served` hands back what a run of one script came to, and `prints` compares a script's replies; `rehearsed` hands
 //! back what a rehearsal came to, and `came_to` compares its replies and its report; `rehearsed_over`, `rehearsed_on` and `dumped` do so over a
@@ -17,5 +17,5 @@ pub use journals::{DUMP, bytes_of, disk_is, dumped, dumps, journal, rehearsed_on
 pub use rehearsals::{
     Stop, came_to, failing_sink, failing_source, file, rehearse_words, rehearsed, stops,
 };
-pub use runs::{order_of, ran, ran_in_order, ran_over, run_words, script_files};
+pub use runs::{ran, ran_in_order, ran_over, run_words, script_files};
 pub use trial::{Faults, MemOutcome, NO_FAULTS, TRY, ended, prints, release, served, words_of};

@@ -6,7 +6,7 @@ use crate::rehearsals::{file, rehearse_words};
 use crate::trial::{MemOutcome, release, words_of};
 use ebr_base::{Bytes, List, NoMemory};
 use ebr_outside::{Fail, Host, MemFile, MemHost, OpenGate};
-use ebr_server::{Ask, Entry, serve};
+use ebr_server::serve;
 use std::alloc::Global;
 use std::sync::Wait;
 use std::thread::Threads;
@@ -55,17 +55,6 @@ pub fn ran_over<R: Threads + Wait + Sync>(
     let mut files = script_files(alloc, scripts)?;
     files.push(journal(alloc, bytes, fail)?)?;
     Ok(ran(rt, alloc, words.as_slice(), files))
-}
-
-/// The numbers of the sessions of a history's asks, in order, without the asks by which sessions leave.
-pub fn order_of(alloc: Global, history: &[Entry]) -> Result<Vec<u32>, NoMemory> {
-    let mut order = Vec::new(alloc);
-    for entry in history {
-        if !matches!(entry.ask, Ask::Leave) {
-            order.push(entry.session.0)?;
-        }
-    }
-    Ok(order)
 }
 
 /// What came in time.

@@ -1,2 +1,0 @@
-pub mod OneRow
-mod Keyless

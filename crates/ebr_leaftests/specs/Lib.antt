@@ -1,4 +1,0 @@
-pub mod Sample
-pub mod OneRow
-pub mod Keyless
-pub mod TwoSessions
