@@ -3,7 +3,7 @@
 //! What is used above: the types, and the contracts of `PackageItems` and `Subprograms`, whose look-ups by name give what going
 //! through the list would. A tree is copied by its `Shared`.
 //!
-//! That these are made and copied with ample memory is tested alone (`ebr_parsetests`).
+//! That these are made and copied with ample memory is tested alone (the cases).
 #![tactic(auto)]
 
 mod definition;

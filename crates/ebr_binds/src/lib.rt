@@ -3,7 +3,7 @@
 //! A column wins over a variable. The crates above use `query`, `insert`, `update` and `delete`, which make exactly the
 //! statements that `ebr_run/specs/Binds.antt` defines, with what gives each bind its value, in the order of the binds.
 //!
-//! That calls succeed with ample memory is tested alone, by programs that run (`ebr_machinetests`).
+//! That calls succeed with ample memory is tested alone, by programs that run (the cases).
 #![tactic(auto)]
 
 mod copy;

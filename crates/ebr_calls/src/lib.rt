@@ -5,7 +5,7 @@
 //! block, `advance` runs it up to its next ask (`Asks`) or to what is done at its end, and `take` hands it an answer. What a
 //! block does is `run_valid` of `specs/Steps.antt`. `print_result` prints the lines that tell how a request ended.
 //!
-//! That calls succeed with ample memory is tested alone (`ebr_servertests`, `ebr_cases`).
+//! That calls succeed with ample memory is tested alone (`ebr_servertests`, and the cases).
 #![tactic(auto)]
 
 mod call;

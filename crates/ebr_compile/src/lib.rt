@@ -4,7 +4,7 @@
 //! for what an edition sees, and counts a step for it. What this code does is `RunCode` of `ebr_code`, and so, by the law of
 //! `ebr_laws`, what the unit does.
 //!
-//! Tests alone show that it succeeds where memory is ample (`ebr_parsetests`).
+//! Tests alone show that it succeeds where memory is ample (the cases).
 #![tactic(auto)]
 
 ghost use Rattle.std.specs.Prelude.{◌≡◌, ◌+◌, ◌≤◌, true, IfOk, OnOk};

@@ -2,7 +2,7 @@
 //! dropped.
 //!
 //! The crates above use `definition` (a tree exactly where all the tokens spell it), and the readers of types and
-//! editioning views at a cursor. That texts have their trees where memory is ample is tested in `ebr_parsetests`.
+//! editioning views at a cursor. That texts have their trees where memory is ample is tested by the cases.
 #![tactic(auto)]
 
 mod alter;

@@ -4,7 +4,7 @@
 //! row before its BEFORE triggers, and, changed as `written` of `specs/Tests.antt` has it, before its AFTER triggers. `CanStep`
 //! is what a step asks for, and what it leaves.
 //!
-//! That calls succeed with ample memory is tested alone (`ebr_querytests`).
+//! That calls succeed with ample memory is tested alone (the cases).
 #![tactic(auto)]
 
 mod columns;

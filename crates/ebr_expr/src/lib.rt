@@ -3,7 +3,7 @@
 //! The crates above use the contract of `eval`: the answer is `Eval` of `specs/Evaluation.antt`, a value or the first code
 //! that is raised, for the values of a row and of the binds. Operators and functions are those of `ebr_value`.
 //!
-//! Tests alone show that it succeeds where memory is ample (`ebr_parsetests`).
+//! Tests alone show that it succeeds where memory is ample (`ebr_parsetests`, and the cases).
 #![tactic(auto)]
 
 mod evaluate;

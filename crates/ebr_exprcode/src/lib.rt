@@ -4,7 +4,7 @@
 //! `ebr_code/specs/Codes.antt` defines at the end of a list; what is known around the code is an `Around` of `ebr_places`.
 //! A name that stands for nothing that belongs there has the code `Broken`. Want of memory alone is refused.
 //!
-//! That calls succeed with ample memory is tested alone, by programs that run (`ebr_machinetests`).
+//! That calls succeed with ample memory is tested alone, by programs that run (the cases).
 #![tactic(auto)]
 
 mod calls;

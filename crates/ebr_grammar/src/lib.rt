@@ -2,7 +2,7 @@
 //! look-ahead, and the two are proved to agree for every grammar that passes a test that computes.
 //!
 //! The crates above use the cursor `Tokens`, whose contract says what each reading gives, and the laws of `proofs/` for
-//! their own grammars. That its calls succeed where memory is ample is only tested, in `ebr_parsetests`.
+//! their own grammars. That its calls succeed where memory is ample is only tested, by the cases.
 #![tactic(auto)]
 
 mod kind;

@@ -12,7 +12,7 @@
 //! - `IsOut`: an ask is out. `advance` gives it where it says `Ask`, and `take` asks for it.
 //!
 //! All of it is proved, for each unit, book, list of arguments, number of steps and list of answers, answers of the wrong kind
-//! too. Only want of memory is free: that runs succeed with ample memory is tested alone (`ebr_machinetests`), and how long an
+//! too. Only want of memory is free: that runs succeed with ample memory is tested alone (the cases), and how long an
 //! instruction takes is measured alone. Nothing is recursive in the run: a call takes a task, unless what it calls ends without
 //! asking a book, and a level of each of the four vectors that hold all variables, cursors, handled faults and operands. A loop
 //! takes tasks where a turn of it asks a book.

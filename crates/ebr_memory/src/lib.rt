@@ -6,7 +6,7 @@
 //! of a run's state. The rows of a query stay in the memory of its answer: a cursor holds them and a place, and what it fetches is
 //! a `SharedRow`.
 //!
-//! That calls succeed with ample memory is tested alone, by programs that run (`ebr_machinetests`).
+//! That calls succeed with ample memory is tested alone, by programs that run (the cases).
 #![tactic(auto)]
 
 mod caught;

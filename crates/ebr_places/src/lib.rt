@@ -3,7 +3,7 @@
 //! The crates above use `Around`, which contracts see as the `Env` of `ebr_run/specs/Scope.antt`, and the look-ups `meant`,
 //! `plain`, `called`, `applied` and `raised`, which are the words of these names there.
 //!
-//! That calls succeed with ample memory is tested alone, by programs that run (`ebr_machinetests`).
+//! That calls succeed with ample memory is tested alone, by programs that run (the cases).
 #![tactic(auto)]
 
 mod around;

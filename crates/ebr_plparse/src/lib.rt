@@ -2,7 +2,7 @@
 //! them.
 //!
 //! The crates above use `unit`, `created` and `block`: a tree exactly where all the tokens spell it. That texts have
-//! their trees where memory is ample is tested in `ebr_parsetests`.
+//! their trees where memory is ample is tested by the cases.
 #![tactic(auto)]
 
 mod heads;

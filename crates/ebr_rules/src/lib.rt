@@ -4,7 +4,7 @@
 //! `insert`, `update`, `delete`, `into` and `target` go through the places of their part in reading order, and keep the least
 //! number of a rule that one of them breaks: `noted` of `specs/Noted.antt`.
 //!
-//! That calls succeed with ample memory is tested alone (`ebr_parsetests`).
+//! That calls succeed with ample memory is tested alone (the cases).
 #![tactic(auto)]
 
 mod expressions;

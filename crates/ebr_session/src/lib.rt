@@ -6,7 +6,7 @@
 //! `SessionRun` of `specs/Sessions.antt`: the asks and whether the session has ended are those of the run of the script with the
 //! answers that the transcript has, and so is what was printed, or a first part of it where the session waits to go on or has quit.
 //!
-//! That calls succeed with ample memory is tested alone (`ebr_servertests`, `ebr_cases`).
+//! That calls succeed with ample memory is tested alone (`ebr_servertests`, and the cases).
 #![tactic(auto)]
 
 mod after;

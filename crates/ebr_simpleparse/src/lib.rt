@@ -1,7 +1,7 @@
 //! Reads declarations, and the statements of PL/SQL that hold no others, from tokens.
 //!
 //! The crate above uses its readers at a cursor: what each reads is what the grammar of `specs/` gives there. That texts
-//! have their trees where memory is ample is tested in `ebr_parsetests`.
+//! have their trees where memory is ample is tested by the cases.
 #![tactic(auto)]
 
 mod bounds;

@@ -6,7 +6,7 @@
 //! them by name, `column_meant` tells which column a name is, `has_aggregate` whether a list has an aggregate, and `typed` the
 //! type of an expression.
 //!
-//! That calls succeed with ample memory is tested alone (`ebr_parsetests`).
+//! That calls succeed with ample memory is tested alone (`ebr_parsetests`, and the cases).
 #![tactic(auto)]
 
 mod aggregate;

@@ -1,8 +1,8 @@
 //! Reads SQL, transaction statements and the choice of an edition from tokens.
 //!
 //! The crates above use `sql`, `transaction` and `session` (a tree exactly where all the tokens spell it), and the
-//! readers at a cursor for what stands in PL/SQL. That texts have their trees where memory is ample is tested in
-//! `ebr_parsetests`.
+//! readers at a cursor for what stands in PL/SQL. That texts have their trees where memory is ample is tested by
+//! the cases.
 #![tactic(auto)]
 
 mod change;

@@ -4,7 +4,7 @@
 //! `ebr_code/specs/Codes.antt` defines at the end of a list. Declarations make their names known in the `Around` of
 //! `ebr_places`; blocks and statements leave it as it was. Want of memory alone is refused.
 //!
-//! That calls succeed with ample memory is tested alone, by programs that run (`ebr_machinetests`).
+//! That calls succeed with ample memory is tested alone, by programs that run (the cases).
 #![tactic(auto)]
 
 mod choices;
